@@ -1,0 +1,72 @@
+-- The turns of the two loops: a run of pages one page after the other, and a run of words one word after the other. For every width.
+-- Assumes nothing.
+use mathlib.Core.Bool.{Bool}
+use mathlib.Core.List.{List}
+use mathlib.Core.Path.{_≡_, sym, ap, _∙_, subst}
+use Prim.Native.Nat.{ℕ, zero, _+_, _-_, _*_, _/_, _^_, _≤_, _<_, min, max}
+use native.Mathlib.Omega.{arith}
+use lib.Arith.{digits-div}
+use lib.ListN.{length, getD, set}
+use Rattle.laws.specs.Bools.{or-swap}
+use Rattle.laws.specs.Bools.{digit}
+use Rattle.laws.specs.Ranges.{between, between-false, between-same, between-join}
+use Rattle.bitmap.specs.Pages.{written, one, words, whole, edges}
+use Rattle.bitmap.proofs.Map.{none, both, alike, length-written, filled, written-lt}
+use Rattle.bitmap.proofs.Runs.{between-more, whole-and-edges, whole-bytes, edges-all, edges-two}
+
+module _ (w : ℕ) (s : Bool) (m : List ℕ) where
+  -- none, one more, and the end, which is past `to` only where `from` is
+  pub run-none : (a : ℕ) → m ≡ written w (between a a) s m
+  run-none a = none w (between a a) s m (λ j k l d. between-false a a (j * w + k) (λ u v. omega arith))
+
+  pub run-step : (a p : ℕ) (l l′ : List ℕ) → a ≤ p → l ≡ written w (between a p) s m → l′ ≡ written w (one p) s l → l′ ≡ written w (between a (p + 1)) s m
+  run-step a p l l′ h e f = f ∙ ap (written w (one p) s) e ∙ both w (one p) (between a p) (between a (p + 1)) s m (λ q. between-more a p q h)
+
+  pub run-end : (a b p : ℕ) → b ≤ p → p ≤ max a b → written w (between a p) s m ≡ written w (between a b) s m
+  run-end a b p h u =
+      alike w (between a p) (between a b) s m
+      (λ j k l d. between-same a p (j * w + k) a b (j * w + k) (λ x y. (x, omega arith)) (λ x y. (x, omega arith)))
+
+  pub words-none : (a : ℕ) → m ≡ written w (words w a a) s m
+  words-none a = none w (words w a a) s m (λ j k l d. between-false a a ((j * w + k) / w) (λ u v. omega arith))
+
+  pub words-step : (a i : ℕ) (l : List ℕ) → a ≤ i → i < length m → getD m i 0 < 2 ^ w → l ≡ written w (words w a i) s m
+      → set l i (digit s * (2 ^ w - 1)) ≡ written w (words w a (i + 1)) s m
+  words-step a i l h d u e =
+      let P = words w a i in
+      ap (λ (t : List ℕ). set t i (digit s * (2 ^ w - 1))) e
+      ∙ filled w s (written w P s m) i (subst (λ (n : ℕ). i < n) (sym (length-written w P s m)) d) (written-lt w P s m i d u)
+      ∙ both w (words w i (i + 1)) P (words w a (i + 1)) s m (λ q. between-join a i (i + 1) (q / w) h (omega arith))
+
+  -- the words stop at the map's end
+  pub words-end : (a b i : ℕ) → min b (length m) ≤ i → i ≤ max a (min b (length m)) → written w (words w a i) s m ≡ written w (words w a b) s m
+  words-end a b i h u =
+      alike w (words w a i) (words w a b) s m
+      (λ j k l d.
+      let e = digits-div j d in
+      between-same a i ((j * w + k) / w) a b ((j * w + k) / w) (λ x y. (x, omega arith)) (λ x y. (x, omega arith)))
+
+-- ---- a run as its edges and its whole words: either order gives the same map
+
+module _ (w a b : ℕ) (s : Bool) (m : List ℕ) (pos : zero < w) where
+  pub edges-then-whole : written w (whole w a b) s (written w (edges w a b) s m) ≡ written w (between a b) s m
+  edges-then-whole = both w (whole w a b) (edges w a b) (between a b) s m (λ q. whole-and-edges w a b q pos)
+
+  pub whole-then-edges : written w (edges w a b) s (written w (whole w a b) s m) ≡ written w (between a b) s m
+  whole-then-edges =
+      both w (edges w a b) (whole w a b) (between a b) s m (λ q. whole-and-edges w a b q pos ∙ or-swap (whole w a b q) (edges w a b q))
+
+  pub either-order : written w (whole w a b) s (written w (edges w a b) s m) ≡ written w (edges w a b) s (written w (whole w a b) s m)
+  either-order = edges-then-whole ∙ sym whole-then-edges
+
+-- ---- in words of 8: what the code calls
+module _ (a b : ℕ) (s : Bool) (m : List ℕ) where
+  pub whole-written : written 8 (words 8 ((a + 7) / 8) (b / 8)) s m ≡ written 8 (whole 8 a b) s m
+  whole-written = alike 8 (words 8 ((a + 7) / 8) (b / 8)) (whole 8 a b) s m (λ j k l d. whole-bytes a b (j * 8 + k))
+
+  pub edges-all-written : b / 8 ≤ (a + 7) / 8 → written 8 (between a b) s m ≡ written 8 (edges 8 a b) s m
+  edges-all-written h = alike 8 (between a b) (edges 8 a b) s m (λ j k l d. edges-all a b (j * 8 + k) h)
+
+  pub edges-two-written : (a + 7) / 8 < b / 8
+      → written 8 (between (b / 8 * 8) b) s (written 8 (between a ((a + 7) / 8 * 8)) s m) ≡ written 8 (edges 8 a b) s m
+  edges-two-written h = both 8 (between (b / 8 * 8) b) (between a ((a + 7) / 8 * 8)) (edges 8 a b) s m (λ q. edges-two a b q h)

@@ -1,0 +1,143 @@
+// Bitmaps lent by the caller: GuestMemoryBitmap, a bit for each page in bytes, and the registrar's Bitmap, a bit for
+// each chunk in 64-bit words.
+ghost use mathlib.Core.Path.{_≡_};
+ghost use Prim.Native.Nat.{_+_, _*_, _/_, min};
+ghost use Rattle.laws.specs.Bools.{digit};
+ghost use Rattle.laws.specs.Ranges.{between};
+ghost use Rattle.bitmap.specs.Pages.{bitAt, written, one, words, whole, edges, bit, tally};
+
+// The byte whose pages all have the state.
+fn full(state: bool) -> u8
+    ensures { λ r. ⌜ r ≡ digit state * 255 ⌝ }
+{
+    if state { 255 } else { 0 }
+}
+
+fn least(a: u64, b: u64) -> u64
+    ensures { λ r. ⌜ r ≡ min a b ⌝ }
+{
+    if a < b { a } else { b }
+}
+
+// The bytes from `from` to before `to`, each stored whole; nothing past the end.
+pub fn fill_bytes(map: &mut [u8], from: u64, to: u64, state: bool)
+    ensures { λ _. ⌜ now (map .exit) ≡ written 8 (words 8 from to) state (now (map .entry)) ⌝ }
+{
+    let v = full(state);
+    let stop = least(to, map.len() as u64) as usize;
+    let mut i = from as usize;
+    while i < stop {
+        map[i] = v;
+        i += 1;
+    }
+}
+
+// One page written; nothing past the end.
+pub fn set_page(map: &mut [u8], gpn: u64, state: bool)
+    ensures { λ _. ⌜ now (map .exit) ≡ written 8 (one gpn) state (now (map .entry)) ⌝ }
+{
+    let i = (gpn / 8) as usize;
+    if i < map.len() {
+        let m = 1u8 << (gpn % 8);
+        let x = map[i];
+        if state {
+            map[i] = x | m;
+        } else {
+            map[i] = (x | m) ^ m;
+        }
+    }
+}
+
+// The pages from `from` to before `to`, one after the other.
+fn set_pages(map: &mut [u8], from: u64, to: u64, state: bool)
+    ensures { λ _. ⌜ now (map .exit) ≡ written 8 (between from to) state (now (map .entry)) ⌝ }
+{
+    let mut gpn = from;
+    while gpn < to {
+        set_page(map, gpn, state);
+        gpn += 1;
+    }
+}
+
+// The first byte whose pages begin at `gpn` or after it.
+fn byte_up(gpn: u64) -> u64
+    ensures { λ r. ⌜ r ≡ (gpn + 7) / 8 ⌝ }
+{
+    if gpn % 8 == 0 { gpn / 8 } else { gpn / 8 + 1 }
+}
+
+// Of the pages from `from` to before `to`, those whose byte lies in that run with all its pages.
+pub fn update_whole(map: &mut [u8], from: u64, to: u64, state: bool)
+    ensures { λ _. ⌜ now (map .exit) ≡ written 8 (whole 8 from to) state (now (map .entry)) ⌝ }
+{
+    fill_bytes(map, byte_up(from), to / 8, state);
+}
+
+// Of the same pages, the others: at most seven at each end.
+pub fn update_edges(map: &mut [u8], from: u64, to: u64, state: bool)
+    ensures { λ _. ⌜ now (map .exit) ≡ written 8 (edges 8 from to) state (now (map .entry)) ⌝ }
+{
+    let a = byte_up(from);
+    let b = to / 8;
+    if a < b {
+        set_pages(map, from, a * 8, state);
+        set_pages(map, b * 8, to, state);
+    } else {
+        set_pages(map, from, to, state);
+    }
+}
+
+// The pages from `from` to before `to`; nothing past the end.
+pub fn update(map: &mut [u8], from: u64, to: u64, state: bool)
+    ensures { λ _. ⌜ now (map .exit) ≡ written 8 (between from to) state (now (map .entry)) ⌝ }
+{
+    update_whole(map, from, to, state);
+    update_edges(map, from, to, state);
+}
+
+// The state of a page: not set past the end.
+pub fn page_state(map: &[u8], gpn: u64) -> bool
+    ensures { λ r. ⌜ r ≡ bitAt 8 (now (map .entry)) gpn ⌝ }
+{
+    let i = (gpn / 8) as usize;
+    if i < map.len() {
+        (map[i] >> (gpn % 8)) % 2 == 1
+    } else {
+        false
+    }
+}
+
+// How many pages of a byte are set.
+pub fn count_byte(x: u8) -> u32
+    ensures { λ r. ⌜ r ≡ tally 8 (bit x) ⌝ }
+{
+    u8::count_ones(x)
+}
+
+// The state of a chunk: not set past the end.
+pub fn get(map: &[u64], chunk: u64) -> bool
+    ensures { λ r. ⌜ r ≡ bitAt 64 (now (map .entry)) chunk ⌝ }
+{
+    let i = (chunk / 64) as usize;
+    if i < map.len() {
+        (map[i] >> (chunk % 64)) % 2 == 1
+    } else {
+        false
+    }
+}
+
+// One chunk written; nothing past the end.
+pub fn set(map: &mut [u64], chunk: u64, value: bool)
+    ensures { λ _. ⌜ now (map .exit) ≡ written 64 (one chunk) value (now (map .entry)) ⌝ }
+{
+    let i = (chunk / 64) as usize;
+    if i < map.len() {
+        let m = 1u64 << (chunk % 64);
+        let x = map[i];
+        if value {
+            map[i] = x | m;
+        } else {
+            map[i] = (x | m) ^ m;
+        }
+    }
+}

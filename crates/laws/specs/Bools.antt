@@ -1,0 +1,74 @@
+-- Tests and what they tell. Assumes nothing.
+use mathlib.Core.Bool.{Bool, true, false, not, _&&_, _||_}
+use mathlib.Core.Logic.{_⊎_, inl, inr}
+use mathlib.Core.Path.{_≡_, refl, sym}
+use Prim.Native.Nat.{ℕ, _≤_, _<_}
+use native.Mathlib.Decide.{decLt}
+use native.Mathlib.Omega.{arith}
+
+-- a test as a digit
+abbrev pub digit : Bool → ℕ
+digit false = 0
+digit true = 1
+
+pub digit-le : (b : Bool) → digit b ≤ 1
+digit-le true = omega arith
+digit-le false = omega arith
+
+pub false≢true : {X : Type 0} → _≡_ {A = Bool} false true → X
+false≢true e = let z : _≡_ {A = ℕ} 0 1 = cc in absurd (omega arith)
+
+-- two tests that tell the same
+pub same : (a b : Bool) → (a ≡ true → b ≡ true) → (b ≡ true → a ≡ true) → a ≡ b
+same true b f g = sym (f refl)
+same false true f g = g refl
+same false false f g = refl
+
+-- and: what it tells, and a chain of tests that goes on or ends
+pub and-left : (a b : Bool) → (a && b) ≡ true → a ≡ true
+and-left true b e = refl
+and-left false b e = e
+
+pub and-right : (a b : Bool) → (a && b) ≡ true → b ≡ true
+and-right true b e = e
+and-right false b e = false≢true e
+
+pub and-true : (a b : Bool) → a ≡ true → b ≡ true → (a && b) ≡ true
+and-true true b p q = q
+and-true false b p q = p
+
+pub and-ends : (a b : Bool) → a ≡ false → false ≡ (a && b)
+and-ends a b e = rw e
+
+pub and-goes : (a b x : Bool) → a ≡ true → x ≡ b → x ≡ (a && b)
+and-goes a b x e q = rw e q
+
+-- or
+pub or-true : (a b : Bool) → (a || b) ≡ true → (a ≡ true) ⊎ (b ≡ true)
+or-true true b e = inl refl
+or-true false b e = inr e
+
+pub or-left : (a b : Bool) → a ≡ true → (a || b) ≡ true
+or-left true b e = refl
+or-left false b e = false≢true e
+
+pub or-right : (a b : Bool) → b ≡ true → (a || b) ≡ true
+or-right true b e = refl
+or-right false b e = e
+
+pub or-swap : (a b : Bool) → (a || b) ≡ (b || a)
+or-swap true true = refl
+or-swap true false = refl
+or-swap false true = refl
+or-swap false false = refl
+
+-- not
+pub not-of : (h : Bool) → (h ≡ true → ⊥) → not h ≡ true
+not-of true f = absurd (f refl)
+not-of false f = refl
+
+pub not-both : (h : Bool) → not h ≡ true → h ≡ true → ⊥
+not-both h e d = let z : _≡_ {A = ℕ} 0 1 = cc in omega arith
+
+pub lt-or-le : (a b : ℕ) → (a < b) ⊎ (b ≤ a)
+lt-or-le a b = elim (decLt a b) [ yes d ↦ inl d | no d ↦ inr (omega arith) ]

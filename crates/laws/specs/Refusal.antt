@@ -1,0 +1,30 @@
+-- A chain of refusals (01, "Order"): the number of the first test that fails, or 0. Assumes nothing.
+use mathlib.Core.Bool.{Bool, true, false, cond}
+use mathlib.Core.Path.{_≡_, refl}
+use Prim.Native.Nat.{ℕ, suc}
+use native.Mathlib.Omega.{arith}
+use lib.Dec.{eqb}
+use borrow.Author.Tests.{eq-eqb, ne-eqb}
+
+-- the number where the test fails, else the rest
+abbrev pub unless : Bool → ℕ → ℕ → ℕ
+unless t code rest = cond t rest code
+
+-- the chain ends here, it goes on, and what is known of one that refuses nothing
+pub refuses : (t : Bool) (code rest : ℕ) → t ≡ false → code ≡ unless t code rest
+refuses t code rest e = rw e
+
+pub passes : (t : Bool) (code rest x : ℕ) → t ≡ true → x ≡ rest → x ≡ unless t code rest
+passes t code rest x e q = rw e q
+
+pub passed : (t : Bool) (k rest : ℕ) → unless t (suc k) rest ≡ 0 → (t ≡ true) × (rest ≡ 0)
+passed true k rest h = (refl, h)
+passed false k rest h = absurd (omega arith)
+
+-- a call is refused by the number n that its chain x gives, or answered where that is 0
+module _ {A : Type 0} (n x : ℕ) (e : n ≡ x) where
+  pub refused : (a : A) (f : ℕ → A) → (n ≡ 0 → ⊥) → f n ≡ cond (eqb x 0) a (f x)
+  refused a f h = rw (← e, ne-eqb n 0 h)
+
+  pub answered : (a b : A) (f : ℕ → A) → n ≡ 0 → b ≡ a → b ≡ cond (eqb x 0) a (f x)
+  answered a b f h q = rw (← e, eq-eqb n 0 h) q
