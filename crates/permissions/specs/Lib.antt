@@ -1,0 +1,4 @@
+pub mod Flags
+pub mod Defaults
+pub mod Rmpadjust
+pub mod HvError
