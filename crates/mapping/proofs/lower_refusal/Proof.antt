@@ -1,0 +1,39 @@
+-- `mapping::lower_refusal` meets its contract. Assumes nothing.
+use borrow.Author.Needs.{needs}
+use mathlib.Core.Path.{sym, _∙_}
+use borrow.Author.Tests.{not-true, not-false}
+use Rattle.mapping.proofs.lower_refusal.Statement.{statement}
+use Rattle.mapping.proofs.lower_refusal.Tie as tie
+
+returns : tie.Need-returns
+returns c = rw (not-true (c .before .before .args .fits) (c .if1 .taken))
+
+is-vtl-requires : tie.Need-is-vtl-requires
+is-vtl-requires c κs = search needs
+
+returns-2 : tie.Need-returns-2
+returns-2 c = rw (not-false (c .before .before .before .before .args .fits) (c .before .before .if1 .left), sym (c .before .is-vtl .ensures) ∙ not-true (c .before .is-vtl .result) (c .if2 .taken))
+
+is-in-guest-memory-requires : tie.Need-is-in-guest-memory-requires
+is-in-guest-memory-requires c κs = search needs
+
+returns-3 : tie.Need-returns-3
+returns-3 c =
+    rw (
+      not-false (c .before .before .before .before .before .before .args .fits) (c .before .before .before .before .if1 .left),
+      sym (c .before .before .before .is-vtl .ensures) ∙ not-false (c .before .before .before .is-vtl .result) (c .before .before .if2 .left),
+      sym (c .before .is-in-guest-memory .ensures) ∙ c .if3 .taken,
+    )
+
+returns-4 : tie.Need-returns-4
+returns-4 c =
+    rw (
+      not-false (c .before .before .before .before .before .before .args .fits) (c .before .before .before .before .if1 .left),
+      sym (c .before .before .before .is-vtl .ensures) ∙ not-false (c .before .before .before .is-vtl .result) (c .before .before .if2 .left),
+      sym (c .before .is-in-guest-memory .ensures) ∙ c .if3 .left,
+    )
+
+pub lower-refusal-spec : {M : Type 1} → statement M
+lower-refusal-spec =
+    tie.close
+    (tie.spec returns is-vtl-requires returns-2 is-in-guest-memory-requires returns-3 returns-4)

@@ -1,0 +1,50 @@
+-- The permission queries (01, "From the input" 4, 7 and 8, "From the state" 24).
+use mathlib.Core.Bool.{Bool, false, cond}
+use mathlib.Core.List.{List}
+use Prim.Native.Nat.{ℕ}
+use lib.Dec.{eqb}
+use Rattle.laws.specs.Refusal.{unless}
+use Rattle.layout.specs.declared.MemoryRangeWithNode.{MemoryRangeWithNode}
+use Rattle.layout.specs.Layout.{isRam}
+use Rattle.permissions.specs.declared.GuestVtl.{GuestVtl}
+use Rattle.permissions.specs.declared.GuestVtl.the-variants.{Vtl0, Vtl1}
+use Rattle.permissions.specs.declared.HvMapGpaFlags.{HvMapGpaFlags}
+use Rattle.permissions.specs.Flags.{fitVtl, vtlOf, bitsOf, allFlags}
+use Rattle.permissions.specs.HvError.{codeOf}
+use Rattle.mapping.specs.declared.PermissionsAnswer.{PermissionsAnswer}
+use Rattle.mapping.specs.declared.PermissionsAnswer.the-variants.{Flags, Refused}
+use Rattle.mapping.specs.Maps.{Permissions, Maps, mapsFit, inMaps, flagsAt}
+
+abbrev pub answer : ℕ → HvMapGpaFlags → PermissionsAnswer
+answer n f = cond (eqb n 0) (Flags f) (Refused n)
+
+-- of the maps: 4, 24, 7, else what they hold
+abbrev pub accessRefusal : Bool → Bool → Bool → ℕ
+accessRefusal fits tracked inside = unless fits 4 (unless tracked 24 (unless inside 7 0))
+
+unfoldable pub accessPermission : List MemoryRangeWithNode → Maps → Bool → ℕ → PermissionsAnswer
+accessPermission es m tracked p = answer (accessRefusal (mapsFit es tracked m) tracked (inMaps es p)) (flagsAt (m .permissions) p)
+
+-- of a VTL: 4, 8, 7 where the page is not RAM; else what the maps hold for VTL0 if tracked, and all four elsewhere
+abbrev pub lowerRefusal : Bool → ℕ → Bool → ℕ
+lowerRefusal fits vtl ram = unless fits 4 (unless (fitVtl vtl) 8 (unless ram 7 0))
+
+abbrev pub isTracked : GuestVtl → Bool → Bool
+isTracked Vtl0 tracked = tracked
+isTracked Vtl1 tracked = false
+
+abbrev pub lowerFlags : Permissions → Bool → GuestVtl → ℕ → HvMapGpaFlags
+lowerFlags m tracked vtl p = cond (isTracked vtl tracked) (flagsAt m p) allFlags
+
+unfoldable pub lowerVtlPermissions : List MemoryRangeWithNode → Maps → Bool → ℕ → ℕ → PermissionsAnswer
+lowerVtlPermissions es m tracked vtl p =
+    answer (lowerRefusal (mapsFit es tracked m) vtl (isRam es p)) (lowerFlags (m .permissions) tracked (vtlOf vtl) p)
+
+-- the number of 01 for an answer, 0 where nothing is refused; and its value, the flags or the code that a refusal carries
+abbrev pub permissionsNumber : PermissionsAnswer → ℕ
+permissionsNumber (Flags f) = 0
+permissionsNumber (Refused n) = n
+
+abbrev pub permissionsValue : PermissionsAnswer → ℕ
+permissionsValue (Flags f) = bitsOf f
+permissionsValue (Refused n) = codeOf n

@@ -1,0 +1,306 @@
+// GuestMemoryMapping over lent maps: the private and shared marks and the permission maps (empty where permissions are not
+// tracked), as built from the layout, as updated, and as queried.
+ghost use mathlib.Core.Bool.{true, _&&_};
+ghost use mathlib.Core.Path.{_≡_};
+ghost use Prim.Native.Nat.{_+_, _/_};
+ghost use lib.ListN.{length, replicate};
+ghost use Rattle.laws.specs.Ranges.{between};
+ghost use Rattle.bitmap.specs.Pages.{written};
+ghost use Rattle.layout.specs.Layout.{entriesOf, isRam};
+ghost use Rattle.mapping.specs.Maps.{perms, maps, fresh, built, permissionLen, marksFit, permissionsFit, flagsAt, permitted};
+ghost use Rattle.mapping.specs.Query.{accessRefusal, accessPermission, lowerRefusal, lowerFlags, lowerVtlPermissions, permissionsNumber, permissionsValue};
+use permissions::GuestVtl;
+use permissions::HvMapGpaFlags;
+
+// What a permission query gives, or the number that refuses it.
+pub enum PermissionsAnswer {
+    Flags(HvMapGpaFlags),
+    Refused(u64),
+}
+
+// Whether marks of these lengths fit a layout whose maps have `len` bytes.
+pub fn marks_fit(len: u64, private: u64, shared: u64) -> bool
+    ensures { λ r. ⌜ r ≡ marksFit len private shared ⌝ }
+{
+    if private != len {
+        return false;
+    }
+    shared == len
+}
+
+// The length of a permission map.
+pub fn permission_len(len: u64, tracked: bool) -> u64
+    ensures { λ r. ⌜ r ≡ permissionLen len tracked ⌝ }
+{
+    if tracked { len } else { 0 }
+}
+
+// Whether permission maps of these lengths have `len` bytes each.
+pub fn permissions_fit(len: u64, read: u64, write: u64, kernel: u64, user: u64) -> bool
+    ensures { λ r. ⌜ r ≡ permissionsFit len read write kernel user ⌝ }
+{
+    if read != len {
+        return false;
+    }
+    if write != len {
+        return false;
+    }
+    if kernel != len {
+        return false;
+    }
+    user == len
+}
+
+// Whether six maps of these lengths fit.
+pub fn maps_fit(
+    len: u64,
+    tracked: bool,
+    private: u64,
+    shared: u64,
+    read: u64,
+    write: u64,
+    kernel: u64,
+    user: u64,
+) -> bool
+    ensures { λ r. ⌜ r ≡ (marksFit len private shared && permissionsFit (permissionLen len tracked) read write kernel user) ⌝ }
+{
+    if !marks_fit(len, private, shared) {
+        return false;
+    }
+    permissions_fit(permission_len(len, tracked), read, write, kernel, user)
+}
+
+// Every page of the map not set.
+fn clear(map: &mut [u8])
+    ensures { λ _. ⌜ now (map .exit) ≡ replicate (length (now (map .entry))) 0 ⌝ }
+{
+    let len = map.len() as u64;
+    bitmap::fill_bytes(map, 0, len, false);
+}
+
+// The first page that begins at `address` or after it.
+fn page_up(address: u64) -> u64
+    ensures { λ r. ⌜ r ≡ (address + 4095) / 4096 ⌝ }
+{
+    if address % 4096 == 0 {
+        address / 4096
+    } else {
+        address / 4096 + 1
+    }
+}
+
+// Every RAM page set.
+fn set_ram(map: &mut [u8], ram: &[u64])
+    ensures { λ _. ⌜ now (map .exit) ≡ written 8 (isRam (entriesOf (now (ram .entry)))) true (now (map .entry)) ⌝ }
+{
+    let n = layout::entry_count(ram);
+    let mut i: u64 = 0;
+    while i < n {
+        let e = layout::entry_at(ram, i);
+        bitmap::update(map, page_up(e.start), page_up(e.end), true);
+        i += 1;
+    }
+}
+
+// A map as built: RAM pages in the state, no other bit, whatever the map held.
+fn init(map: &mut [u8], ram: &[u64], state: bool)
+    ensures { λ _. ⌜ now (map .exit) ≡ fresh (entriesOf (now (ram .entry))) state (length (now (map .entry))) ⌝ }
+{
+    clear(map);
+    if state {
+        set_ram(map, ram);
+    }
+}
+
+// All maps as built.
+pub fn build(
+    private: &mut [u8],
+    shared: &mut [u8],
+    read: &mut [u8],
+    write: &mut [u8],
+    kernel: &mut [u8],
+    user: &mut [u8],
+    ram: &[u64],
+)
+    ensures { λ _. ⌜ maps (now (private .exit)) (now (shared .exit)) (now (read .exit)) (now (write .exit)) (now (kernel .exit)) (now (user .exit)) ≡ built (entriesOf (now (ram .entry))) (maps (now (private .entry)) (now (shared .entry)) (now (read .entry)) (now (write .entry)) (now (kernel .entry)) (now (user .entry))) ⌝ }
+{
+    init(private, ram, true);
+    init(shared, ram, false);
+    init(read, ram, true);
+    init(write, ram, true);
+    init(kernel, ram, true);
+    init(user, ram, true);
+}
+
+// The permissions of the pages from `from` to before `to`.
+pub fn update_permission_bitmaps(
+    read: &mut [u8],
+    write: &mut [u8],
+    kernel: &mut [u8],
+    user: &mut [u8],
+    from: u64,
+    to: u64,
+    flags: HvMapGpaFlags,
+)
+    ensures { λ _. ⌜ perms (now (read .exit)) (now (write .exit)) (now (kernel .exit)) (now (user .exit)) ≡ permitted from to flags (perms (now (read .entry)) (now (write .entry)) (now (kernel .entry)) (now (user .entry))) ⌝ }
+{
+    bitmap::update(read, from, to, flags.readable);
+    bitmap::update(write, from, to, flags.writable);
+    bitmap::update(kernel, from, to, flags.kernel_executable);
+    bitmap::update(user, from, to, flags.user_executable);
+}
+
+// What the permission maps hold of a page.
+pub fn flags_at(read: &[u8], write: &[u8], kernel: &[u8], user: &[u8], gpn: u64) -> HvMapGpaFlags
+    ensures { λ r. ⌜ r ≡ flagsAt (perms (now (read .entry)) (now (write .entry)) (now (kernel .entry)) (now (user .entry))) gpn ⌝ }
+{
+    HvMapGpaFlags {
+        readable: bitmap::page_state(read, gpn),
+        writable: bitmap::page_state(write, gpn),
+        kernel_executable: bitmap::page_state(kernel, gpn),
+        user_executable: bitmap::page_state(user, gpn),
+    }
+}
+
+fn access_refusal(fits: bool, tracked: bool, inside: bool) -> u64
+    ensures { λ r. ⌜ r ≡ accessRefusal fits tracked inside ⌝ }
+{
+    if !fits {
+        return 4;
+    }
+    if !tracked {
+        return 24;
+    }
+    if inside { 0 } else { 7 }
+}
+
+// The permissions of a page as the maps have them.
+pub fn query_access_permission(
+    private: &[u8],
+    shared: &[u8],
+    read: &[u8],
+    write: &[u8],
+    kernel: &[u8],
+    user: &[u8],
+    ram: &[u64],
+    tracked: bool,
+    gpn: u64,
+) -> PermissionsAnswer
+    ensures { λ r. ⌜ r ≡ accessPermission (entriesOf (now (ram .entry))) (maps (now (private .entry)) (now (shared .entry)) (now (read .entry)) (now (write .entry)) (now (kernel .entry)) (now (user .entry))) tracked gpn ⌝ }
+{
+    let len = layout::map_len(ram);
+    let n = access_refusal(
+        maps_fit(
+            len,
+            tracked,
+            private.len() as u64,
+            shared.len() as u64,
+            read.len() as u64,
+            write.len() as u64,
+            kernel.len() as u64,
+            user.len() as u64,
+        ),
+        tracked,
+        gpn / 8 < len,
+    );
+    if n != 0 {
+        return PermissionsAnswer::Refused(n);
+    }
+    PermissionsAnswer::Flags(flags_at(read, write, kernel, user, gpn))
+}
+
+fn lower_refusal(ram: &[u64], fits: bool, vtl: u64, gpn: u64) -> u64
+    ensures { λ r. ⌜ r ≡ lowerRefusal fits vtl (isRam (entriesOf (now (ram .entry))) gpn) ⌝ }
+{
+    if !fits {
+        return 4;
+    }
+    if !permissions::is_vtl(vtl) {
+        return 8;
+    }
+    if layout::is_in_guest_memory(ram, gpn) {
+        0
+    } else {
+        7
+    }
+}
+
+// The permissions of a VTL: only VTL0's are tracked.
+pub fn lower_flags(
+    read: &[u8],
+    write: &[u8],
+    kernel: &[u8],
+    user: &[u8],
+    tracked: bool,
+    vtl: GuestVtl,
+    gpn: u64,
+) -> HvMapGpaFlags
+    ensures { λ r. ⌜ r ≡ lowerFlags (perms (now (read .entry)) (now (write .entry)) (now (kernel .entry)) (now (user .entry))) tracked vtl gpn ⌝ }
+{
+    if !tracked {
+        return HvMapGpaFlags::all();
+    }
+    match vtl {
+        GuestVtl::Vtl0 => flags_at(read, write, kernel, user, gpn),
+        GuestVtl::Vtl1 => HvMapGpaFlags::all(),
+    }
+}
+
+// The permissions of a page as a VTL has them.
+pub fn query_lower_vtl_permissions(
+    private: &[u8],
+    shared: &[u8],
+    read: &[u8],
+    write: &[u8],
+    kernel: &[u8],
+    user: &[u8],
+    ram: &[u64],
+    tracked: bool,
+    vtl: u64,
+    gpn: u64,
+) -> PermissionsAnswer
+    ensures { λ r. ⌜ r ≡ lowerVtlPermissions (entriesOf (now (ram .entry))) (maps (now (private .entry)) (now (shared .entry)) (now (read .entry)) (now (write .entry)) (now (kernel .entry)) (now (user .entry))) tracked vtl gpn ⌝ }
+{
+    let len = layout::map_len(ram);
+    let fits = maps_fit(
+        len,
+        tracked,
+        private.len() as u64,
+        shared.len() as u64,
+        read.len() as u64,
+        write.len() as u64,
+        kernel.len() as u64,
+        user.len() as u64,
+    );
+    let n = lower_refusal(ram, fits, vtl, gpn);
+    if n != 0 {
+        return PermissionsAnswer::Refused(n);
+    }
+    PermissionsAnswer::Flags(lower_flags(
+        read,
+        write,
+        kernel,
+        user,
+        tracked,
+        permissions::vtl_of(vtl),
+        gpn,
+    ))
+}
+
+pub fn permissions_number(a: PermissionsAnswer) -> u64
+    ensures { λ r. ⌜ r ≡ permissionsNumber a ⌝ }
+{
+    match a {
+        PermissionsAnswer::Flags(_) => 0,
+        PermissionsAnswer::Refused(n) => n,
+    }
+}
+
+pub fn permissions_value(a: PermissionsAnswer) -> u64
+    ensures { λ r. ⌜ r ≡ permissionsValue a ⌝ }
+{
+    match a {
+        PermissionsAnswer::Flags(f) => f.into_bits(),
+        PermissionsAnswer::Refused(n) => permissions::hv_error(n),
+    }
+}
