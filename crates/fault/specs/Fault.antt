@@ -1,0 +1,96 @@
+-- A fault (01, "Bitmaps", and the order of refusals: 4, 8, 7).
+use mathlib.Core.Bool.{Bool, false, not, cond, _&&_}
+use mathlib.Core.List.{List}
+use Prim.Native.Nat.{ℕ, _/_}
+use lib.Dec.{eqb, ltb}
+use Rattle.bitmap.specs.Pages.{bitAt}
+use Rattle.layout.specs.declared.MemoryRangeWithNode.{MemoryRangeWithNode}
+use Rattle.laws.specs.Refusal.{unless}
+use Rattle.fault.specs.declared.GuestValidMemoryType.{GuestValidMemoryType}
+use Rattle.fault.specs.declared.GuestValidMemoryType.the-variants.{Encrypted, Shared}
+use Rattle.fault.specs.declared.GuestMemoryViewReadType.{GuestMemoryViewReadType}
+use Rattle.fault.specs.declared.GuestMemoryViewReadType.the-variants.{Read, KernelExecute, UserExecute}
+use Rattle.fault.specs.declared.PageFaultAction.{PageFaultAction}
+use Rattle.fault.specs.declared.PageFaultAction.the-variants.{Retry, NotMapped, NotShared, NotPrivate, VtlProtected, Refused}
+use Rattle.permissions.specs.HvError.{codeOf}
+use Rattle.mapping.specs.Maps.{Permissions, Maps, mapsFit, inMaps}
+
+-- the numbers that cross, the port's choice: mapping encrypted 0, shared 1; view Read 0, KernelExecute 1, UserExecute 2; no 0, yes 1
+abbrev pub fitMapping : ℕ → Bool
+fitMapping n = ltb n 2
+
+abbrev pub mappingOf : ℕ → GuestValidMemoryType
+mappingOf n = cond (eqb n 0) Encrypted Shared
+
+abbrev pub fitView : ℕ → Bool
+fitView n = ltb n 3
+
+abbrev pub viewOf : ℕ → GuestMemoryViewReadType
+viewOf n = cond (eqb n 0) Read (cond (eqb n 1) KernelExecute UserExecute)
+
+abbrev pub fitBool : ℕ → Bool
+fitBool n = ltb n 2
+
+abbrev pub boolOf : ℕ → Bool
+boolOf n = eqb n 1
+
+-- the marks that a mapping is tested by, and what an unmarked page gives there
+abbrev pub marks : GuestValidMemoryType → Maps → List ℕ
+marks Encrypted m = m .private
+marks Shared m = m .shared
+
+abbrev pub unmarked : GuestValidMemoryType → PageFaultAction
+unmarked Encrypted = NotPrivate
+unmarked Shared = NotShared
+
+-- only the encrypted mapping has permission maps, if tracked
+abbrev pub hasPermissions : GuestValidMemoryType → Bool → Bool
+hasPermissions Encrypted tracked = tracked
+hasPermissions Shared tracked = false
+
+-- the permission map that an access is tested by
+abbrev pub viewMap : GuestMemoryViewReadType → Permissions → List ℕ
+viewMap Read m = m .read
+viewMap KernelExecute m = m .kernel
+viewMap UserExecute m = m .user
+
+abbrev pub accessMap : GuestMemoryViewReadType → Bool → Permissions → List ℕ
+accessMap view write m = cond write (m .write) (viewMap view m)
+
+unfoldable pub faultOf : Maps → Bool → GuestValidMemoryType → GuestMemoryViewReadType → ℕ → Bool → Bool → PageFaultAction
+faultOf m tracked mapping view p write failure =
+    cond (not failure) NotMapped
+    (cond (not (bitAt 8 (marks mapping m) p)) (unmarked mapping)
+    (cond (hasPermissions mapping tracked && not (bitAt 8 (accessMap view write (m .permissions)) p)) VtlProtected
+    Retry))
+
+-- 4 unless the maps fit, 8 for a number that names nothing, 7 unless the maps have the page
+unfoldable pub faultRefusal : Bool → ℕ → ℕ → ℕ → ℕ → Bool → ℕ
+faultRefusal fits mapping view write failure inside =
+    unless fits 4 (unless (fitMapping mapping) 8 (unless (fitView view) 8 (unless (fitBool write) 8 (unless (fitBool failure) 8 (unless inside 7 0)))))
+
+abbrev pub orRefused : ℕ → PageFaultAction → PageFaultAction
+orRefused n a = cond (eqb n 0) a (Refused n)
+
+-- a fault at an address, whose page is address / 4,096
+unfoldable pub pageFault : List MemoryRangeWithNode → Maps → Bool → ℕ → ℕ → ℕ → ℕ → ℕ → PageFaultAction
+pageFault es m tracked mapping view address write failure =
+    orRefused (faultRefusal (mapsFit es tracked m) mapping view write failure (inMaps es (address / 4096)))
+    (faultOf m tracked (mappingOf mapping) (viewOf view) (address / 4096) (boolOf write) (boolOf failure))
+
+-- the number of 01 for an answer, 0 where nothing is refused; and its value, a number of the port's choice or the code that a refusal carries
+abbrev pub faultNumber : PageFaultAction → ℕ
+faultNumber Retry = 0
+faultNumber NotMapped = 0
+faultNumber NotShared = 0
+faultNumber NotPrivate = 0
+faultNumber VtlProtected = 0
+faultNumber (Refused n) = n
+
+abbrev pub faultValue : PageFaultAction → ℕ
+faultValue Retry = 0
+faultValue NotMapped = 1
+faultValue NotShared = 2
+faultValue NotPrivate = 3
+faultValue VtlProtected = 4
+faultValue (Refused n) = codeOf n

@@ -1,0 +1,222 @@
+// A page fault on a mapping of the guest's memory.
+ghost use mathlib.Core.Path.{_≡_};
+ghost use Rattle.bitmap.specs.Pages.{bitAt};
+ghost use Rattle.layout.specs.Layout.{entriesOf};
+ghost use Rattle.mapping.specs.Maps.{perms, maps};
+ghost use Rattle.fault.specs.Fault.{mappingOf, viewOf, accessMap, faultOf, faultRefusal, pageFault, faultNumber, faultValue};
+
+pub enum GuestMemoryViewReadType {
+    Read,
+    KernelExecute,
+    UserExecute,
+}
+
+pub enum GuestValidMemoryType {
+    Shared,
+    Encrypted,
+}
+
+// What a fault gives, or the number that refuses it.
+pub enum PageFaultAction {
+    Retry,
+    NotMapped,
+    NotShared,
+    NotPrivate,
+    VtlProtected,
+    Refused(u64),
+}
+
+fn mapping_of(n: u64) -> GuestValidMemoryType
+    ensures { λ r. ⌜ r ≡ mappingOf n ⌝ }
+{
+    if n == 0 {
+        GuestValidMemoryType::Encrypted
+    } else {
+        GuestValidMemoryType::Shared
+    }
+}
+
+fn view_of(n: u64) -> GuestMemoryViewReadType
+    ensures { λ r. ⌜ r ≡ viewOf n ⌝ }
+{
+    if n == 0 {
+        return GuestMemoryViewReadType::Read;
+    }
+    if n == 1 {
+        return GuestMemoryViewReadType::KernelExecute;
+    }
+    GuestMemoryViewReadType::UserExecute
+}
+
+// Whether the permission maps allow an access to a page.
+fn is_allowed(
+    read: &[u8],
+    write: &[u8],
+    kernel: &[u8],
+    user: &[u8],
+    view: GuestMemoryViewReadType,
+    gpn: u64,
+    writes: bool,
+) -> bool
+    ensures { λ r. ⌜ r ≡ bitAt 8 (accessMap view writes (perms (now (read .entry)) (now (write .entry)) (now (kernel .entry)) (now (user .entry)))) gpn ⌝ }
+{
+    if writes {
+        return bitmap::page_state(write, gpn);
+    }
+    match view {
+        GuestMemoryViewReadType::Read => bitmap::page_state(read, gpn),
+        GuestMemoryViewReadType::KernelExecute => bitmap::page_state(kernel, gpn),
+        GuestMemoryViewReadType::UserExecute => bitmap::page_state(user, gpn),
+    }
+}
+
+// A fault on a page that the maps have.
+fn fault_action(
+    private: &[u8],
+    shared: &[u8],
+    read: &[u8],
+    write: &[u8],
+    kernel: &[u8],
+    user: &[u8],
+    tracked: bool,
+    mapping: GuestValidMemoryType,
+    view: GuestMemoryViewReadType,
+    gpn: u64,
+    writes: bool,
+    failure: bool,
+) -> PageFaultAction
+    ensures { λ r. ⌜ r ≡ faultOf (maps (now (private .entry)) (now (shared .entry)) (now (read .entry)) (now (write .entry)) (now (kernel .entry)) (now (user .entry))) tracked mapping view gpn writes failure ⌝ }
+{
+    if !failure {
+        return PageFaultAction::NotMapped;
+    }
+    match mapping {
+        GuestValidMemoryType::Shared => {
+            if !bitmap::page_state(shared, gpn) {
+                return PageFaultAction::NotShared;
+            }
+        }
+        GuestValidMemoryType::Encrypted => {
+            if !bitmap::page_state(private, gpn) {
+                return PageFaultAction::NotPrivate;
+            }
+            if tracked {
+                if !is_allowed(read, write, kernel, user, view, gpn, writes) {
+                    return PageFaultAction::VtlProtected;
+                }
+            }
+        }
+    }
+    PageFaultAction::Retry
+}
+
+// The number that refuses a fault: 0 where none does.
+fn fault_refusal(
+    fits: bool,
+    mapping: u64,
+    view: u64,
+    writes: u64,
+    failure: u64,
+    inside: bool,
+) -> u64
+    ensures { λ r. ⌜ r ≡ faultRefusal fits mapping view writes failure inside ⌝ }
+{
+    if !fits {
+        return 4;
+    }
+    if 2 <= mapping {
+        return 8;
+    }
+    if 3 <= view {
+        return 8;
+    }
+    if 2 <= writes {
+        return 8;
+    }
+    if 2 <= failure {
+        return 8;
+    }
+    if inside { 0 } else { 7 }
+}
+
+// A fault at an address, as its numbers cross.
+pub fn page_fault(
+    private: &[u8],
+    shared: &[u8],
+    read: &[u8],
+    write: &[u8],
+    kernel: &[u8],
+    user: &[u8],
+    ram: &[u64],
+    tracked: bool,
+    mapping: u64,
+    view: u64,
+    address: u64,
+    writes: u64,
+    failure: u64,
+) -> PageFaultAction
+    ensures { λ r. ⌜ r ≡ pageFault (entriesOf (now (ram .entry))) (maps (now (private .entry)) (now (shared .entry)) (now (read .entry)) (now (write .entry)) (now (kernel .entry)) (now (user .entry))) tracked mapping view address writes failure ⌝ }
+{
+    let gpn = address / 4096;
+    let len = layout::map_len(ram);
+    let n = fault_refusal(
+        mapping::maps_fit(
+            len,
+            tracked,
+            private.len() as u64,
+            shared.len() as u64,
+            read.len() as u64,
+            write.len() as u64,
+            kernel.len() as u64,
+            user.len() as u64,
+        ),
+        mapping,
+        view,
+        writes,
+        failure,
+        gpn / 8 < len,
+    );
+    if n != 0 {
+        return PageFaultAction::Refused(n);
+    }
+    fault_action(
+        private,
+        shared,
+        read,
+        write,
+        kernel,
+        user,
+        tracked,
+        mapping_of(mapping),
+        view_of(view),
+        gpn,
+        writes == 1,
+        failure == 1,
+    )
+}
+
+pub fn fault_number(a: PageFaultAction) -> u64
+    ensures { λ r. ⌜ r ≡ faultNumber a ⌝ }
+{
+    match a {
+        PageFaultAction::Retry => 0,
+        PageFaultAction::NotMapped => 0,
+        PageFaultAction::NotShared => 0,
+        PageFaultAction::NotPrivate => 0,
+        PageFaultAction::VtlProtected => 0,
+        PageFaultAction::Refused(n) => n,
+    }
+}
+
+pub fn fault_value(a: PageFaultAction) -> u64
+    ensures { λ r. ⌜ r ≡ faultValue a ⌝ }
+{
+    match a {
+        PageFaultAction::Retry => 0,
+        PageFaultAction::NotMapped => 1,
+        PageFaultAction::NotShared => 2,
+        PageFaultAction::NotPrivate => 3,
+        PageFaultAction::VtlProtected => 4,
+        PageFaultAction::Refused(n) => permissions::hv_error(n),
+    }
+}
