@@ -1,0 +1,3 @@
+//! Stand-in: the derive alone.
+
+pub use standin_derive::Error;
