@@ -37,6 +37,13 @@ pub and-true : (a b : Bool) → a ≡ true → b ≡ true → (a && b) ≡ true
 and-true true b p q = q
 and-true false b p q = p
 
+pub both-true : (a b : Bool) → (a && b) ≡ true → (a ≡ true) × (b ≡ true)
+both-true a b e = (and-left a b e, and-right a b e)
+
+pub and-false : (a b : Bool) → b ≡ false → (a && b) ≡ false
+and-false true b e = e
+and-false false b e = refl
+
 pub and-ends : (a b : Bool) → a ≡ false → false ≡ (a && b)
 and-ends a b e = rw e
 
@@ -61,6 +68,10 @@ or-swap true true = refl
 or-swap true false = refl
 or-swap false true = refl
 or-swap false false = refl
+
+pub or-assoc : (a b c : Bool) → ((a || b) || c) ≡ (a || (b || c))
+or-assoc true b c = refl
+or-assoc false b c = refl
 
 -- not
 pub not-of : (h : Bool) → (h ≡ true → ⊥) → not h ≡ true

@@ -1,4 +1,4 @@
--- The layout of document 01's worked examples, P6, and each unfit one by its number: antt computes them. Assumes nothing.
+-- The layout of document 01's worked examples, and each unfit one by its number: antt computes them. Assumes nothing.
 use mathlib.Core.Bool.{true, false}
 use mathlib.Core.List.{List, [], _∷_, _++_}
 use mathlib.Core.Path.{_≡_, refl}
@@ -21,15 +21,6 @@ apart (suc n) = apart n ++ ((n * 65536) ∷ (n * 65536 + 32768) ∷ 0 ∷ [])
 worked-fit : refusalOf worked ≡ 0
 unfolding refusalOf entriesOf ordered aligned
 worked-fit = refl
-
--- P6
-seven-pages : refusalOf (0 ∷ (7 * 4096) ∷ 0 ∷ []) ≡ 2
-unfolding refusalOf entriesOf ordered aligned
-seven-pages = refl
-
-eight-pages : refusalOf (0 ∷ (8 * 4096) ∷ 0 ∷ []) ≡ 0
-unfolding refusalOf entriesOf ordered aligned
-eight-pages = refl
 
 -- refusal 1, and what is just fit
 no-entry : refusalOf ([]) ≡ 1

@@ -3,6 +3,7 @@
 use Prim.Native.Nat.{ℕ, zero, suc, _+_, _-_, _*_, _/_, _%_, _^_, _≤_, _<_}
 use mathlib.Core.Path.{_≡_, refl, sym, ap, _∙_}
 use mathlib.Core.List.{List, [], _∷_}
+use mathlib.Core.Logic.{⊎-elim}
 use mathlib.Core.Bool.{Bool, true, false, cond, _||_, _&&_}
 use native.Mathlib.Omega.{arith}
 use native.Mathlib.Numerals.{add-one}
@@ -11,6 +12,7 @@ use lib.Dec.{eqb, leb, ltb, leb·suc-suc}
 use lib.ListN.{length, getD, drop, length-drop, drop-of-length-le, List·getD-eq-default}
 use lib.Seq.{drop-cons, drop-drop}
 use borrow.Author.Tests.{eqb-true, eq-eqb, ne-eqb, lt-ltb, le-ltb, le-leb, lt-leb, ltb-true, ltb-false, leb-true}
+use Rattle.laws.specs.Bools.{false≢true, both-true, and-false, or-true, or-assoc}
 use Rattle.laws.specs.Ranges.{between}
 use Rattle.laws.specs.Refusal.{unless, passed}
 use Rattle.layout.specs.declared.MemoryRangeWithNode.{MemoryRangeWithNode}
@@ -189,10 +191,6 @@ last-at es n e h q = ap (λ (e : MemoryRangeWithNode). e .end) q ∙ ap (λ (n :
 
 -- ---- pages from 2^52 on
 
-and-false : (a b : Bool) → b ≡ false → (a && b) ≡ false
-and-false true b e = e
-and-false false b e = refl
-
 pub past-all : (e : MemoryRangeWithNode) (p : ℕ) → e .end < 2 ^ 64 → 2 ^ 52 ≤ p → holdsPage e p ≡ false
 past-all e p h g = and-false (leb (e .start) (p * 4096)) (ltb (p * 4096) (e .end)) (le-ltb (p * 4096) (e .end) (omega arith))
 
@@ -272,10 +270,6 @@ fit ws h =
     let f = passed (aligned (entriesOf ws)) 1 _ (e .1) in
     record { divided = eqb-true _ _ (a .0); some = ltb-true _ _ (b .0); few = leb-true _ _ (d .0); in-order = e .0; on-edges = f .0 }
 
-pub both-true : (a b : Bool) → (a && b) ≡ true → (a ≡ true) × (b ≡ true)
-both-true true b h = (refl, h)
-both-true false b h = let z : _≡_ {A = ℕ} 0 1 = cc in absurd (omega arith)
-
 -- an entry that may stand there
 pub record Follows (from : ℕ) (e : MemoryRangeWithNode) : Type 0 where
   pub after : from ≤ e .start
@@ -342,28 +336,26 @@ unfolding endFrom
 from-end e [] h = omega arith
 from-end e (f ∷ fs) h = let a = ordered-cons e f fs h in omega (arith, a .0 .after, a .0 .held, from-end (f .end) fs (a .1))
 
-pub or-cases : {P : Type 0} (a b : Bool) → (a || b) ≡ true → (a ≡ true → P) → (b ≡ true → P) → P
-or-cases true b h f g = f refl
-or-cases false b h f g = g h
-
 below-end : (e b : ℕ) (es : List MemoryRangeWithNode) → ordered e es ≡ true → ramByte es b ≡ true → b < endFrom e es
 unfolding ramByte endFrom
-below-end e b [] h r = let z : _≡_ {A = ℕ} 0 1 = cc in absurd (omega arith)
+below-end e b [] h r = false≢true r
 below-end e b (f ∷ fs) h r =
     let a = ordered-cons e f fs h in
-    or-cases (between (f .start) (f .end) b) (ramByte fs b) r
+    ⊎-elim
     (λ w. omega (arith, ltb-true b (f .end) (both-true (leb (f .start) b) (ltb b (f .end)) w .1), from-end (f .end) fs (a .1)))
     (λ w. below-end (f .end) b fs (a .1) w)
+    (or-true (between (f .start) (f .end) b) (ramByte fs b) r)
 
 pub ram-below : (es : List MemoryRangeWithNode) (b : ℕ) → ordered 0 es ≡ true → ramByte es b ≡ true → b < lastEnd es
 unfolding ramByte
-ram-below [] b h r = let z : _≡_ {A = ℕ} 0 1 = cc in absurd (omega arith)
+ram-below [] b h r = false≢true r
 ram-below (e ∷ es) b h r =
     let a = ordered-cons 0 e es h in
     let l = last-from e es in
-    or-cases (between (e .start) (e .end) b) (ramByte es b) r
+    ⊎-elim
     (λ w. omega (arith, ltb-true b (e .end) (both-true (leb (e .start) b) (ltb b (e .end)) w .1), from-end (e .end) es (a .1)))
     (λ w. omega (arith, below-end (e .end) b es (a .1) w))
+    (or-true (between (e .start) (e .end) b) (ramByte es b) r)
 
 -- a RAM page of a fit layout has its place in a page map
 pub page-in-map : (ws : List ℕ) (p : ℕ) → Fit ws → isRam (entriesOf ws) p ≡ true → p / 8 < mapLen (entriesOf ws)
@@ -382,10 +374,6 @@ between-join s e f b h k = elim (decLt b e) [
     left : (x y : Bool) → y ≡ false → (x && true) ≡ ((x && true) || (y && true))
     left true y q = refl
     left false y q = rw q
-
-or-assoc : (a b d : Bool) → ((a || b) || d) ≡ (a || (b || d))
-or-assoc true b d = refl
-or-assoc false b d = refl
 
 spans-from-byte : (s e b : ℕ) (es : List MemoryRangeWithNode) → s ≤ e → ordered e es ≡ true → spansByte (spansFrom s e es) b ≡ (between s e b || ramByte es b)
 unfolding spansFrom spansByte ramByte
