@@ -10,7 +10,13 @@ use borrow.Author.Tests.{eq-eqb, ne-eqb}
 abbrev pub unless : Bool → ℕ → ℕ → ℕ
 unless t code rest = cond t rest code
 
--- what is known of a chain that refuses nothing
+-- the chain ends here, it goes on, and what is known of one that refuses nothing
+pub refuses : (t : Bool) (code rest : ℕ) → t ≡ false → code ≡ unless t code rest
+refuses t code rest e = rw e
+
+pub passes : (t : Bool) (code rest x : ℕ) → t ≡ true → x ≡ rest → x ≡ unless t code rest
+passes t code rest x e q = rw e q
+
 pub passed : (t : Bool) (k rest : ℕ) → unless t (suc k) rest ≡ 0 → (t ≡ true) × (rest ≡ 0)
 passed true k rest h = (refl, h)
 passed false k rest h = absurd (omega arith)

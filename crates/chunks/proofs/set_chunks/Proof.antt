@@ -1,0 +1,53 @@
+-- `chunks::set_chunks` meets its contract. Assumes nothing.
+use native.Mathlib.Omega.{arith}
+use borrow.Author.Needs.{needs}
+use mathlib.Core.Path.{_≡_, refl, _∙_}
+use mathlib.Core.Bool.{true}
+use Prim.Native.Nat.{_-_, _≤_, max}
+use lib.ListN.{length}
+use Rattle.laws.specs.Ranges.{between}
+use Rattle.bitmap.specs.Pages.{written}
+use Rattle.chunks.specs.Laws as laws
+use Rattle.bitmap.proofs.Steps.{run-none, run-end}
+use Rattle.chunks.proofs.set_chunks.Statement.{statement}
+use Rattle.chunks.proofs.set_chunks.Tie as tie
+
+abbrev Inv-loop : tie.InvT-loop
+Inv-loop map₀ from to c₀ map c = (from ≤ c) × (c ≤ max from to) × (length map ≡ length map₀) × (map ≡ written 64 (between from c) true map₀)
+
+abbrev μ-loop : tie.MeasureT-loop
+μ-loop map₀ from to c₀ map c = to - c
+
+loop-holds : tie.Need-loop-holds Inv-loop μ-loop
+loop-holds c = (omega arith, omega arith, refl, run-none 64 true (c .before .args .map .now) (c .before .args .from))
+
+set-some-requires : tie.Need-set-some-requires Inv-loop μ-loop
+set-some-requires c κs = search needs
+
+loop-less : tie.Need-loop-less Inv-loop μ-loop
+loop-less c = omega (arith, c .before .before .set-some .ensures .0, c .before .before .set-some .ensures .1)
+
+loop-again : tie.Need-loop-again Inv-loop μ-loop
+loop-again c =
+    let h = c .before .before .before .before .before .loop in
+    let s = c .before .before .set-some in
+    (omega (arith, s .ensures .0), omega (arith, s .ensures .1), search needs, laws.set-more (c .before .before .before .before .before .before .before .args .map .now) (c .before .before .before .before .before .before .before .args .from) (h .c) (s .result) (h .map) _ (h .inv .0) (omega (arith, s .ensures .0)) (h .inv .3) (s .ensures .2))
+
+same-length : tie.Need-same-length Inv-loop μ-loop
+same-length c = c .before .loop .inv .2
+
+returns : tie.Need-returns Inv-loop μ-loop
+returns c = c .before .loop .inv .3 ∙ run-end 64 true (c .before .before .before .args .map .now) (c .before .before .before .args .from) (c .before .before .before .args .to) (c .before .loop .c) (omega arith) (c .before .loop .inv .1)
+
+pub set-chunks-spec : {M : Type 1} → statement M
+set-chunks-spec =
+    tie.close
+    (tie.spec
+    Inv-loop
+    μ-loop
+    loop-holds
+    set-some-requires
+    loop-less
+    loop-again
+    same-length
+    returns)

@@ -1,0 +1,3 @@
+pub mod Chunks
+pub mod Scan
+pub mod Laws

@@ -1,0 +1,300 @@
+// Chunks of guest memory: their number, the RAM in them, and bitmaps of them taken by whole words.
+ghost use mathlib.Core.Path.{_≡_};
+ghost use Prim.Native.Nat.{_+_, _-_, _*_, _/_, _<_, _≤_, _^_, min, max};
+ghost use mathlib.Core.Bool.{true, _&&_};
+ghost use lib.Dec.{eqb, ltb};
+ghost use lib.ListN.{getD};
+ghost use Rattle.laws.specs.Bools.{digit};
+ghost use Rattle.laws.specs.Ranges.{between};
+ghost use Rattle.bitmap.specs.Pages.{written, words};
+ghost use Rattle.layout.specs.Layout.{entriesOf, spans};
+ghost use Rattle.chunks.specs.Chunks.{up, chunkCount, mapWords, firstChunk, endChunk, isPower, pieces, firstOf, alike, firstNot, alignedPart, edgeOf, entryWith};
+ghost use Rattle.chunks.specs.Scan.{Ahead};
+use layout::MemoryRange;
+use layout::MemoryRangeWithNode;
+
+pub fn div(n: u64, g: u64) -> u64
+    ensures { λ r. ⌜ r ≡ n / g ⌝ }
+{
+    if g == 0 { 0 } else { n / g }
+}
+
+pub fn div_ceil(n: u64, g: u64) -> u64
+    ensures { λ r. ⌜ r ≡ up n g ⌝ }
+{
+    if g == 0 {
+        if n == 0 {
+            return 0;
+        }
+        return 1;
+    }
+    if n % g == 0 {
+        return n / g;
+    }
+    n / g + 1
+}
+
+pub fn chunk_count(ram: &[u64], g: u64) -> u64
+    ensures { λ r. ⌜ r ≡ chunkCount g (entriesOf (now (ram .entry))) ⌝ }
+{
+    div_ceil(layout::last_end(ram), g)
+}
+
+// How many words a bitmap of the chunks has.
+pub fn map_words(ram: &[u64], g: u64) -> u64
+    ensures { λ r. ⌜ r ≡ mapWords g (entriesOf (now (ram .entry))) ⌝ }
+{
+    div_ceil(chunk_count(ram, g), 64)
+}
+
+// The page after a request's last.
+fn page_end(address: u64, len: u64) -> u64
+    ensures { λ r. ⌜ r ≡ up (address + len) 4096 ⌝ }
+{
+    address / 4096 + len / 4096 + div_ceil(address % 4096 + len % 4096, 4096)
+}
+
+pub fn first_chunk(g: u64, address: u64) -> u64
+    ensures { λ r. ⌜ r ≡ firstChunk g address ⌝ }
+{
+    div(address / 4096, g / 4096)
+}
+
+pub fn end_chunk(g: u64, address: u64, len: u64) -> u64
+    ensures { λ r. ⌜ r ≡ endChunk g address len ⌝ }
+{
+    div_ceil(page_end(address, len), g / 4096)
+}
+
+pub fn is_power_of_two(n: u64) -> bool
+    ensures { λ r. ⌜ r ≡ isPower n ⌝ }
+{
+    let mut k: u64 = 0;
+    while k < 64 {
+        if n == 1u64 << k {
+            return true;
+        }
+        k += 1;
+    }
+    false
+}
+
+// The address where chunk c ends, or `end` if that comes first.
+fn chunk_end(c: u64, g: u64, end: u64) -> u64
+    ensures { λ r. ⌜ r ≡ min ((c + 1) * g) end ⌝ }
+{
+    if g == 0 {
+        return 0;
+    }
+    if end / g <= c {
+        return end;
+    }
+    (c + 1) * g
+}
+
+pub fn later(a: u64, b: u64) -> u64
+    ensures { λ r. ⌜ r ≡ max a b ⌝ }
+{
+    if a < b { b } else { a }
+}
+
+pub fn earlier(a: u64, b: u64) -> u64
+    ensures { λ r. ⌜ r ≡ min a b ⌝ }
+{
+    if a < b { a } else { b }
+}
+
+// The first RAM of chunk c from address x on: empty where there is none.
+pub fn next_ram(ram: &[u64], g: u64, c: u64, x: u64) -> MemoryRange
+    ensures { λ r. ⌜ r ≡ firstOf (pieces x ((c + 1) * g) (spans (entriesOf (now (ram .entry))))) ⌝ }
+{
+    let n = layout::entry_count(ram);
+    let mut i: u64 = 0;
+    while i < n {
+        let span = layout::span_at(ram, i);
+        let start = later(x, span.start);
+        let end = chunk_end(c, g, span.end);
+        if start < end {
+            return MemoryRange {
+                start: start,
+                end: end,
+            };
+        }
+        i = span.next;
+    }
+    MemoryRange { start: 0, end: 0 }
+}
+
+fn word_at(map: &[u64], i: u64) -> u64
+    ensures { λ r. ⌜ r ≡ getD (now (map .entry)) i 0 ⌝ }
+{
+    let k = i as usize;
+    if k < map.len() { map[k] } else { 0 }
+}
+
+fn full(set: bool) -> u64
+    ensures { λ r. ⌜ r ≡ digit set * (2 ^ 64 - 1) ⌝ }
+{
+    if set { 0xffff_ffff_ffff_ffff } else { 0 }
+}
+
+// Whether a chunk has not failed, and is registered or not.
+fn is_alike(registered: &[u64], failed: &[u64], set: bool, c: u64) -> bool
+    ensures { λ r. ⌜ r ≡ alike (now (registered .entry)) (now (failed .entry)) set c ⌝ }
+{
+    if bitmap::get(failed, c) {
+        return false;
+    }
+    if set {
+        return bitmap::get(registered, c);
+    }
+    !bitmap::get(registered, c)
+}
+
+// Whether a whole word of chunks is alike.
+fn is_alike_word(registered: &[u64], failed: &[u64], set: bool, i: u64) -> bool
+    ensures { λ r. ⌜ r ≡ (eqb (getD (now (failed .entry)) i 0) 0 && eqb (getD (now (registered .entry)) i 0) (digit set * (2 ^ 64 - 1))) ⌝ }
+{
+    if word_at(failed, i) == 0 {
+        word_at(registered, i) == full(set)
+    } else {
+        false
+    }
+}
+
+// How many chunks from c on are alike, of those before `to`: a whole word, one, or none.
+fn alike_here(registered: &[u64], failed: &[u64], set: bool, c: u64, to: u64) -> u64
+    requires { ⌜ c < to ⌝ }
+    ensures { λ r. ⌜ Ahead (alike (now (registered .entry)) (now (failed .entry)) set) c to r ⌝ }
+{
+    if c % 64 == 0 {
+        if 64 <= to - c {
+            if is_alike_word(registered, failed, set, c / 64) {
+                return 64;
+            }
+        }
+    }
+    if is_alike(registered, failed, set, c) {
+        1
+    } else {
+        0
+    }
+}
+
+// The first chunk from `from` to before `to` that is not alike.
+pub fn run_end(registered: &[u64], failed: &[u64], set: bool, from: u64, to: u64) -> u64
+    ensures { λ r. ⌜ r ≡ firstNot (alike (now (registered .entry)) (now (failed .entry)) set) from to ⌝ }
+{
+    let mut c = from;
+    while c < to {
+        let n = alike_here(registered, failed, set, c, to);
+        if n == 0 {
+            return c;
+        }
+        c += n;
+    }
+    c
+}
+
+pub fn aligned_subrange(alignment: u64, r: MemoryRange) -> MemoryRange
+    ensures { λ p. ⌜ p ≡ alignedPart alignment r ⌝ }
+{
+    let a = div_ceil(r.start, alignment);
+    let b = div(r.end, alignment);
+    if a < b {
+        MemoryRange {
+            start: a * alignment,
+            end: b * alignment,
+        }
+    } else {
+        MemoryRange { start: 0, end: 0 }
+    }
+}
+
+// The unaligned edge of a span: the whole if nothing aligned is left, else front, else back, else none.
+pub fn unaligned_edge(alignment: u64, r: MemoryRange) -> MemoryRange
+    ensures { λ p. ⌜ p ≡ edgeOf alignment r ⌝ }
+{
+    let p = aligned_subrange(alignment, r);
+    if p.end <= p.start {
+        return r;
+    }
+    if p.start != r.start {
+        return MemoryRange {
+            start: r.start,
+            end: p.start,
+        };
+    }
+    if p.end != r.end {
+        return MemoryRange {
+            start: p.end,
+            end: r.end,
+        };
+    }
+    MemoryRange { start: 0, end: 0 }
+}
+
+fn overlaps(e: MemoryRangeWithNode, r: MemoryRange) -> bool
+    ensures { λ b. ⌜ b ≡ (ltb (e .start) (r .end) && ltb (r .start) (e .end)) ⌝ }
+{
+    if e.start < r.end {
+        r.start < e.end
+    } else {
+        false
+    }
+}
+
+// The first entry that has a byte of a range.
+pub fn entry_with(ram: &[u64], r: MemoryRange) -> MemoryRangeWithNode
+    ensures { λ e. ⌜ e ≡ entryWith r (entriesOf (now (ram .entry))) ⌝ }
+{
+    let n = layout::entry_count(ram);
+    let mut i: u64 = 0;
+    while i < n {
+        let e = layout::entry_at(ram, i);
+        if overlaps(e, r) {
+            return e;
+        }
+        i += 1;
+    }
+    MemoryRangeWithNode {
+        start: 0,
+        end: 0,
+        vnode: 0,
+    }
+}
+
+// A whole word of chunks; nothing past the end.
+fn fill_word(map: &mut [u64], i: u64)
+    ensures { λ _. ⌜ now (map .exit) ≡ written 64 (words 64 i (i + 1)) true (now (map .entry)) ⌝ }
+{
+    let k = i as usize;
+    if k < map.len() {
+        map[k] = full(true);
+    }
+}
+
+// Some chunks from c on, a whole word or one, and the chunk after them.
+fn set_some(map: &mut [u64], c: u64, to: u64) -> u64
+    requires { ⌜ c < to ⌝ }
+    ensures { λ r. ⌜ (c < r) × (r ≤ to) × (now (map .exit) ≡ written 64 (between c r) true (now (map .entry))) ⌝ }
+{
+    if c % 64 == 0 {
+        if 64 <= to - c {
+            fill_word(map, c / 64);
+            return c + 64;
+        }
+    }
+    bitmap::set(map, c, true);
+    c + 1
+}
+
+// The chunks from `from` to before `to`, set; nothing past the end.
+pub fn set_chunks(map: &mut [u64], from: u64, to: u64)
+    ensures { λ _. ⌜ now (map .exit) ≡ written 64 (between from to) true (now (map .entry)) ⌝ }
+{
+    let mut c = from;
+    while c < to {
+        c = set_some(map, c, to);
+    }
+}
