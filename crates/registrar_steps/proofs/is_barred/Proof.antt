@@ -1,0 +1,14 @@
+-- `registrar_steps::is_barred` meets its contract. Assumes nothing.
+use borrow.Author.Tests.{eq-eqb, ne-eqb}
+use Rattle.chunks.specs.Laws as chunk-laws
+use Rattle.registrar_steps.proofs.is_barred.Statement.{statement}
+use Rattle.registrar_steps.proofs.is_barred.Tie as tie
+
+returns : tie.Need-returns
+returns c = rw (eq-eqb _ _ (c .before .if1 .taken)) (chunk-laws.not-empty (c .before .before .args .edge))
+
+returns-2 : tie.Need-returns-2
+returns-2 c = rw (ne-eqb _ _ (c .if1 .left))
+
+pub is-barred-spec : {M : Type 1} → statement M
+is-barred-spec = tie.close (tie.spec returns returns-2)

@@ -1,0 +1,74 @@
+-- `registrar_steps::register_from` meets its contract. Assumes nothing.
+use native.Mathlib.Omega.{arith}
+use borrow.Author.Needs.{needs}
+use mathlib.Core.Path.{sym, ap, _∙_}
+use Prim.Native.Nat.{_+_, min}
+use Rattle.layout.specs.Layout.{entriesOf}
+use Rattle.registrar_steps.specs.Steps.{seen, asks, pieceOf}
+use Rattle.registrar_steps.specs.Laws as laws
+use Rattle.registrar_steps.proofs.register_from.Statement.{statement}
+use Rattle.registrar_steps.proofs.register_from.Tie as tie
+
+chunk-count-requires : tie.Need-chunk-count-requires
+chunk-count-requires c κs = search needs
+
+earlier-requires : tie.Need-earlier-requires
+earlier-requires c κs = search needs
+
+walk-requires : tie.Need-walk-requires
+walk-requires c κs = λ k h. laws.walk-fits (c .before .before .before .before .before .args .ram .now) (c .before .before .before .before .before .args .g) (c .before .before .before .before .before .args .last) (c .before .chunk-count .result) (c .earlier .result) k (λ j. c .before .before .before .before .shared-slice-known .given j .fits) (c .before .chunk-count .ensures) (c .earlier .ensures) h
+
+end-requires : tie.Need-end-requires
+end-requires c κs = search needs
+
+returns : tie.Need-returns
+returns c = laws.register-done (seen (c .before .before .before .before .before .before .before .before .args .g) (entriesOf (c .before .before .before .before .before .before .before .before .args .ram .now)) (c .before .before .before .before .before .before .before .before .args .registered .now) (c .before .before .before .before .before .before .before .before .args .failed .now)) (c .before .before .before .before .before .before .before .before .args .offset) (c .before .before .before .before .before .before .before .before .args .count) (c .before .before .before .before .before .before .before .before .args .from) (c .before .before .before .before .before .before .before .before .args .last) (c .before .before .before .earlier .result) (c .before .before .walk .result) (c .end .result) (c .before .before .before .earlier .ensures ∙ ap (min (c .before .before .before .before .before .before .before .before .args .last)) (c .before .before .before .before .chunk-count .ensures)) (c .before .before .walk .ensures) (c .before .if1 .taken) (c .end .ensures)
+
+mul-address : tie.Need-mul-address
+mul-address c = omega (arith, laws.walk-fits (c .before .before .before .before .before .before .before .args .ram .now) (c .before .before .before .before .before .before .before .args .g) (c .before .before .before .before .before .before .before .args .last) (c .before .before .before .chunk-count .result) (c .before .before .earlier .result) (c .before .walk .result) (λ j. c .before .before .before .before .before .before .shared-slice-known .given j .fits) (c .before .before .before .chunk-count .ensures) (c .before .before .earlier .ensures) (c .if1 .left))
+
+get-requires : tie.Need-get-requires
+get-requires c κs = search needs
+
+end-requires-2 : tie.Need-end-requires-2
+end-requires-2 c κs = search needs
+
+returns-2 : tie.Need-returns-2
+returns-2 c = laws.register-failed (seen (c .before .before .before .before .before .before .before .before .before .before .args .g) (entriesOf (c .before .before .before .before .before .before .before .before .before .before .args .ram .now)) (c .before .before .before .before .before .before .before .before .before .before .args .registered .now) (c .before .before .before .before .before .before .before .before .before .before .args .failed .now)) (c .before .before .before .before .before .before .before .before .before .before .args .offset) (c .before .before .before .before .before .before .before .before .before .before .args .count) (c .before .before .before .before .before .before .before .before .before .before .args .from) (c .before .before .before .before .before .before .before .before .before .before .args .last) (c .before .before .before .before .before .earlier .result) (c .before .before .before .before .walk .result) (c .end2 .result) (c .before .before .before .before .before .earlier .ensures ∙ ap (min (c .before .before .before .before .before .before .before .before .before .before .args .last)) (c .before .before .before .before .before .before .chunk-count .ensures)) (c .before .before .before .before .walk .ensures) (c .before .before .before .if1 .left) (sym (c .before .before .get .ensures) ∙ c .before .if2 .taken) (c .end2 .ensures)
+
+add-piece : tie.Need-add-piece
+add-piece c = search needs
+
+next-ram-requires : tie.Need-next-ram-requires
+next-ram-requires c κs = search needs
+
+piece-requires : tie.Need-piece-requires
+piece-requires c κs = search needs
+
+ask-requires : tie.Need-ask-requires
+ask-requires c κs = search needs
+
+returns-3 : tie.Need-returns-3
+returns-3 c =
+    let q = c .before .piece in
+    let r = c .before .before .next-ram in
+    laws.register-asks (seen (c .before .before .before .before .before .before .before .before .before .before .before .before .args .g) (entriesOf (c .before .before .before .before .before .before .before .before .before .before .before .before .args .ram .now)) (c .before .before .before .before .before .before .before .before .before .before .before .before .args .registered .now) (c .before .before .before .before .before .before .before .before .before .before .before .before .args .failed .now)) (c .before .before .before .before .before .before .before .before .before .before .before .before .args .offset) (c .before .before .before .before .before .before .before .before .before .before .before .before .args .count) (c .before .before .before .before .before .before .before .before .before .before .before .before .args .from) (c .before .before .before .before .before .before .before .before .before .before .before .before .args .last) (c .before .before .before .before .before .before .before .earlier .result) (c .before .before .before .before .before .before .walk .result) (c .ask .result) (c .before .before .before .before .before .before .before .earlier .ensures ∙ ap (min (c .before .before .before .before .before .before .before .before .before .before .before .before .args .last)) (c .before .before .before .before .before .before .before .before .chunk-count .ensures)) (c .before .before .before .before .before .before .walk .ensures) (c .before .before .before .before .before .if1 .left) (sym (c .before .before .before .before .get .ensures) ∙ c .before .before .before .if2 .left) (c .ask .ensures ∙ ap (asks (c .before .before .before .before .before .before .before .before .before .before .before .before .args .offset) (c .before .before .before .before .before .before .before .before .before .before .before .before .args .from) (c .before .before .before .before .before .before .walk .result)) (q .ensures ∙ ap (pieceOf (c .before .before .before .before .before .before .before .before .before .before .before .before .args .count) (c .before .before .before .before .before .before .walk .result) (c .before .before .before .before .before .before .walk .result + 1) (c .before .before .before .before .before .before .before .before .before .before .before .before .args .last)) (r .ensures)))
+
+pub register-from-spec : {M : Type 1} → statement M
+register-from-spec =
+    tie.close
+    (tie.spec
+    chunk-count-requires
+    earlier-requires
+    walk-requires
+    end-requires
+    returns
+    mul-address
+    get-requires
+    end-requires-2
+    returns-2
+    add-piece
+    next-ram-requires
+    piece-requires
+    ask-requires
+    returns-3)

@@ -1,0 +1,181 @@
+-- Laws of the steps, one for each way that the code goes. Assumes nothing.
+use native.Mathlib.Omega.{arith}
+use native.Mathlib.Decide.{decLt}
+use mathlib.Core.Path.{_≡_, refl, sym, ap, ap₂, _∙_}
+use mathlib.Core.Bool.{Bool, true, false, not, cond, _&&_}
+use mathlib.Core.List.{List}
+use Prim.Native.Nat.{ℕ, _+_, _-_, _*_, _/_, _%_, _^_, _≤_, _<_, min, max}
+use native.Mathlib.Nat.{mul-le-mul-right}
+use lib.Dec.{eqb, ltb}
+use lib.ListN.{length, getD, drop}
+use borrow.Author.Tests.{lt-ltb, le-ltb, le-leb, lt-leb}
+use Rattle.bitmap.specs.Pages.{bitAt}
+use Rattle.layout.specs.declared.MemoryRange.{MemoryRange}
+use Rattle.layout.specs.declared.MemoryRangeWithNode.{MemoryRangeWithNode}
+use Rattle.layout.specs.declared.Span.{Span}
+use Rattle.layout.specs.Layout.{range, entriesOf, lastEnd, spans, spanAt}
+use Rattle.layout.proofs.Laws.{entries-at, entries-past, spans-end}
+use Rattle.chunks.specs.Chunks.{chunkCount, empty, firstNot, alike, alignedPart, edgeOf}
+use Rattle.chunks.specs.Laws.{below-up, span-step}
+use Rattle.chunks.specs.Scan.{first-to}
+use Rattle.registrar_steps.specs.declared.Unaligned.{Unaligned}
+use Rattle.registrar_steps.specs.declared.Answer.the-variants.{Done, RegistrationFailed, UnalignedMemory}
+use Rattle.registrar_steps.specs.declared.Look.{Look}
+use Rattle.registrar_steps.specs.declared.Look.the-variants.{Nothing, Edge, FailedBefore, Stretch}
+use Rattle.registrar_steps.specs.declared.Plan.{Plan}
+use Rattle.registrar_steps.specs.Steps.{Seen, asks, ends, ramFrom, passes, pieceOf, registerFrom, stretchIn, lookAt, unalignedAt, isNothing, found, allFrom}
+
+-- ---- register, from a chunk on
+
+-- the last end is a 64-bit number, where the words are
+pub last-fits : (ws : List ℕ) → ((j : ℕ) → getD ws j 0 < 2 ^ 64) → lastEnd (entriesOf ws) < 2 ^ 64
+last-fits ws h = elim (decLt (length (entriesOf ws) - 1) (length ws / 3)) [
+  | yes d ↦ omega (arith, ap (λ (e : MemoryRangeWithNode). e .end) (entries-at ws (length (entriesOf ws) - 1) d), h (3 * (length (entriesOf ws) - 1) + 1))
+  | no d ↦ omega (arith, ap (λ (e : MemoryRangeWithNode). e .end) (entries-past ws (length (entriesOf ws) - 1) (omega arith)))
+]
+
+-- so the chunks below the count start at 64-bit addresses
+pub walk-fits : (ws : List ℕ) (g last n e c : ℕ) → ((j : ℕ) → getD ws j 0 < 2 ^ 64) → n ≡ chunkCount g (entriesOf ws) → e ≡ min last n → c < e → c * g < 2 ^ 64
+walk-fits ws g last n e c h q f k = omega (arith, below-up (lastEnd (entriesOf ws)) g c (omega arith), last-fits ws h)
+
+module _ (s : Seen) (o n c last e t : ℕ) (p : Plan) (he : e ≡ min last (chunkCount (s .granularity) (s .entries))) (ht : t ≡ firstNot (passes s) c e) where
+  stopped : ℕ → ℕ → Plan
+  stopped e t =
+      cond (ltb t e)
+      (cond (bitAt 64 (s .failed) t) (ends c t (RegistrationFailed (t * s .granularity) n))
+      (asks o c t (pieceOf n t (t + 1) last (ramFrom (s .granularity) (s .entries) t (t * s .granularity)))))
+      (ends c t (Done n))
+
+  from-stopped : stopped e t ≡ registerFrom s o n c last
+  unfolding registerFrom stopped
+  from-stopped = ap₂ stopped he (ht ∙ ap (firstNot (passes s) c) he)
+
+  pub register-done : e ≤ t → p ≡ ends c t (Done n) → p ≡ registerFrom s o n c last
+  unfolding stopped
+  register-done h q = q ∙ sym (rw (le-ltb t e h)) ∙ from-stopped
+
+  module _ (h : t < e) where
+    pub register-failed : bitAt 64 (s .failed) t ≡ true → p ≡ ends c t (RegistrationFailed (t * s .granularity) n) → p ≡ registerFrom s o n c last
+    unfolding stopped
+    register-failed f q = q ∙ sym (rw (lt-ltb t e h, f)) ∙ from-stopped
+
+    pub register-asks : bitAt 64 (s .failed) t ≡ false → p ≡ asks o c t (pieceOf n t (t + 1) last (ramFrom (s .granularity) (s .entries) t (t * s .granularity))) → p ≡ registerFrom s o n c last
+    unfolding stopped
+    register-asks f q = q ∙ sym (rw (lt-ltb t e h, f)) ∙ from-stopped
+
+-- ---- register_all_aligned: the chunks of a span's aligned part
+
+module _ (g : ℕ) (registered failed : List ℕ) (c e a : ℕ) (ha : a ≡ firstNot (alike registered failed true) c e) where
+  met : ℕ → ℕ → Look
+  met a b =
+      cond (ltb a e)
+      (cond (bitAt 64 failed a) (FailedBefore (a * g)) (cond (ltb b e && bitAt 64 failed b) (FailedBefore (b * g)) (Stretch a b (a * g) (b * g))))
+      Nothing
+
+  from-met : met a (firstNot (alike registered failed false) a e) ≡ stretchIn g registered failed c e
+  unfolding met
+  from-met = ap (λ (k : ℕ). met k (firstNot (alike registered failed false) k e)) ha
+
+  pub stretch-nothing : e ≤ a → Nothing ≡ stretchIn g registered failed c e
+  unfolding met
+  stretch-nothing h = sym (rw (le-ltb a e h)) ∙ from-met
+
+  module _ (h : a < e) where
+    pub stretch-failed : bitAt 64 failed a ≡ true → FailedBefore (a * g) ≡ stretchIn g registered failed c e
+    unfolding met
+    stretch-failed f = sym (rw (lt-ltb a e h, f)) ∙ from-met
+
+    module _ (f : bitAt 64 failed a ≡ false) (b : ℕ) (hb : b ≡ firstNot (alike registered failed false) a e) where
+      from-both : met a b ≡ stretchIn g registered failed c e
+      from-both = ap (met a) hb ∙ from-met
+
+      pub stretch-ended : (ltb b e && bitAt 64 failed b) ≡ true → FailedBefore (b * g) ≡ stretchIn g registered failed c e
+      unfolding met
+      stretch-ended k = sym (rw (lt-ltb a e h, f, k)) ∙ from-both
+
+      pub stretch-found : (ltb b e && bitAt 64 failed b) ≡ false → Stretch a b (a * g) (b * g) ≡ stretchIn g registered failed c e
+      unfolding met
+      stretch-found k = sym (rw (lt-ltb a e h, f, k)) ∙ from-both
+
+-- the addresses of chunks up to e fit where that of e does
+pub chunk-below : (g c e : ℕ) → c ≤ e → e * g < 2 ^ 64 → c * g < 2 ^ 64
+chunk-below g c e h k = omega (arith, mul-le-mul-right {m = c} {n = e} g h)
+
+pub run-below : (P : ℕ → Bool) (g c e b : ℕ) → b ≡ firstNot P c e → c ≤ e → e * g < 2 ^ 64 → b * g < 2 ^ 64
+run-below P g c e b q h k = chunk-below g b e (omega (arith, first-to P c e h)) k
+
+-- ---- a span
+
+module _ (g : ℕ) (registered failed : List ℕ) (al ignore c : ℕ) (r edge : MemoryRange) (he : edge ≡ edgeOf al r) where
+  pub look-edge : (eqb ignore 0 && not (empty edge)) ≡ true → Edge edge ≡ lookAt g registered failed al ignore c r
+  unfolding lookAt
+  look-edge t = rw (← he, t)
+
+  module _ (t : (eqb ignore 0 && not (empty edge)) ≡ false) (p : MemoryRange) (hp : p ≡ alignedPart al r) where
+    look-on : cond (empty p) Nothing (stretchIn g registered failed (max c (p .start / g)) (p .end / g)) ≡ lookAt g registered failed al ignore c r
+    unfolding lookAt
+    look-on = rw (← he, t, ← hp)
+
+    pub look-nothing : p .end ≤ p .start → Nothing ≡ lookAt g registered failed al ignore c r
+    look-nothing h = sym (rw (le-leb (p .end) (p .start) h)) ∙ look-on
+
+    pub look-in : (a b : ℕ) (l : Look) → p .start < p .end → a ≡ max c (p .start / g) → b ≡ p .end / g → l ≡ stretchIn g registered failed a b
+        → l ≡ lookAt g registered failed al ignore c r
+    look-in a b l h ea eb q =
+        q ∙ ap₂ (stretchIn g registered failed) ea eb ∙ sym (rw (lt-leb (p .end) (p .start) h)) ∙ look-on
+
+-- ---- the spans in turn
+
+pub found-rest : (es : List MemoryRangeWithNode) (o n al ignore : ℕ) (r : MemoryRange) (l : Look) (a b : Plan) → isNothing l ≡ false
+    → found es o n al ignore r l a ≡ found es o n al ignore r l b
+found-rest es o n al ignore r Nothing a b h = let z : _≡_ {A = ℕ} 0 1 = cc in absurd (omega arith)
+found-rest es o n al ignore r (Edge e) a b h = refl
+found-rest es o n al ignore r (FailedBefore x) a b h = refl
+found-rest es o n al ignore r (Stretch a′ b′ x y) a b h = refl
+
+found-none : (es : List MemoryRangeWithNode) (o n al ignore : ℕ) (r : MemoryRange) (l : Look) (a : Plan) → isNothing l ≡ true → found es o n al ignore r l a ≡ a
+found-none es o n al ignore r Nothing a h = refl
+found-none es o n al ignore r (Edge e) a h = let z : _≡_ {A = ℕ} 0 1 = cc in absurd (omega arith)
+found-none es o n al ignore r (FailedBefore x) a h = let z : _≡_ {A = ℕ} 0 1 = cc in absurd (omega arith)
+found-none es o n al ignore r (Stretch a′ b′ x y) a h = let z : _≡_ {A = ℕ} 0 1 = cc in absurd (omega arith)
+
+module _ (s : Seen) (o n al ignore c i : ℕ) where
+  module _ (at : Span) (l : Look) (h : i < length (s .entries)) (q : at ≡ spanAt (s .entries) i)
+      (ql : l ≡ lookAt (s .granularity) (s .registered) (s .failed) al ignore c (range (at .start) (at .end))) where
+    here : allFrom s o n al ignore c (spans (drop i (s .entries)))
+        ≡ found (s .entries) o n al ignore (range (at .start) (at .end)) l (allFrom s o n al ignore c (spans (drop (at .next) (s .entries))))
+    unfolding allFrom
+    here =
+        ap (allFrom s o n al ignore c) (span-step (s .entries) i at h q)
+        ∙ ap (λ (k : Look). found (s .entries) o n al ignore (range (at .start) (at .end)) k (allFrom s o n al ignore c (spans (drop (at .next) (s .entries))))) (sym ql)
+
+    pub all-hit : (p : Plan) → isNothing l ≡ false → p ≡ found (s .entries) o n al ignore (range (at .start) (at .end)) l (ends 0 0 (Done n))
+        → p ≡ allFrom s o n al ignore c (spans (drop i (s .entries)))
+    all-hit p t e = e ∙ found-rest (s .entries) o n al ignore (range (at .start) (at .end)) l _ _ t ∙ sym here
+
+    pub all-miss : isNothing l ≡ true → allFrom s o n al ignore c (spans (drop i (s .entries))) ≡ allFrom s o n al ignore c (spans (drop (at .next) (s .entries)))
+    all-miss t = here ∙ found-none (s .entries) o n al ignore (range (at .start) (at .end)) l _ t
+
+  pub all-end : length (s .entries) ≤ i → allFrom s o n al ignore c (spans (drop i (s .entries))) ≡ ends 0 0 (Done n)
+  unfolding allFrom
+  all-end h = ap (allFrom s o n al ignore c) (spans-end (s .entries) i h)
+
+-- what is found, one law for each case of it
+module _ (es : List MemoryRangeWithNode) (o n al ignore : ℕ) (r : MemoryRange) (l : Look) (rest p : Plan) where
+  pub act-nothing : l ≡ Nothing → p ≡ rest → p ≡ found es o n al ignore r l rest
+  act-nothing e q = q ∙ ap (λ (k : Look). found es o n al ignore r k rest) (sym e)
+
+  pub act-edge : (edge : MemoryRange) (u : Unaligned) → l ≡ Edge edge → u ≡ unalignedAt es al r edge → p ≡ ends 0 0 (UnalignedMemory u n)
+      → p ≡ found es o n al ignore r l rest
+  act-edge edge u e f q =
+      q ∙ ap (λ (v : Unaligned). ends 0 0 (UnalignedMemory v n)) f ∙ ap (λ (k : Look). found es o n al ignore r k rest) (sym e)
+
+  pub act-failed : (x : ℕ) → l ≡ FailedBefore x → p ≡ ends 0 0 (RegistrationFailed x n) → p ≡ found es o n al ignore r l rest
+  act-failed x e q = q ∙ ap (λ (k : Look). found es o n al ignore r k rest) (sym e)
+
+  pub act-stretch : (a b x y m : ℕ) → l ≡ Stretch a b x y → m ≡ (n + 1) % 2 ^ 64
+      → p ≡ asks o 0 0 (record { kind = 2; count = m; from = a; to = b; start = x; end = y; last = 0; alignment = al; ignore = ignore })
+      → p ≡ found es o n al ignore r l rest
+  act-stretch a b x y m e f q =
+      q ∙ ap (λ (k : ℕ). asks o 0 0 (record { kind = 2; count = k; from = a; to = b; start = x; end = y; last = 0; alignment = al; ignore = ignore })) f
+      ∙ ap (λ (k : Look). found es o n al ignore r k rest) (sym e)

@@ -1,0 +1,369 @@
+// What the registrar does next. Nothing here writes.
+ghost use mathlib.Core.Path.{_≡_};
+ghost use Prim.Native.Nat.{ℕ, _*_, _<_, _^_};
+ghost use mathlib.Core.Bool.{not, _&&_};
+ghost use lib.Dec.{eqb, ltb};
+ghost use Rattle.bitmap.specs.Pages.{bitAt};
+ghost use Rattle.layout.specs.Layout.{entriesOf, spans};
+ghost use Rattle.chunks.specs.Chunks.{empty, firstNot};
+ghost use Rattle.registrar_steps.specs.Steps.{seen, idle, askedOf, asks, ends, passes, pieceOf, registerFrom, stretchIn, lookAt, unalignedAt, isNothing, found, allFrom};
+use layout::MemoryRange;
+
+// The request under way. kind: 0 nothing asked, 1 register, else register_all_aligned. The chunks from `from` to before
+// `to` are under way, of them the bytes from `start` to before `end`.
+pub struct Request {
+    pub kind: u64,
+    pub count: u64,
+    pub from: u64,
+    pub to: u64,
+    pub start: u64,
+    pub end: u64,
+    pub last: u64,
+    pub alignment: u64,
+    pub ignore: u64,
+}
+
+// The fields of UnalignedMemory.
+pub struct Unaligned {
+    pub span: MemoryRange,
+    pub edge: MemoryRange,
+    pub vnode: u64,
+    pub node_range: MemoryRange,
+    pub alignment: u64,
+}
+
+// What a call gives: a finished one with the count of its operations.
+pub enum Answer {
+    Done(u64),
+    Register(MemoryRange),
+    RegistrationFailed { address: u64, count: u64 },
+    UnalignedMemory(Unaligned, u64),
+    Refused(u64),
+}
+
+// What is next in a span.
+pub enum Look {
+    Nothing,
+    Edge(MemoryRange),
+    FailedBefore(u64),
+    Stretch {
+        from: u64,
+        to: u64,
+        start: u64,
+        end: u64,
+    },
+}
+
+// The chunks from `from` to before `to` become registered; then the request under way, and what the call gives.
+pub struct Plan {
+    pub from: u64,
+    pub to: u64,
+    pub request: Request,
+    pub answer: Answer,
+}
+
+// Whether chunk c asks for nothing.
+fn is_passed(ram: &[u64], g: u64, registered: &[u64], failed: &[u64], c: u64) -> bool
+    requires { ⌜ c * g < 2 ^ 64 ⌝ }
+    ensures { λ r. ⌜ r ≡ passes (seen g (entriesOf (now (ram .entry))) (now (registered .entry)) (now (failed .entry))) c ⌝ }
+{
+    if bitmap::get(registered, c) {
+        return true;
+    }
+    if bitmap::get(failed, c) {
+        return false;
+    }
+    let ask = chunks::next_ram(ram, g, c, c * g);
+    ask.end <= ask.start
+}
+
+// The first chunk from `from` to before `to` that asks for something.
+fn walk(ram: &[u64], g: u64, registered: &[u64], failed: &[u64], from: u64, to: u64) -> u64
+    requires { ⌜ ((c : ℕ) → c < to → c * g < 2 ^ 64) ⌝ }
+    ensures { λ r. ⌜ r ≡ firstNot (passes (seen g (entriesOf (now (ram .entry))) (now (registered .entry)) (now (failed .entry)))) from to ⌝ }
+{
+    let mut c = from;
+    while c < to {
+        if !is_passed(ram, g, registered, failed, c) {
+            return c;
+        }
+        c += 1;
+    }
+    c
+}
+
+// The operation that a request asks for.
+pub fn asked(offset: u64, q: Request) -> Answer
+    ensures { λ r. ⌜ r ≡ askedOf offset q ⌝ }
+{
+    Answer::Register(MemoryRange {
+        start: std::num::wrapping_add_u64(offset, q.start),
+        end: std::num::wrapping_add_u64(offset, q.end),
+    })
+}
+
+pub fn ask(offset: u64, from: u64, to: u64, q: Request) -> Plan
+    ensures { λ r. ⌜ r ≡ asks offset from to q ⌝ }
+{
+    Plan {
+        from: from,
+        to: to,
+        request: q,
+        answer: asked(offset, q),
+    }
+}
+
+// Nothing asked.
+pub fn idle() -> Request
+    ensures { λ q. ⌜ q ≡ idle ⌝ }
+{
+    Request {
+        kind: 0,
+        count: 0,
+        from: 0,
+        to: 0,
+        start: 0,
+        end: 0,
+        last: 0,
+        alignment: 0,
+        ignore: 0,
+    }
+}
+
+fn end(from: u64, to: u64, answer: Answer) -> Plan
+    ensures { λ r. ⌜ r ≡ ends from to answer ⌝ }
+{
+    Plan {
+        from: from,
+        to: to,
+        request: idle(),
+        answer: answer,
+    }
+}
+
+// From chunk `from` on, of a request that ends before chunk `last` and has asked `count` times.
+pub fn register_from(
+    ram: &[u64],
+    offset: u64,
+    g: u64,
+    registered: &[u64],
+    failed: &[u64],
+    count: u64,
+    from: u64,
+    last: u64,
+) -> Plan
+    ensures { λ r. ⌜ r ≡ registerFrom (seen g (entriesOf (now (ram .entry))) (now (registered .entry)) (now (failed .entry))) offset count from last ⌝ }
+{
+    let to = chunks::earlier(last, chunks::chunk_count(ram, g));
+    let c = walk(ram, g, registered, failed, from, to);
+    if to <= c {
+        return end(from, c, Answer::Done(count));
+    }
+    let address = c * g;
+    if bitmap::get(failed, c) {
+        return end(from, c, Answer::RegistrationFailed { address, count });
+    }
+    ask(
+        offset,
+        from,
+        c,
+        piece(count, c, c + 1, last, chunks::next_ram(ram, g, c, address)),
+    )
+}
+
+// The request for a piece of RAM of the chunks from `from` to before `to`.
+pub fn piece(count: u64, from: u64, to: u64, last: u64, r: MemoryRange) -> Request
+    ensures { λ q. ⌜ q ≡ pieceOf count from to last r ⌝ }
+{
+    Request {
+        kind: 1,
+        count: std::num::wrapping_add_u64(count, 1),
+        from: from,
+        to: to,
+        start: r.start,
+        end: r.end,
+        last: last,
+        alignment: 0,
+        ignore: 0,
+    }
+}
+
+fn is_failed_before(failed: &[u64], c: u64, to: u64) -> bool
+    ensures { λ r. ⌜ r ≡ (ltb c to && bitAt 64 (now (failed .entry)) c) ⌝ }
+{
+    if c < to {
+        bitmap::get(failed, c)
+    } else {
+        false
+    }
+}
+
+// The next unregistered stretch, or a chunk that failed before.
+fn stretch_in(registered: &[u64], failed: &[u64], g: u64, from: u64, to: u64) -> Look
+    requires { ⌜ to * g < 2 ^ 64 ⌝ }
+    ensures { λ r. ⌜ r ≡ stretchIn g (now (registered .entry)) (now (failed .entry)) from to ⌝ }
+{
+    let a = chunks::run_end(registered, failed, true, from, to);
+    if to <= a {
+        return Look::Nothing;
+    }
+    if bitmap::get(failed, a) {
+        return Look::FailedBefore(a * g);
+    }
+    let b = chunks::run_end(registered, failed, false, a, to);
+    if is_failed_before(failed, b, to) {
+        return Look::FailedBefore(b * g);
+    }
+    Look::Stretch {
+        from: a,
+        to: b,
+        start: a * g,
+        end: b * g,
+    }
+}
+
+fn is_barred(ignore: u64, edge: MemoryRange) -> bool
+    ensures { λ r. ⌜ r ≡ (eqb ignore 0 && not (empty edge)) ⌝ }
+{
+    if ignore == 0 {
+        edge.start < edge.end
+    } else {
+        false
+    }
+}
+
+// What is next in a span from chunk c on.
+fn look_at(
+    g: u64,
+    registered: &[u64],
+    failed: &[u64],
+    alignment: u64,
+    ignore: u64,
+    c: u64,
+    r: MemoryRange,
+) -> Look
+    ensures { λ l. ⌜ l ≡ lookAt g (now (registered .entry)) (now (failed .entry)) alignment ignore c r ⌝ }
+{
+    let edge = chunks::unaligned_edge(alignment, r);
+    if is_barred(ignore, edge) {
+        return Look::Edge(edge);
+    }
+    let p = chunks::aligned_subrange(alignment, r);
+    if p.end <= p.start {
+        return Look::Nothing;
+    }
+    stretch_in(
+        registered,
+        failed,
+        g,
+        chunks::later(c, chunks::div(p.start, g)),
+        chunks::div(p.end, g),
+    )
+}
+
+fn unaligned_fields(ram: &[u64], alignment: u64, r: MemoryRange, edge: MemoryRange) -> Unaligned
+    ensures { λ u. ⌜ u ≡ unalignedAt (entriesOf (now (ram .entry))) alignment r edge ⌝ }
+{
+    let e = chunks::entry_with(ram, edge);
+    Unaligned {
+        span: r,
+        edge: edge,
+        vnode: e.vnode,
+        node_range: MemoryRange {
+            start: e.start,
+            end: e.end,
+        },
+        alignment: alignment,
+    }
+}
+
+fn is_nothing(look: Look) -> bool
+    ensures { λ b. ⌜ b ≡ isNothing look ⌝ }
+{
+    match look {
+        Look::Nothing => true,
+        Look::Edge(_) => false,
+        Look::FailedBefore(_) => false,
+        Look::Stretch {
+            from: _,
+            to: _,
+            start: _,
+            end: _,
+        } => false,
+    }
+}
+
+// What is found in a span ends the step.
+fn act(
+    ram: &[u64],
+    offset: u64,
+    count: u64,
+    alignment: u64,
+    ignore: u64,
+    r: MemoryRange,
+    look: Look,
+) -> Plan
+    ensures { λ p. ⌜ p ≡ found (entriesOf (now (ram .entry))) offset count alignment ignore r look (ends 0 0 (Answer.Done count)) ⌝ }
+{
+    match look {
+        Look::Nothing => end(0, 0, Answer::Done(count)),
+        Look::Edge(edge) => end(
+            0,
+            0,
+            Answer::UnalignedMemory(unaligned_fields(ram, alignment, r, edge), count),
+        ),
+        Look::FailedBefore(address) => end(0, 0, Answer::RegistrationFailed { address, count }),
+        Look::Stretch {
+            from,
+            to,
+            start,
+            end,
+        } => ask(
+            offset,
+            0,
+            0,
+            Request {
+                kind: 2,
+                count: std::num::wrapping_add_u64(count, 1),
+                from: from,
+                to: to,
+                start: start,
+                end: end,
+                last: 0,
+                alignment: alignment,
+                ignore: ignore,
+            },
+        ),
+    }
+}
+
+// From chunk c on, of a call that has asked `count` times.
+pub fn all_from(
+    ram: &[u64],
+    offset: u64,
+    g: u64,
+    registered: &[u64],
+    failed: &[u64],
+    count: u64,
+    alignment: u64,
+    ignore: u64,
+    c: u64,
+) -> Plan
+    ensures { λ r. ⌜ r ≡ allFrom (seen g (entriesOf (now (ram .entry))) (now (registered .entry)) (now (failed .entry))) offset count alignment ignore c (spans (entriesOf (now (ram .entry)))) ⌝ }
+{
+    let n = layout::entry_count(ram);
+    let mut i: u64 = 0;
+    while i < n {
+        let at = layout::span_at(ram, i);
+        let span = MemoryRange {
+            start: at.start,
+            end: at.end,
+        };
+        let look = look_at(g, registered, failed, alignment, ignore, c, span);
+        if !is_nothing(look) {
+            return act(ram, offset, count, alignment, ignore, span, look);
+        }
+        i = at.next;
+    }
+    end(0, 0, Answer::Done(count))
+}
