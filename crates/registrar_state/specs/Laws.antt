@@ -1,0 +1,209 @@
+-- Laws of the state block, one for each way that the code goes. Assumes nothing.
+use native.Mathlib.Omega.{arith}
+use native.Mathlib.Decide.{decLt}
+use mathlib.Core.Path.{_≡_, refl, sym, ap, ap₂, _∙_}
+use mathlib.Core.Bool.{Bool, true, false, not, cond, _&&_}
+use mathlib.Core.List.{List, [], _∷_}
+use Prim.Native.Nat.{ℕ, _+_, _-_, _*_, _%_, _^_, _≤_, _<_, min}
+use lib.Dec.{eqb, leb, ltb}
+use lib.ListN.{length, getD, drop, take, set, length-drop}
+use lib.Seq.{take-all}
+use borrow.Author.Tests.{eqb-true, eq-eqb, ne-eqb, lt-ltb, le-ltb, le-leb, lt-leb}
+use Rattle.laws.specs.Refusal.{unless}
+use Rattle.layout.specs.declared.MemoryRange.{MemoryRange}
+use Rattle.layout.specs.declared.MemoryRangeWithNode.{MemoryRangeWithNode}
+use Rattle.layout.specs.Layout.{entriesOf, refusalOf, lastEnd, spans}
+use Rattle.chunks.specs.Chunks.{chunkCount, mapWords, firstChunk, endChunk, isPower, empty, pieces, firstOf}
+use Rattle.chunks.specs.Laws.{not-empty}
+use Rattle.registrar_steps.specs.declared.Request.{Request}
+use Rattle.registrar_steps.specs.declared.Plan.{Plan}
+use Rattle.registrar_steps.specs.Steps.{Seen, seen, asks, ramFrom, pieceOf, registerFrom, allFrom}
+use Rattle.registrar_state.specs.World.{World, requestOf, offsetOf, granularityOf, ramOf, entriesIn, lengthsFit, buildRefusal, callRefusal, chunksFit, registerPlan, allPlan, restOf, hasRest, takenTo, donePlan}
+
+-- ---- the request's words
+
+module _ (a0 a1 a2 a3 a4 a5 a6 a7 a8 : ℕ) where
+  pub saved : (s : List ℕ) → 9 ≤ length s → set (set (set (set (set (set (set (set (set s 0 a0) 1 a1) 2 a2) 3 a3) 4 a4) 5 a5) 6 a6) 7 a7) 8 a8 ≡ a0 ∷ a1 ∷ a2 ∷ a3 ∷ a4 ∷ a5 ∷ a6 ∷ a7 ∷ a8 ∷ drop 9 s
+  saved [] h = absurd (omega arith)
+  saved (x0 ∷ []) h = absurd (omega arith)
+  saved (x0 ∷ x1 ∷ []) h = absurd (omega arith)
+  saved (x0 ∷ x1 ∷ x2 ∷ []) h = absurd (omega arith)
+  saved (x0 ∷ x1 ∷ x2 ∷ x3 ∷ []) h = absurd (omega arith)
+  saved (x0 ∷ x1 ∷ x2 ∷ x3 ∷ x4 ∷ []) h = absurd (omega arith)
+  saved (x0 ∷ x1 ∷ x2 ∷ x3 ∷ x4 ∷ x5 ∷ []) h = absurd (omega arith)
+  saved (x0 ∷ x1 ∷ x2 ∷ x3 ∷ x4 ∷ x5 ∷ x6 ∷ []) h = absurd (omega arith)
+  saved (x0 ∷ x1 ∷ x2 ∷ x3 ∷ x4 ∷ x5 ∷ x6 ∷ x7 ∷ []) h = absurd (omega arith)
+  saved (x0 ∷ x1 ∷ x2 ∷ x3 ∷ x4 ∷ x5 ∷ x6 ∷ x7 ∷ x8 ∷ s) h = refl
+
+-- ---- the layout's words
+
+pub ram-is : (s : List ℕ) (n : ℕ) → length s ≡ 108 → n ≡ min (getD s 11 0) 32 → take (12 + 3 * n - 12) (drop 12 s) ≡ ramOf s
+ram-is s n h e = elim (decLt (getD s 11 0) 32) [
+  | yes d ↦ let q : 12 + 3 * n - 12 ≡ 3 * getD s 11 0 = omega arith in ap (λ (k : ℕ). take k (drop 12 s)) q
+  | no d ↦
+      take-all (12 + 3 * n - 12) (drop 12 s) (omega (arith, length-drop 12 s))
+      ∙ sym (take-all (3 * getD s 11 0) (drop 12 s) (omega (arith, length-drop 12 s)))
+]
+
+-- ---- lengths
+
+module _ (g : ℕ) (es : List MemoryRangeWithNode) (registered failed : List ℕ) (n : ℕ) (e : n ≡ mapWords g es) where
+  pub lengths-both : length registered ≡ n → eqb (length failed) n ≡ lengthsFit g es registered failed
+  lengths-both h = rw (eq-eqb (length registered) (mapWords g es) (h ∙ e)) (ap (eqb (length failed)) e)
+
+  pub lengths-not : (length registered ≡ n → ⊥) → false ≡ lengthsFit g es registered failed
+  lengths-not h = rw (ne-eqb (length registered) (mapWords g es) (λ q. h (q ∙ sym e)))
+
+-- ---- refusals of a call
+
+more-refused : (a b d : Bool) (n rest : ℕ) → n ≡ unless a 4 (unless b 19 (unless d 4 0)) → (n ≡ 0 → ⊥) → n ≡ unless a 4 (unless b 19 (unless d 4 rest))
+more-refused false b d n rest e h = e
+more-refused true false d n rest e h = e
+more-refused true true false n rest e h = e
+more-refused true true true n rest e h = absurd (h e)
+
+none-refused : (a b d : Bool) (n rest : ℕ) → n ≡ unless a 4 (unless b 19 (unless d 4 0)) → n ≡ 0 → (a ≡ true) × (unless a 4 (unless b 19 (unless d 4 rest)) ≡ rest)
+none-refused false b d n rest e h = absurd (omega arith)
+none-refused true false d n rest e h = absurd (omega arith)
+none-refused true true false n rest e h = absurd (omega arith)
+none-refused true true true n rest e h = (refl, refl)
+
+module _ (w : World) where
+  abbrev long : Bool
+  long = eqb (length (w .state)) 108
+
+  abbrev free : Bool
+  free = eqb (requestOf (w .state) .kind) 0
+
+  abbrev lengths : Bool
+  lengths = lengthsFit (granularityOf (w .state)) (entriesIn (w .state)) (w .registered) (w .failed)
+
+  module _ (n : ℕ) (e : n ≡ callRefusal w 0) where
+    -- a call that this refuses is refused so, whatever else is tested
+    pub call-refused : (rest : ℕ) → (n ≡ 0 → ⊥) → n ≡ callRefusal w rest
+    call-refused rest h = more-refused long free lengths n rest e h
+
+    pub call-passed : (rest x : ℕ) → n ≡ 0 → x ≡ rest → x ≡ callRefusal w rest
+    call-passed rest x h q = q ∙ sym (none-refused long free lengths n rest e h .1)
+
+    pub call-long : n ≡ 0 → length (w .state) ≡ 108
+    call-long h = eqb-true _ _ (none-refused long free lengths n 0 e h .0)
+
+module _ (s : List ℕ) (address len e f : ℕ) (he : e ≡ endChunk (granularityOf s) address len) (hf : f ≡ firstChunk (granularityOf s) address) where
+  pub fit-none : e ≤ f → true ≡ chunksFit s address len
+  fit-none h = rw (← he, ← hf, le-leb e f h)
+
+  pub fit-last : (ram : List ℕ) (n : ℕ) → ram ≡ ramOf s → n ≡ chunkCount (granularityOf s) (entriesOf ram) → f < e → leb e n ≡ chunksFit s address len
+  fit-last ram n hr hn h =
+      ap (leb e) (hn ∙ ap (λ (l : List ℕ). chunkCount (granularityOf s) (entriesOf l)) hr) ∙ sym (rw (← he, ← hf, lt-leb e f h))
+
+-- ---- refusals of a build
+
+module _ (w : World) (ram : List ℕ) (o g n : ℕ) (e : n ≡ refusalOf ram) where
+  pub build-unfit : n ≡ 1 → 1 ≡ buildRefusal w ram o g
+  unfolding buildRefusal
+  build-unfit h = rw (eq-eqb (refusalOf ram) 1 (sym e ∙ h))
+
+  module _ (a : n ≡ 1 → ⊥) where
+    pub build-ragged : (o % 4096 ≡ 0 → ⊥) → 1 ≡ buildRefusal w ram o g
+    unfolding buildRefusal
+    build-ragged h = rw (ne-eqb (refusalOf ram) 1 (λ q. a (e ∙ q)), ne-eqb (o % 4096) 0 h)
+
+    module _ (b : o % 4096 ≡ 0) where
+      pub build-high : 2 ^ 64 ≤ o + lastEnd (entriesOf ram) → 1 ≡ buildRefusal w ram o g
+      unfolding buildRefusal
+      build-high h = rw (ne-eqb (refusalOf ram) 1 (λ q. a (e ∙ q)), eq-eqb (o % 4096) 0 b, le-ltb (o + lastEnd (entriesOf ram)) (2 ^ 64) h)
+
+      module _ (d : o + lastEnd (entriesOf ram) < 2 ^ 64) where
+        pub build-edge : (n ≡ 0 → ⊥) → 2 ≡ buildRefusal w ram o g
+        unfolding buildRefusal
+        build-edge h =
+            rw (ne-eqb (refusalOf ram) 1 (λ q. a (e ∙ q)), eq-eqb (o % 4096) 0 b, lt-ltb (o + lastEnd (entriesOf ram)) (2 ^ 64) d, ne-eqb (refusalOf ram) 0 (λ q. h (e ∙ q)))
+
+        module _ (f : n ≡ 0) where
+          -- what is tested last
+          left : ℕ
+          left = unless (leb 4096 g && isPower g) 9 (unless (eqb (length (w .state)) 108) 4 (unless (lengthsFit g (entriesOf ram) (w .registered) (w .failed)) 4 0))
+
+          build-left : left ≡ buildRefusal w ram o g
+          unfolding buildRefusal left
+          build-left =
+              rw (ne-eqb (refusalOf ram) 1 (λ q. a (e ∙ q)), eq-eqb (o % 4096) 0 b, lt-ltb (o + lastEnd (entriesOf ram)) (2 ^ 64) d, eq-eqb (refusalOf ram) 0 (sym e ∙ f))
+
+          pub build-power : (leb 4096 g && isPower g) ≡ false → 9 ≡ buildRefusal w ram o g
+          unfolding left
+          build-power h = sym (rw h) ∙ build-left
+
+          module _ (i : (leb 4096 g && isPower g) ≡ true) where
+            pub build-state : (length (w .state) ≡ 108 → ⊥) → 4 ≡ buildRefusal w ram o g
+            unfolding left
+            build-state h = sym (rw (i, ne-eqb (length (w .state)) 108 h)) ∙ build-left
+
+            pub build-last : length (w .state) ≡ 108 → unless (lengthsFit g (entriesOf ram) (w .registered) (w .failed)) 4 0 ≡ buildRefusal w ram o g
+            unfolding left
+            build-last h = sym (rw (i, eq-eqb (length (w .state)) 108 h)) ∙ build-left
+
+-- ---- plans
+
+module _ (w : World) (ram : List ℕ) (p : Plan) (e : ram ≡ ramOf (w .state)) where
+  abbrev seenOver : List ℕ → Seen
+  seenOver l = seen (granularityOf (w .state)) (entriesOf l) (w .registered) (w .failed)
+
+  pub register-planned : (address len f l : ℕ) → f ≡ firstChunk (granularityOf (w .state)) address → l ≡ endChunk (granularityOf (w .state)) address len
+      → p ≡ registerFrom (seenOver ram) (offsetOf (w .state)) 0 f l → p ≡ registerPlan w address len
+  register-planned address len f l hf hl q =
+      q ∙ ap₂ (registerFrom (seenOver ram) (offsetOf (w .state)) 0) hf hl
+      ∙ ap (λ (r : List ℕ). registerFrom (seenOver r) (offsetOf (w .state)) 0 (firstChunk (granularityOf (w .state)) address) (endChunk (granularityOf (w .state)) address len)) e
+
+  pub all-planned : (al ignore : ℕ) → p ≡ allFrom (seenOver ram) (offsetOf (w .state)) 0 al ignore 0 (spans (entriesOf ram)) → p ≡ allPlan w al ignore
+  all-planned al ignore q = q ∙ ap (λ (r : List ℕ). allFrom (seenOver r) (offsetOf (w .state)) 0 al ignore 0 (spans (entriesOf r))) e
+
+-- ---- an operation done
+
+module _ (s : List ℕ) (q : Request) (e : q ≡ requestOf s) where
+  pub rest-is : (ram : List ℕ) (r : MemoryRange) → ram ≡ ramOf s → r ≡ firstOf (pieces (q .end) ((q .from + 1) * granularityOf s) (spans (entriesOf ram))) → r ≡ restOf s
+  rest-is ram r h f =
+      f ∙ ap₂ (λ (q : Request) (l : List ℕ). ramFrom (granularityOf s) (entriesOf l) (q .from) (q .end)) e h
+
+  module _ (t : Bool) (h : t ≡ hasRest s) where
+    pub taken-none : t ≡ true → q .from ≡ takenTo s
+    taken-none k = ap (λ (q : Request). q .from) e ∙ sym (rw (sym h ∙ k))
+
+    pub taken-all : t ≡ false → q .to ≡ takenTo s
+    taken-all k = ap (λ (q : Request). q .to) e ∙ sym (rw (sym h ∙ k))
+
+pub rest-here : (s : List ℕ) (r : MemoryRange) → getD s 0 0 ≡ 1 → r ≡ restOf s → ltb (r .start) (r .end) ≡ hasRest s
+rest-here s r h e = not-empty r ∙ ap (λ (r : MemoryRange). not (empty r)) e ∙ sym (rw (eq-eqb (getD s 0 0) 1 h))
+
+pub rest-nowhere : (s : List ℕ) → (getD s 0 0 ≡ 1 → ⊥) → false ≡ hasRest s
+rest-nowhere s h = rw (ne-eqb (getD s 0 0) 1 h)
+
+module _ (w : World) (q : Request) (p : Plan) (e : q ≡ requestOf (w .state)) (t : Bool) (h : t ≡ hasRest (w .state)) where
+  on : Request → List ℕ → Plan
+  on q ram =
+      cond (eqb (q .kind) 1)
+      (registerFrom (seen (granularityOf (w .state)) (entriesOf ram) (w .registered) (w .failed)) (offsetOf (w .state)) (q .count) (q .to) (q .last))
+      (allFrom (seen (granularityOf (w .state)) (entriesOf ram) (w .registered) (w .failed)) (offsetOf (w .state)) (q .count) (q .alignment) (q .ignore) (q .to) (spans (entriesOf ram)))
+
+  pub done-rest : (m : Request) (r : MemoryRange) → t ≡ true → r ≡ restOf (w .state) → m ≡ pieceOf (q .count) (q .from) (q .to) (q .last) r
+      → p ≡ asks (offsetOf (w .state)) 0 0 m → p ≡ donePlan w
+  done-rest m r k hr hm hp =
+      hp ∙ ap (asks (offsetOf (w .state)) 0 0) (hm ∙ ap₂ (λ (q : Request) (r : MemoryRange). pieceOf (q .count) (q .from) (q .to) (q .last) r) e hr)
+      ∙ sym (rw (sym h ∙ k))
+
+  module _ (ram : List ℕ) (k : t ≡ false) (f : ram ≡ ramOf (w .state)) where
+    goes-on : on q ram ≡ donePlan w
+    unfolding on
+    goes-on = ap₂ on e f ∙ sym (rw (sym h ∙ k))
+
+    pub done-register : q .kind ≡ 1
+        → p ≡ registerFrom (seen (granularityOf (w .state)) (entriesOf ram) (w .registered) (w .failed)) (offsetOf (w .state)) (q .count) (q .to) (q .last)
+        → p ≡ donePlan w
+    unfolding on
+    done-register d hp = hp ∙ sym (rw (eq-eqb (q .kind) 1 d)) ∙ goes-on
+
+    pub done-all : (q .kind ≡ 1 → ⊥)
+        → p ≡ allFrom (seen (granularityOf (w .state)) (entriesOf ram) (w .registered) (w .failed)) (offsetOf (w .state)) (q .count) (q .alignment) (q .ignore) (q .to) (spans (entriesOf ram))
+        → p ≡ donePlan w
+    unfolding on
+    done-all d hp = hp ∙ sym (rw (ne-eqb (q .kind) 1 d)) ∙ goes-on

@@ -1,0 +1,410 @@
+// The state block of the registrar: what it holds, what refuses a call, and what a call plans.
+ghost use mathlib.Core.Path.{_≡_};
+ghost use Prim.Native.Nat.{_+_, _≤_, min};
+ghost use mathlib.Core.Bool.{_&&_};
+ghost use mathlib.Core.List.{List, []};
+ghost use lib.Dec.{leb};
+ghost use lib.ListN.{length, getD, replicate};
+ghost use Rattle.layout.specs.Layout.{entriesOf};
+ghost use Rattle.chunks.specs.Chunks.{isPower};
+ghost use Rattle.registrar_state.specs.World.{world, simple, flatUnaligned, outcome, requestOf, withRequest, ramOf, builtState, flatOf, lengthsFit, buildRefusal, buildOf, callRefusal, chunksFit, registerRefusal, allRefusal, registerPlan, allPlan, registerOf, allOf, answerRefusal, failedOf, restOf, hasRest, takenTo, donePlan, doneOf};
+use layout::MemoryRange;
+use registrar_steps::Answer;
+use registrar_steps::Plan;
+use registrar_steps::Request;
+use registrar_steps::Unaligned;
+
+// What crosses: 01's number (0 where none), whether a Register of start to before end is asked, the count of a finished
+// call, the address of 23, the fields of 22.
+#[repr(C)]
+pub struct Reply {
+    pub number: u64,
+    pub asked: u64,
+    pub count: u64,
+    pub start: u64,
+    pub end: u64,
+    pub address: u64,
+    pub span_start: u64,
+    pub span_end: u64,
+    pub edge_start: u64,
+    pub edge_end: u64,
+    pub vnode: u64,
+    pub node_start: u64,
+    pub node_end: u64,
+    pub alignment: u64,
+}
+
+fn simple(number: u64, asked: u64, count: u64, start: u64, end: u64, address: u64) -> Reply
+    ensures { λ r. ⌜ r ≡ simple number asked count start end address ⌝ }
+{
+    Reply {
+        number: number,
+        asked: asked,
+        count: count,
+        start: start,
+        end: end,
+        address: address,
+        span_start: 0,
+        span_end: 0,
+        edge_start: 0,
+        edge_end: 0,
+        vnode: 0,
+        node_start: 0,
+        node_end: 0,
+        alignment: 0,
+    }
+}
+
+fn unaligned_reply(u: Unaligned, count: u64) -> Reply
+    ensures { λ r. ⌜ r ≡ flatUnaligned u count ⌝ }
+{
+    let span = u.span;
+    let edge = u.edge;
+    let node = u.node_range;
+    Reply {
+        number: 22,
+        asked: 0,
+        count: count,
+        start: 0,
+        end: 0,
+        address: 0,
+        span_start: span.start,
+        span_end: span.end,
+        edge_start: edge.start,
+        edge_end: edge.end,
+        vnode: u.vnode,
+        node_start: node.start,
+        node_end: node.end,
+        alignment: u.alignment,
+    }
+}
+
+pub fn flatten(a: Answer) -> Reply
+    ensures { λ r. ⌜ r ≡ flatOf a ⌝ }
+{
+    match a {
+        Answer::Done(count) => simple(0, 0, count, 0, 0, 0),
+        Answer::Register(r) => simple(0, 1, 0, r.start, r.end, 0),
+        Answer::RegistrationFailed { address, count } => simple(23, 0, count, 0, 0, address),
+        Answer::UnalignedMemory(u, count) => unaligned_reply(u, count),
+        Answer::Refused(number) => simple(number, 0, 0, 0, 0, 0),
+    }
+}
+
+// The request under way.
+pub fn load(state: &[u64]) -> Request
+    requires { ⌜ length (now state) ≡ 108 ⌝ }
+    ensures { λ r. ⌜ r ≡ requestOf (now (state .entry)) ⌝ }
+{
+    Request {
+        kind: state[0],
+        count: state[1],
+        from: state[2],
+        to: state[3],
+        start: state[4],
+        end: state[5],
+        last: state[6],
+        alignment: state[7],
+        ignore: state[8],
+    }
+}
+
+pub fn save(state: &mut [u64], q: Request)
+    requires { ⌜ length (now state) ≡ 108 ⌝ }
+    ensures { λ _. ⌜ now (state .exit) ≡ withRequest q (now (state .entry)) ⌝ }
+{
+    state[0] = q.kind;
+    state[1] = q.count;
+    state[2] = q.from;
+    state[3] = q.to;
+    state[4] = q.start;
+    state[5] = q.end;
+    state[6] = q.last;
+    state[7] = q.alignment;
+    state[8] = q.ignore;
+}
+
+fn least(a: u64, b: u64) -> u64
+    ensures { λ r. ⌜ r ≡ min a b ⌝ }
+{
+    if a < b { a } else { b }
+}
+
+// The words of the layout.
+fn ram_of(state: &[u64]) -> &[u64]
+    requires { ⌜ length (now state) ≡ 108 ⌝ }
+    ensures { λ r. ⌜ now r ≡ ramOf (now (state .entry)) ⌝ }
+{
+    let n = least(state[11], 32) as usize;
+    let end = 12 + 3 * n;
+    &state[12..end]
+}
+
+fn lengths_fit(ram: &[u64], g: u64, registered: &[u64], failed: &[u64]) -> bool
+    ensures { λ r. ⌜ r ≡ lengthsFit g (entriesOf (now (ram .entry))) (now (registered .entry)) (now (failed .entry)) ⌝ }
+{
+    let words = chunks::map_words(ram, g);
+    if registered.len() as u64 == words {
+        failed.len() as u64 == words
+    } else {
+        false
+    }
+}
+
+fn state_lengths_fit(state: &[u64], registered: &[u64], failed: &[u64]) -> bool
+    requires { ⌜ length (now state) ≡ 108 ⌝ }
+    ensures { λ r. ⌜ r ≡ lengthsFit (getD (now (state .entry)) 10 0) (entriesOf (ramOf (now (state .entry)))) (now (registered .entry)) (now (failed .entry)) ⌝ }
+{
+    lengths_fit(ram_of(state), state[10], registered, failed)
+}
+
+// 4, 19, 4 for a call, else 0.
+fn call_refusal(state: &[u64], registered: &[u64], failed: &[u64]) -> u64
+    ensures { λ r. ⌜ r ≡ callRefusal (world (now (state .entry)) (now (registered .entry)) (now (failed .entry))) 0 ⌝ }
+{
+    if state.len() != 108 {
+        return 4;
+    }
+    if state[0] != 0 {
+        return 19;
+    }
+    if !state_lengths_fit(state, registered, failed) {
+        return 4;
+    }
+    0
+}
+
+// Whether no chunk past the last is touched.
+fn chunks_fit(state: &[u64], address: u64, len: u64) -> bool
+    requires { ⌜ length (now state) ≡ 108 ⌝ }
+    ensures { λ r. ⌜ r ≡ chunksFit (now (state .entry)) address len ⌝ }
+{
+    let g = state[10];
+    let end = chunks::end_chunk(g, address, len);
+    if end <= chunks::first_chunk(g, address) {
+        return true;
+    }
+    end <= chunks::chunk_count(ram_of(state), g)
+}
+
+pub fn register_refusal(
+    state: &[u64],
+    registered: &[u64],
+    failed: &[u64],
+    address: u64,
+    len: u64,
+) -> u64
+    ensures { λ r. ⌜ r ≡ registerRefusal (world (now (state .entry)) (now (registered .entry)) (now (failed .entry))) address len ⌝ }
+{
+    let n = call_refusal(state, registered, failed);
+    if n != 0 {
+        return n;
+    }
+    if chunks_fit(state, address, len) {
+        0
+    } else {
+        9
+    }
+}
+
+fn is_power_from(least: u64, n: u64) -> bool
+    ensures { λ r. ⌜ r ≡ (leb least n && isPower n) ⌝ }
+{
+    if least <= n {
+        chunks::is_power_of_two(n)
+    } else {
+        false
+    }
+}
+
+pub fn all_refusal(
+    state: &[u64],
+    registered: &[u64],
+    failed: &[u64],
+    alignment: u64,
+    ignore: u64,
+) -> u64
+    ensures { λ r. ⌜ r ≡ allRefusal (world (now (state .entry)) (now (registered .entry)) (now (failed .entry))) alignment ignore ⌝ }
+{
+    let n = call_refusal(state, registered, failed);
+    if n != 0 {
+        return n;
+    }
+    if 1 < ignore {
+        return 8;
+    }
+    if is_power_from(state[10], alignment) {
+        0
+    } else {
+        9
+    }
+}
+
+pub fn answer_refusal(state: &[u64], registered: &[u64], failed: &[u64]) -> u64
+    ensures { λ r. ⌜ r ≡ answerRefusal (world (now (state .entry)) (now (registered .entry)) (now (failed .entry))) ⌝ }
+{
+    if state.len() != 108 {
+        return 4;
+    }
+    if !state_lengths_fit(state, registered, failed) {
+        return 4;
+    }
+    if state[0] == 0 {
+        return 21;
+    }
+    0
+}
+
+pub fn build_refusal(
+    ram: &[u64],
+    offset: u64,
+    g: u64,
+    state: &[u64],
+    registered: &[u64],
+    failed: &[u64],
+) -> u64
+    ensures { λ r. ⌜ r ≡ buildRefusal (world (now (state .entry)) (now (registered .entry)) (now (failed .entry))) (now (ram .entry)) offset g ⌝ }
+{
+    let unfit = layout::refusal(ram);
+    if unfit == 1 {
+        return 1;
+    }
+    if offset % 4096 != 0 {
+        return 1;
+    }
+    if 0xffff_ffff_ffff_ffff - offset < layout::last_end(ram) {
+        return 1;
+    }
+    if unfit != 0 {
+        return 2;
+    }
+    if !is_power_from(4096, g) {
+        return 9;
+    }
+    if state.len() != 108 {
+        return 4;
+    }
+    if lengths_fit(ram, g, registered, failed) {
+        0
+    } else {
+        4
+    }
+}
+
+pub fn register_plan(
+    state: &[u64],
+    registered: &[u64],
+    failed: &[u64],
+    address: u64,
+    len: u64,
+) -> Plan
+    requires { ⌜ length (now state) ≡ 108 ⌝ }
+    ensures { λ r. ⌜ r ≡ registerPlan (world (now (state .entry)) (now (registered .entry)) (now (failed .entry))) address len ⌝ }
+{
+    let g = state[10];
+    let first = chunks::first_chunk(g, address);
+    let last = chunks::end_chunk(g, address, len);
+    registrar_steps::register_from(
+        ram_of(state),
+        state[9],
+        g,
+        registered,
+        failed,
+        0,
+        first,
+        last,
+    )
+}
+
+pub fn all_plan(
+    state: &[u64],
+    registered: &[u64],
+    failed: &[u64],
+    alignment: u64,
+    ignore: u64,
+) -> Plan
+    requires { ⌜ length (now state) ≡ 108 ⌝ }
+    ensures { λ r. ⌜ r ≡ allPlan (world (now (state .entry)) (now (registered .entry)) (now (failed .entry))) alignment ignore ⌝ }
+{
+    registrar_steps::all_from(
+        ram_of(state),
+        state[9],
+        state[10],
+        registered,
+        failed,
+        0,
+        alignment,
+        ignore,
+        0,
+    )
+}
+
+// Of a chunk of `register`, its RAM after what was taken.
+fn rest_of(state: &[u64]) -> MemoryRange
+    requires { ⌜ length (now state) ≡ 108 ⌝ }
+    ensures { λ r. ⌜ r ≡ restOf (now (state .entry)) ⌝ }
+{
+    let q = load(state);
+    chunks::next_ram(ram_of(state), state[10], q.from, q.end)
+}
+
+fn has_rest(state: &[u64]) -> bool
+    requires { ⌜ length (now state) ≡ 108 ⌝ }
+    ensures { λ r. ⌜ r ≡ hasRest (now (state .entry)) ⌝ }
+{
+    if state[0] == 1 {
+        let rest = rest_of(state);
+        rest.start < rest.end
+    } else {
+        false
+    }
+}
+
+// The chunks from `from` to before this become registered by an operation done.
+pub fn taken_to(state: &[u64]) -> u64
+    requires { ⌜ length (now state) ≡ 108 ⌝ }
+    ensures { λ r. ⌜ r ≡ takenTo (now (state .entry)) ⌝ }
+{
+    let q = load(state);
+    if has_rest(state) {
+        return q.from;
+    }
+    q.to
+}
+
+pub fn done_plan(state: &[u64], registered: &[u64], failed: &[u64]) -> Plan
+    requires { ⌜ length (now state) ≡ 108 ⌝ }
+    ensures { λ r. ⌜ r ≡ donePlan (world (now (state .entry)) (now (registered .entry)) (now (failed .entry))) ⌝ }
+{
+    let q = load(state);
+    let ram = ram_of(state);
+    let offset = state[9];
+    let g = state[10];
+    if has_rest(state) {
+        let rest = registrar_steps::piece(q.count, q.from, q.to, q.last, rest_of(state));
+        return registrar_steps::ask(offset, 0, 0, rest);
+    }
+    if q.kind == 1 {
+        return registrar_steps::register_from(
+            ram,
+            offset,
+            g,
+            registered,
+            failed,
+            q.count,
+            q.to,
+            q.last,
+        );
+    }
+    registrar_steps::all_from(
+        ram,
+        offset,
+        g,
+        registered,
+        failed,
+        q.count,
+        q.alignment,
+        q.ignore,
+        q.to,
+    )
+}
