@@ -1,0 +1,120 @@
+-- Laws of the entries, one for each way that the code goes. Assumes nothing.
+use native.Mathlib.Omega.{arith}
+use native.Mathlib.Numerals.{add-one}
+use mathlib.Core.Path.{_≡_, sym, ap, ap₂, _∙_}
+use mathlib.Core.Bool.{not, _&&_}
+use mathlib.Core.List.{List, [], _∷_, _++_, append-assoc, append-nil}
+use Prim.Native.Nat.{ℕ, suc, _+_, _-_, _%_, _^_, _≤_, _<_}
+use lib.Dec.{eqb, leb, ltb}
+use lib.ListN.{length, getD, drop, take, set, replicate, drop-of-length-le}
+use lib.Seq.{set-at, take-suc, take-length, length-take-le}
+use borrow.Author.Tests.{eqb-true}
+use Rattle.laws.specs.Refusal.{passed, refused, answered}
+use Rattle.layout.specs.Layout.{entriesOf, refusalOf, lastEnd}
+use Rattle.layout.proofs.Laws.{fit, entries-count}
+use Rattle.chunks.specs.Chunks.{isPower}
+use Rattle.registrar_steps.specs.declared.Request.{Request}
+use Rattle.registrar_steps.specs.declared.Answer.the-variants.{Done, RegistrationFailed, Refused}
+use Rattle.registrar_steps.specs.declared.Plan.{Plan}
+use Rattle.registrar_steps.specs.Steps.{idle}
+use Rattle.registrar_state.specs.declared.Reply.{Reply}
+use Rattle.registrar_state.specs.World.{World, world, Outcome, outcome, requestOf, withRequest, builtState, flatOf, decided, buildRefusal, registerRefusal, allRefusal, marked, carriedOut, answerRefusal, takenTo, afterTaken}
+
+-- ---- a call refused, and one carried out
+
+module _ (w : World) (n x : ℕ) (e : n ≡ x) where
+  pub call-refused : (taken : Outcome) (r : Reply) → (n ≡ 0 → ⊥) → r ≡ flatOf (Refused n) → outcome (w .state) (w .registered) (w .failed) r ≡ decided w x taken
+  call-refused taken r h q =
+      ap (outcome (w .state) (w .registered) (w .failed)) q ∙ refused n x e taken (λ k. record { world = w; reply = flatOf (Refused k) }) h
+
+  pub call-carried : (v : World) (p q : Plan) (s m : List ℕ) (r : Reply) → n ≡ 0 → q ≡ p → s ≡ withRequest (q .request) (v .state)
+      → m ≡ marked (q .from) (q .to) (v .registered) → r ≡ flatOf (q .answer) → outcome s m (v .failed) r ≡ decided w x (carriedOut v p)
+  call-carried v p q s m r h hq hs hm hr =
+      answered n x e (carriedOut v p) (outcome s m (v .failed) r) (λ k. record { world = w; reply = flatOf (Refused k) }) h ((cc) ∙ ap (carriedOut v) hq)
+
+  pub call-answered : (taken : Outcome) (o : Outcome) → n ≡ 0 → o ≡ taken → o ≡ decided w x taken
+  call-answered taken o h q = answered n x e taken o (λ k. record { world = w; reply = flatOf (Refused k) }) h q
+
+-- ---- the state block of a call that is not refused has its length
+
+module _ (w : World) (n : ℕ) (z : n ≡ 0) where
+  pub register-long : (address len : ℕ) → n ≡ registerRefusal w address len → length (w .state) ≡ 108
+  unfolding registerRefusal
+  register-long address len e = eqb-true _ _ (passed (eqb (length (w .state)) 108) 3 _ (sym e ∙ z) .0)
+
+  pub all-long : (al ignore : ℕ) → n ≡ allRefusal w al ignore → length (w .state) ≡ 108
+  unfolding allRefusal
+  all-long al ignore e = eqb-true _ _ (passed (eqb (length (w .state)) 108) 3 _ (sym e ∙ z) .0)
+
+  pub answer-long : n ≡ answerRefusal w → length (w .state) ≡ 108
+  unfolding answerRefusal
+  answer-long e = eqb-true _ _ (passed (eqb (length (w .state)) 108) 3 _ (sym e ∙ z) .0)
+
+-- ---- a build
+
+-- a layout that is taken has 96 words at most, and the state block its length
+pub build-lengths : (w : World) (ram : List ℕ) (o g n : ℕ) → n ≡ 0 → n ≡ buildRefusal w ram o g → (length (w .state) ≡ 108) × (length ram ≤ 96)
+unfolding buildRefusal
+build-lengths w ram o g n z e =
+    let a = passed (not (eqb (refusalOf ram) 1)) 0 _ (sym e ∙ z) in
+    let b = passed (eqb (o % 4096) 0) 0 _ (a .1) in
+    let d = passed (ltb (o + lastEnd (entriesOf ram)) (2 ^ 64)) 0 _ (b .1) in
+    let f = passed (eqb (refusalOf ram) 0) 1 _ (d .1) in
+    let g = passed (leb 4096 g && isPower g) 8 _ (f .1) in
+    let h = passed (eqb (length (w .state)) 108) 3 _ (g .1) in
+    let k = fit ram (eqb-true (refusalOf ram) 0 (f .0)) in
+    (eqb-true _ _ (h .0), omega (arith, k .divided, k .few, entries-count ram))
+
+-- the block while it is filled
+abbrev pub filledTo : List ℕ → ℕ → ℕ → ℕ → List ℕ
+filledTo ram o g i =
+    0 ∷ 0 ∷ 0 ∷ 0 ∷ 0 ∷ 0 ∷ 0 ∷ 0 ∷ 0 ∷ o ∷ g ∷ length (entriesOf ram) ∷ (take i ram ++ replicate (96 - i) 0)
+
+pub filled-none : (s ram : List ℕ) (o g n : ℕ) → length s ≡ 108 → n ≡ length (entriesOf ram) → set (set (set (replicate (length s) 0) 9 o) 10 g) 11 n ≡ filledTo ram o g 0
+filled-none s ram o g n h e =
+    ap₂ (λ (k m : ℕ). set (set (set (replicate k 0) 9 o) 10 g) 11 m) h e
+
+filled-next : (ram : List ℕ) (i : ℕ) → i < length ram → i < 96 → set (take i ram ++ replicate (96 - i) 0) i (getD ram i 0) ≡ take (i + 1) ram ++ replicate (96 - (i + 1)) 0
+filled-next ram i h k =
+    let d : 96 - i ≡ suc (96 - (i + 1)) = omega arith in
+    ap (λ (m : ℕ). set (take i ram ++ replicate m 0) i (getD ram i 0)) d
+    ∙ set-at (take i ram) 0 (replicate (96 - (i + 1)) 0) (getD ram i 0) i (length-take-le i ram (omega arith))
+    ∙ sym (ap (λ (l : List ℕ). l ++ replicate (96 - (i + 1)) 0) (ap (λ (m : ℕ). take m ram) (add-one i) ∙ take-suc ram i 0 h) ∙ append-assoc (take i ram) (getD ram i 0 ∷ []) (replicate (96 - (i + 1)) 0))
+
+pub filled-more : (ram : List ℕ) (o g i : ℕ) → i < length ram → i < 96 → set (filledTo ram o g i) (12 + i) (getD ram i 0) ≡ filledTo ram o g (i + 1)
+filled-more ram o g i h k =
+    let d : 12 + i ≡ suc (suc (suc (suc (suc (suc (suc (suc (suc (suc (suc (suc i))))))))))) = omega arith in
+    ap (λ (m : ℕ). set (filledTo ram o g i) m (getD ram i 0)) d
+    ∙ ap (λ (l : List ℕ). 0 ∷ 0 ∷ 0 ∷ 0 ∷ 0 ∷ 0 ∷ 0 ∷ 0 ∷ 0 ∷ o ∷ g ∷ length (entriesOf ram) ∷ l) (filled-next ram i h k)
+
+pub filled-all : (ram : List ℕ) (o g i : ℕ) → length ram ≤ i → i ≤ length ram → filledTo ram o g i ≡ builtState ram o g
+filled-all ram o g i h k =
+    let d : i ≡ length ram = omega arith in
+    ap (filledTo ram o g) d ∙ ap (λ (l : List ℕ). 0 ∷ 0 ∷ 0 ∷ 0 ∷ 0 ∷ 0 ∷ 0 ∷ 0 ∷ 0 ∷ o ∷ g ∷ length (entriesOf ram) ∷ (l ++ replicate (96 - length ram) 0)) (take-length ram)
+
+-- ---- an operation done: the world that the plan is made for
+
+pub after-is : (w : World) (q : Request) (to : ℕ) (m : List ℕ) → q ≡ requestOf (w .state) → to ≡ takenTo (w .state) → m ≡ marked (q .from) to (w .registered)
+    → world (w .state) m (w .failed) ≡ afterTaken w
+after-is w q to m e t h = ap (λ (l : List ℕ). world (w .state) l (w .failed)) (h ∙ ap₂ (λ (q : Request) (k : ℕ). marked (q .from) k (w .registered)) e t)
+
+-- a map whose words are all cleared
+pub all-clear : (i : ℕ) (m : List ℕ) → i ≡ length m → replicate i 0 ++ drop i m ≡ replicate (length m) 0
+all-clear i m e =
+    rw e (ap (λ (r : List ℕ). replicate (length m) 0 ++ r) (drop-of-length-le m {i = length m} (omega arith)) ∙ append-nil (replicate (length m) 0))
+
+-- an operation failed
+pub failed-made : (w : World) (q i : Request) (s f : List ℕ) (r : Reply) → q ≡ requestOf (w .state) → i ≡ idle → s ≡ withRequest i (w .state)
+    → f ≡ marked (q .from) (q .to) (w .failed) → r ≡ flatOf (RegistrationFailed (q .start) (q .count))
+    → outcome s (w .registered) f r
+    ≡ outcome (withRequest idle (w .state)) (w .registered) (marked (requestOf (w .state) .from) (requestOf (w .state) .to) (w .failed)) (flatOf (RegistrationFailed (requestOf (w .state) .start) (requestOf (w .state) .count)))
+failed-made w q i s f r hq hi hs hf hr =
+    let made : Request → Request → Outcome = λ i q. outcome (withRequest i (w .state)) (w .registered) (marked (q .from) (q .to) (w .failed)) (flatOf (RegistrationFailed (q .start) (q .count))) in
+    let first : outcome s (w .registered) f r ≡ made i q = cc in
+    first ∙ ap₂ made hi hq
+
+-- a build
+pub build-made : (w : World) (ram : List ℕ) (o g : ℕ) (s m f : List ℕ) (r : Reply) → s ≡ builtState ram o g → m ≡ replicate (length (w .registered)) 0
+    → f ≡ replicate (length (w .failed)) 0 → r ≡ flatOf (Done 0)
+    → outcome s m f r ≡ outcome (builtState ram o g) (replicate (length (w .registered)) 0) (replicate (length (w .failed)) 0) (flatOf (Done 0))
+build-made w ram o g s m f r hs hm hf hr = cc
