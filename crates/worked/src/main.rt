@@ -3,6 +3,7 @@ use fault::PageFaultAction;
 use libc::STDOUT_FILENO;
 use permissions::GuestVtl;
 use permissions::HvMapGpaFlags;
+use registrar_state::Reply;
 
 fn say(text: &[u8]) {
     io::write_all(STDOUT_FILENO, text);
@@ -78,6 +79,59 @@ fn p7() {
     say(b"\n");
 }
 
+fn say_reply(r: Reply) {
+    if r.asked == 1 {
+        say(b"Register ");
+        say_number(r.start);
+        say(b" to ");
+        say_number(r.end);
+        return;
+    }
+    say_number(r.number);
+    if r.number == 22 {
+        say(b" for ");
+        say_number(r.edge_start);
+        say(b" to ");
+        say_number(r.edge_end);
+    }
+    say(b" after ");
+    say_number(r.count);
+}
+
+fn p8() {
+    let ram: [u64; 6] = [0, 65536, 0, 131072, 163840, 1];
+    let mut state = [0u64; 108];
+    let mut registered = [0u64; 1];
+    let mut failed = [0u64; 1];
+    registrar::registrar_build(&ram, 0, 65536, &mut state, &mut registered, &mut failed);
+    say(b"P8 address 0 length 0: ");
+    say_reply(registrar::registrar_register(&mut state, &mut registered, &mut failed, 0, 0));
+    say(b"; address 4096 length 0: ");
+    say_reply(registrar::registrar_register(&mut state, &mut registered, &mut failed, 4096, 0));
+    say(b", done: ");
+    say_reply(registrar::registrar_answer_done(&mut state, &mut registered, &mut failed));
+    say(b"\n");
+}
+
+fn p9() {
+    let ram: [u64; 6] = [0, 65536, 0, 131072, 163840, 1];
+    let mut state = [0u64; 108];
+    let mut registered = [0u64; 1];
+    let mut failed = [0u64; 1];
+    registrar::registrar_build(&ram, 0, 65536, &mut state, &mut registered, &mut failed);
+    say(b"P9 align all to 65536: ");
+    say_reply(registrar::registrar_register_all_aligned(
+        &mut state,
+        &mut registered,
+        &mut failed,
+        65536,
+        0,
+    ));
+    say(b", done: ");
+    say_reply(registrar::registrar_answer_done(&mut state, &mut registered, &mut failed));
+    say(b"\n");
+}
+
 fn p10() {
     let ram: [u64; 6] = [0, 65536, 0, 131072, 163840, 1];
     let private: [u8; 5] = [0xf7, 0xf9, 0, 0, 0xff];
@@ -122,5 +176,7 @@ fn main() {
     p1();
     p6();
     p7();
+    p8();
+    p9();
     p10();
 }
