@@ -49,7 +49,7 @@ unfoldable pub ordered : ℕ → List MemoryRangeWithNode → Bool
 ordered from [] = true
 ordered from (e ∷ es) = follows from e && ordered (e .end) es
 
--- refusal 2: each start and end is a multiple of 32,768
+-- refusal 2 where a start or an end lies off the bounds of eight pages
 abbrev pub onBytes : MemoryRangeWithNode → Bool
 onBytes e = eqb (e .start % 0x8000) 0 && eqb (e .end % 0x8000) 0
 
@@ -78,7 +78,7 @@ mapLen es = lastEnd es / 0x8000
 abbrev pub range : ℕ → ℕ → MemoryRange
 range s e = record { start = s; end = e }
 
--- "Registrar": touching entries are one span
+-- "Registrar": entries that meet are joined
 unfoldable pub spansFrom : ℕ → ℕ → List MemoryRangeWithNode → List MemoryRange
 spansFrom s e [] = range s e ∷ []
 spansFrom s e (f ∷ fs) = cond (eqb (f .start) e) (spansFrom s (f .end) fs) (range s e ∷ spansFrom (f .start) (f .end) fs)
