@@ -1,7 +1,7 @@
 // Bitmaps lent by the caller: GuestMemoryBitmap, a bit for each page in bytes, and the registrar's Bitmap, a bit for
 // each chunk in 64-bit words.
 ghost use mathlib.Core.Path.{_≡_};
-ghost use Prim.Native.Nat.{_+_, _*_, _/_, min};
+ghost use Prim.Native.Nat.{_+_, _*_, _/_};
 ghost use Rattle.laws.specs.Bools.{digit};
 ghost use Rattle.laws.specs.Ranges.{between};
 ghost use Rattle.bitmap.specs.Pages.{bitAt, written, one, words, whole, edges, bit, tally};
@@ -13,18 +13,12 @@ fn full(state: bool) -> u8
     if state { 255 } else { 0 }
 }
 
-fn least(a: u64, b: u64) -> u64
-    ensures { λ r. ⌜ r ≡ min a b ⌝ }
-{
-    if a < b { a } else { b }
-}
-
 // The bytes from `from` to before `to`, each stored whole; nothing past the end.
 pub fn fill_bytes(map: &mut [u8], from: u64, to: u64, state: bool)
     ensures { λ _. ⌜ now (map .exit) ≡ written 8 (words 8 from to) state (now (map .entry)) ⌝ }
 {
     let v = full(state);
-    let stop = least(to, map.len() as u64) as usize;
+    let stop = numbers::least(to, map.len() as u64) as usize;
     let mut i = from as usize;
     while i < stop {
         map[i] = v;

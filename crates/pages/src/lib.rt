@@ -1,7 +1,7 @@
 // Page lists as they cross, 8-byte little-endian numbers, and runs of ascending neighbours in a table of pages.
 ghost use mathlib.Core.Path.{_≡_};
 ghost use mathlib.Core.Bool.{true, false};
-ghost use Prim.Native.Nat.{_+_, min};
+ghost use Prim.Native.Nat.{_+_};
 ghost use lib.Dec.{eqb};
 ghost use lib.ListN.{length, getD, drop};
 ghost use Rattle.pages.specs.Pages.{numberOf, pagesOf, isLong, among, repeats, isRagged, steps, strict};
@@ -137,19 +137,6 @@ pub fn has_repeat(list: &[u8]) -> bool
     is_repeated(list)
 }
 
-fn word_at(t: &[u64], i: u64) -> u64
-    ensures { λ r. ⌜ r ≡ getD (now (t .entry)) i 0 ⌝ }
-{
-    let k = i as usize;
-    if k < t.len() { t[k] } else { 0 }
-}
-
-fn least(a: u64, b: u64) -> u64
-    ensures { λ r. ⌜ r ≡ min a b ⌝ }
-{
-    if a < b { a } else { b }
-}
-
 fn is_neighbour(p: u64, q: u64) -> bool
     ensures { λ r. ⌜ r ≡ eqb q (p + 1) ⌝ }
 {
@@ -163,12 +150,12 @@ pub fn run_at(t: &[u64], n: u64, from: u64) -> PageRun
     if n <= from {
         return PageRun { first: 0, count: 0 };
     }
-    let first = word_at(t, from);
-    let stop = least(n, t.len() as u64);
+    let first = numbers::word_at(t, from);
+    let stop = numbers::least(n, t.len() as u64);
     let mut p = first;
     let mut i = from + 1;
     while i < stop {
-        let q = word_at(t, i);
+        let q = numbers::word_at(t, i);
         if !is_neighbour(p, q) {
             return PageRun {
                 first: first,

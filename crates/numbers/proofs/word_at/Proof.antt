@@ -1,9 +1,9 @@
--- `pages::word_at` meets its contract. Assumes nothing.
+-- `numbers::word_at` meets its contract. Assumes nothing.
 use borrow.Author.Needs.{needs}
 use mathlib.Core.Path.{sym}
 use lib.ListN.{List·getD-eq-default}
-use Rattle.pages.proofs.word_at.Statement.{statement}
-use Rattle.pages.proofs.word_at.Tie as tie
+use Rattle.numbers.proofs.word_at.Statement.{statement}
+use Rattle.numbers.proofs.word_at.Tie as tie
 
 mul-result : tie.Need-mul-result
 mul-result c = search needs

@@ -1,0 +1,24 @@
+// Choices and reads of words that several crates make.
+ghost use mathlib.Core.Path.{_≡_};
+ghost use Prim.Native.Nat.{min, max};
+ghost use lib.ListN.{getD};
+
+pub fn least(a: u64, b: u64) -> u64
+    ensures { λ r. ⌜ r ≡ min a b ⌝ }
+{
+    if a < b { a } else { b }
+}
+
+pub fn greatest(a: u64, b: u64) -> u64
+    ensures { λ r. ⌜ r ≡ max a b ⌝ }
+{
+    if a < b { b } else { a }
+}
+
+// A word of a run: 0 past the end.
+pub fn word_at(t: &[u64], i: u64) -> u64
+    ensures { λ r. ⌜ r ≡ getD (now (t .entry)) i 0 ⌝ }
+{
+    let k = i as usize;
+    if k < t.len() { t[k] } else { 0 }
+}
