@@ -19,7 +19,7 @@ chunkCount g es = up (lastEnd es) g
 abbrev pub mapWords : ℕ → List MemoryRangeWithNode → ℕ
 mapWords g es = up (chunkCount g es) 64
 
--- a request, widened to pages and then to chunks: its first chunk, and the one after its last
+-- the chunks of a request, by way of its pages: the first, and the one after the last
 abbrev pub firstChunk : ℕ → ℕ → ℕ
 firstChunk g address = address / 4096 / (g / 4096)
 
@@ -67,7 +67,7 @@ abbrev pub alignedPart : ℕ → MemoryRange → MemoryRange
 alignedPart al r =
     cond (ltb (up (r .start) al) (r .end / al)) (range (up (r .start) al * al) (r .end / al * al)) (range 0 0)
 
--- its unaligned edge: the whole if nothing aligned is left, else front, else back, else none
+-- the edge that 22 names: the span where it has no aligned part, or what lies before that part, or what lies after it; empty where there is none
 abbrev pub edgeOf : ℕ → MemoryRange → MemoryRange
 edgeOf al r =
     cond (empty (alignedPart al r)) r

@@ -251,3 +251,9 @@ module _ (m : List ℕ) where
   pub set-more : (a b c : ℕ) (l l′ : List ℕ) → a ≤ b → b ≤ c → l ≡ written 64 (between a b) true m → l′ ≡ written 64 (between b c) true l → l′ ≡ written 64 (between a c) true m
   set-more a b c l l′ h k e f =
       f ∙ ap (written 64 (between b c) true) e ∙ both 64 (between b c) (between a b) (between a c) true m (λ q. between-join a b c q h k)
+
+-- a map has no chunk past its last word
+pub set-stop : (m : List ℕ) (from to stop : ℕ) → stop ≡ min to (length m * 64) → written 64 (between from stop) true m ≡ written 64 (between from to) true m
+set-stop m from to stop e =
+    same-chunks 64 (between from stop) (between from to) true m
+    (λ j k l d. between-same from stop (j * 64 + k) from to (j * 64 + k) (λ x y. (x, omega arith)) (λ x y. (x, omega arith)))

@@ -92,18 +92,6 @@ fn chunk_end(c: u64, g: u64, end: u64) -> u64
     (c + 1) * g
 }
 
-pub fn later(a: u64, b: u64) -> u64
-    ensures { λ r. ⌜ r ≡ max a b ⌝ }
-{
-    if a < b { b } else { a }
-}
-
-pub fn earlier(a: u64, b: u64) -> u64
-    ensures { λ r. ⌜ r ≡ min a b ⌝ }
-{
-    if a < b { a } else { b }
-}
-
 // The first RAM of chunk c from address x on: empty where there is none.
 pub fn next_ram(ram: &[u64], g: u64, c: u64, x: u64) -> MemoryRange
     ensures { λ r. ⌜ r ≡ firstOf (pieces x ((c + 1) * g) (spans (entriesOf (now (ram .entry))))) ⌝ }
@@ -112,7 +100,7 @@ pub fn next_ram(ram: &[u64], g: u64, c: u64, x: u64) -> MemoryRange
     let mut i: u64 = 0;
     while i < n {
         let span = layout::span_at(ram, i);
-        let start = later(x, span.start);
+        let start = numbers::greatest(x, span.start);
         let end = chunk_end(c, g, span.end);
         if start < end {
             return MemoryRange {
@@ -123,13 +111,6 @@ pub fn next_ram(ram: &[u64], g: u64, c: u64, x: u64) -> MemoryRange
         i = span.next;
     }
     MemoryRange { start: 0, end: 0 }
-}
-
-fn word_at(map: &[u64], i: u64) -> u64
-    ensures { λ r. ⌜ r ≡ getD (now (map .entry)) i 0 ⌝ }
-{
-    let k = i as usize;
-    if k < map.len() { map[k] } else { 0 }
 }
 
 fn full(set: bool) -> u64
@@ -155,8 +136,8 @@ fn is_alike(registered: &[u64], failed: &[u64], set: bool, c: u64) -> bool
 fn is_alike_word(registered: &[u64], failed: &[u64], set: bool, i: u64) -> bool
     ensures { λ r. ⌜ r ≡ (eqb (getD (now (failed .entry)) i 0) 0 && eqb (getD (now (registered .entry)) i 0) (digit set * (2 ^ 64 - 1))) ⌝ }
 {
-    if word_at(failed, i) == 0 {
-        word_at(registered, i) == full(set)
+    if numbers::word_at(failed, i) == 0 {
+        numbers::word_at(registered, i) == full(set)
     } else {
         false
     }
@@ -211,7 +192,7 @@ pub fn aligned_subrange(alignment: u64, r: MemoryRange) -> MemoryRange
     }
 }
 
-// The unaligned edge of a span: the whole if nothing aligned is left, else front, else back, else none.
+// The edge that UnalignedMemory names: empty where a span has none.
 pub fn unaligned_edge(alignment: u64, r: MemoryRange) -> MemoryRange
     ensures { λ p. ⌜ p ≡ edgeOf alignment r ⌝ }
 {
@@ -289,12 +270,20 @@ fn set_some(map: &mut [u64], c: u64, to: u64) -> u64
     c + 1
 }
 
+// The chunk after the last that is before `to` and of a map of `len` words.
+fn stop_at(len: u64, to: u64) -> u64
+    ensures { λ r. ⌜ r ≡ min to (len * 64) ⌝ }
+{
+    if to / 64 < len { to } else { len * 64 }
+}
+
 // The chunks from `from` to before `to`, set; nothing past the end.
 pub fn set_chunks(map: &mut [u64], from: u64, to: u64)
     ensures { λ _. ⌜ now (map .exit) ≡ written 64 (between from to) true (now (map .entry)) ⌝ }
 {
+    let stop = stop_at(map.len() as u64, to);
     let mut c = from;
-    while c < to {
-        c = set_some(map, c, to);
+    while c < stop {
+        c = set_some(map, c, stop);
     }
 }

@@ -84,23 +84,12 @@ pub extern "C" fn registrar_register_all_aligned(
 ) -> Reply
     ensures { λ r. ⌜ outcome (now (state .exit)) (now (registered .exit)) (now (failed .exit)) r ≡ allOf (world (now (state .entry)) (now (registered .entry)) (now (failed .entry))) alignment «ignore_unaligned_ranges» ⌝ }
 {
-    let n = registrar_state::all_refusal(
-        state,
-        registered,
-        failed,
-        alignment,
-        ignore_unaligned_ranges,
-    );
+    let ignore = ignore_unaligned_ranges;
+    let n = registrar_state::all_refusal(state, registered, failed, alignment, ignore);
     if n != 0 {
         return registrar_state::flatten(Answer::Refused(n));
     }
-    let p = registrar_state::all_plan(
-        state,
-        registered,
-        failed,
-        alignment,
-        ignore_unaligned_ranges,
-    );
+    let p = registrar_state::all_plan(state, registered, failed, alignment, ignore);
     chunks::set_chunks(registered, p.from, p.to);
     registrar_state::save(state, p.request);
     let answer = p.answer;

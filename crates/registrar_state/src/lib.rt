@@ -124,18 +124,12 @@ pub fn save(state: &mut [u64], q: Request)
     state[8] = q.ignore;
 }
 
-fn least(a: u64, b: u64) -> u64
-    ensures { λ r. ⌜ r ≡ min a b ⌝ }
-{
-    if a < b { a } else { b }
-}
-
 // The words of the layout.
 fn ram_of(state: &[u64]) -> &[u64]
     requires { ⌜ length (now state) ≡ 108 ⌝ }
     ensures { λ r. ⌜ now r ≡ ramOf (now (state .entry)) ⌝ }
 {
-    let n = least(state[11], 32) as usize;
+    let n = numbers::least(state[11], 32) as usize;
     let end = 12 + 3 * n;
     &state[12..end]
 }

@@ -4,7 +4,7 @@ use native.Mathlib.Decide.{decLt}
 use mathlib.Core.Path.{_≡_, refl, sym, ap, ap₂, _∙_}
 use mathlib.Core.Bool.{Bool, true, false, not, cond, _&&_}
 use mathlib.Core.List.{List}
-use Prim.Native.Nat.{ℕ, _+_, _-_, _*_, _/_, _%_, _^_, _≤_, _<_, min, max}
+use Prim.Native.Nat.{ℕ, _+_, _-_, _*_, _/_, _^_, _≤_, _<_, min, max}
 use native.Mathlib.Nat.{mul-le-mul-right}
 use lib.Dec.{eqb, ltb}
 use lib.ListN.{length, getD, drop}
@@ -18,12 +18,13 @@ use Rattle.layout.proofs.Laws.{entries-at, entries-past, spans-end}
 use Rattle.chunks.specs.Chunks.{chunkCount, empty, firstNot, alike, alignedPart, edgeOf}
 use Rattle.chunks.specs.Laws.{below-up, span-step}
 use Rattle.chunks.specs.Scan.{first-to}
+use Rattle.registrar_steps.specs.declared.Request.{Request}
 use Rattle.registrar_steps.specs.declared.Unaligned.{Unaligned}
 use Rattle.registrar_steps.specs.declared.Answer.the-variants.{Done, RegistrationFailed, UnalignedMemory}
 use Rattle.registrar_steps.specs.declared.Look.{Look}
 use Rattle.registrar_steps.specs.declared.Look.the-variants.{Nothing, Edge, FailedBefore, Stretch}
 use Rattle.registrar_steps.specs.declared.Plan.{Plan}
-use Rattle.registrar_steps.specs.Steps.{Seen, asks, ends, ramFrom, passes, pieceOf, registerFrom, stretchIn, lookAt, unalignedAt, isNothing, found, allFrom}
+use Rattle.registrar_steps.specs.Steps.{Seen, asks, ends, ramFrom, passes, pieceOf, registerFrom, stretchIn, lookAt, unalignedAt, stretchOf, isNothing, found, allFrom}
 
 -- ---- register, from a chunk on
 
@@ -173,9 +174,5 @@ module _ (es : List MemoryRangeWithNode) (o n al ignore : ℕ) (r : MemoryRange)
   pub act-failed : (x : ℕ) → l ≡ FailedBefore x → p ≡ ends 0 0 (RegistrationFailed x n) → p ≡ found es o n al ignore r l rest
   act-failed x e q = q ∙ ap (λ (k : Look). found es o n al ignore r k rest) (sym e)
 
-  pub act-stretch : (a b x y m : ℕ) → l ≡ Stretch a b x y → m ≡ (n + 1) % 2 ^ 64
-      → p ≡ asks o 0 0 (record { kind = 2; count = m; from = a; to = b; start = x; end = y; last = 0; alignment = al; ignore = ignore })
-      → p ≡ found es o n al ignore r l rest
-  act-stretch a b x y m e f q =
-      q ∙ ap (λ (k : ℕ). asks o 0 0 (record { kind = 2; count = k; from = a; to = b; start = x; end = y; last = 0; alignment = al; ignore = ignore })) f
-      ∙ ap (λ (k : Look). found es o n al ignore r k rest) (sym e)
+  pub act-stretch : (a b x y : ℕ) (q : Request) → l ≡ Stretch a b x y → q ≡ stretchOf n al ignore a b x y → p ≡ asks o 0 0 q → p ≡ found es o n al ignore r l rest
+  act-stretch a b x y q e f h = h ∙ ap (asks o 0 0) f ∙ ap (λ (k : Look). found es o n al ignore r k rest) (sym e)

@@ -6,7 +6,7 @@ ghost use lib.Dec.{eqb, ltb};
 ghost use Rattle.bitmap.specs.Pages.{bitAt};
 ghost use Rattle.layout.specs.Layout.{entriesOf, spans};
 ghost use Rattle.chunks.specs.Chunks.{empty, firstNot};
-ghost use Rattle.registrar_steps.specs.Steps.{seen, idle, askedOf, asks, ends, passes, pieceOf, registerFrom, stretchIn, lookAt, unalignedAt, isNothing, found, allFrom};
+ghost use Rattle.registrar_steps.specs.Steps.{seen, idle, askedOf, asks, ends, passes, pieceOf, registerFrom, stretchIn, lookAt, unalignedAt, stretchOf, isNothing, found, allFrom};
 use layout::MemoryRange;
 
 // The request under way. kind: 0 nothing asked, 1 register, else register_all_aligned. The chunks from `from` to before
@@ -154,13 +154,14 @@ pub fn register_from(
 ) -> Plan
     ensures { λ r. ⌜ r ≡ registerFrom (seen g (entriesOf (now (ram .entry))) (now (registered .entry)) (now (failed .entry))) offset count from last ⌝ }
 {
-    let to = chunks::earlier(last, chunks::chunk_count(ram, g));
+    let to = numbers::least(last, chunks::chunk_count(ram, g));
     let c = walk(ram, g, registered, failed, from, to);
     if to <= c {
         return end(from, c, Answer::Done(count));
     }
     let address = c * g;
-    if bitmap::get(failed, c) {
+    let failed_before = bitmap::get(failed, c);
+    if failed_before {
         return end(from, c, Answer::RegistrationFailed { address, count });
     }
     ask(
@@ -256,7 +257,7 @@ fn look_at(
         registered,
         failed,
         g,
-        chunks::later(c, chunks::div(p.start, g)),
+        numbers::greatest(c, chunks::div(p.start, g)),
         chunks::div(p.end, g),
     )
 }
@@ -293,6 +294,31 @@ fn is_nothing(look: Look) -> bool
     }
 }
 
+// The request for the chunks from `from` to before `to`.
+fn stretch_request(
+    count: u64,
+    alignment: u64,
+    ignore: u64,
+    from: u64,
+    to: u64,
+    start: u64,
+    end: u64,
+) -> Request
+    ensures { λ q. ⌜ q ≡ stretchOf count alignment ignore from to start end ⌝ }
+{
+    Request {
+        kind: 2,
+        count: std::num::wrapping_add_u64(count, 1),
+        from: from,
+        to: to,
+        start: start,
+        end: end,
+        last: 0,
+        alignment: alignment,
+        ignore: ignore,
+    }
+}
+
 // What is found in a span ends the step.
 fn act(
     ram: &[u64],
@@ -322,17 +348,7 @@ fn act(
             offset,
             0,
             0,
-            Request {
-                kind: 2,
-                count: std::num::wrapping_add_u64(count, 1),
-                from: from,
-                to: to,
-                start: start,
-                end: end,
-                last: 0,
-                alignment: alignment,
-                ignore: ignore,
-            },
+            stretch_request(count, alignment, ignore, from, to, start, end),
         ),
     }
 }

@@ -25,8 +25,8 @@ loop-holds c = refl
 span-at-requires : tie.Need-span-at-requires Inv-loop μ-loop
 span-at-requires c κs = search needs
 
-later-requires : tie.Need-later-requires Inv-loop μ-loop
-later-requires c κs = search needs
+greatest-requires : tie.Need-greatest-requires Inv-loop μ-loop
+greatest-requires c κs = search needs
 
 chunk-end-requires : tie.Need-chunk-end-requires Inv-loop μ-loop
 chunk-end-requires c κs = search needs
@@ -37,7 +37,7 @@ returns c =
     let a = c .before .before .before .before .before .before .before .before .args in
     let h = c .before .before .before .before .before .loop in
     let s = c .before .before .before .span-at in
-    sym (laws.pieces-hit es (a .x) ((a .c + 1) * a .g) (h .i) (s .result) (omega arith) (s .ensures) (c .before .before .later .result) (c .before .chunk-end .result) (c .before .before .later .ensures) (c .before .chunk-end .ensures) (c .if1 .taken)) ∙ h .inv
+    sym (laws.pieces-hit es (a .x) ((a .c + 1) * a .g) (h .i) (s .result) (omega arith) (s .ensures) (c .before .before .greatest .result) (c .before .chunk-end .result) (c .before .before .greatest .ensures) (c .before .chunk-end .ensures) (c .if1 .taken)) ∙ h .inv
 
 loop-less : tie.Need-loop-less Inv-loop μ-loop
 loop-less c =
@@ -53,7 +53,7 @@ loop-again c =
     let a = c .before .before .before .before .before .before .before .before .args in
     let h = c .before .before .before .before .before .loop in
     let s = c .before .before .before .span-at in
-    ap firstOf (sym (laws.pieces-miss es (a .x) ((a .c + 1) * a .g) (h .i) (s .result) (omega arith) (s .ensures) (c .before .before .later .result) (c .before .chunk-end .result) (c .before .before .later .ensures) (c .before .chunk-end .ensures) (c .if1 .left))) ∙ h .inv
+    ap firstOf (sym (laws.pieces-miss es (a .x) ((a .c + 1) * a .g) (h .i) (s .result) (omega arith) (s .ensures) (c .before .before .greatest .result) (c .before .chunk-end .result) (c .before .before .greatest .ensures) (c .before .chunk-end .ensures) (c .if1 .left))) ∙ h .inv
 
 returns-2 : tie.Need-returns-2 Inv-loop μ-loop
 returns-2 c =
@@ -71,7 +71,7 @@ next-ram-spec =
     entry-count-requires
     loop-holds
     span-at-requires
-    later-requires
+    greatest-requires
     chunk-end-requires
     returns
     loop-less

@@ -29,8 +29,8 @@ end-requires-3 c κs = search needs
 enum-known-look-3 : tie.Need-enum-known-look-3
 enum-known-look-3 c = search needs
 
-wrapping-add-u64-requires : tie.Need-wrapping-add-u64-requires
-wrapping-add-u64-requires c κs = search needs
+stretch-request-requires : tie.Need-stretch-request-requires
+stretch-request-requires c κs = search needs
 
 ask-requires : tie.Need-ask-requires
 ask-requires c κs = search needs
@@ -45,7 +45,7 @@ returns-3 : tie.Need-returns-3
 returns-3 c = laws.act-failed (entriesOf (c .before .before .before .before .before .args .ram .now)) (c .before .before .before .before .before .args .offset) (c .before .before .before .before .before .args .count) (c .before .before .before .before .before .args .alignment) (c .before .before .before .before .before .args .ignore) (c .before .before .before .before .before .args .r) (c .before .before .before .before .before .args .look) _ (c .end3 .result) _ (c .before .before .look2 .given .1) (c .end3 .ensures)
 
 returns-4 : tie.Need-returns-4
-returns-4 c = laws.act-stretch (entriesOf (c .before .before .before .before .before .before .args .ram .now)) (c .before .before .before .before .before .before .args .offset) (c .before .before .before .before .before .before .args .count) (c .before .before .before .before .before .before .args .alignment) (c .before .before .before .before .before .before .args .ignore) (c .before .before .before .before .before .before .args .r) (c .before .before .before .before .before .before .args .look) _ (c .ask .result) _ _ _ _ (c .before .wrapping-add-u64 .result) (c .before .before .before .look3 .given .1) (c .before .wrapping-add-u64 .ensures) (c .ask .ensures)
+returns-4 c = laws.act-stretch (entriesOf (c .before .before .before .before .before .before .args .ram .now)) (c .before .before .before .before .before .before .args .offset) (c .before .before .before .before .before .before .args .count) (c .before .before .before .before .before .before .args .alignment) (c .before .before .before .before .before .before .args .ignore) (c .before .before .before .before .before .before .args .r) (c .before .before .before .before .before .before .args .look) _ (c .ask .result) _ _ _ _ (c .before .stretch-request .result) (c .before .before .before .look3 .given .1) (c .before .stretch-request .ensures) (c .ask .ensures)
 
 pub act-spec : {M : Type 1} → statement M
 act-spec =
@@ -59,7 +59,7 @@ act-spec =
     enum-known-look-2
     end-requires-3
     enum-known-look-3
-    wrapping-add-u64-requires
+    stretch-request-requires
     ask-requires
     returns
     returns-2

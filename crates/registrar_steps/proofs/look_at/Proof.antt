@@ -26,8 +26,8 @@ returns-2 c = laws.look-nothing (c .before .before .before .before .before .befo
 div-requires : tie.Need-div-requires
 div-requires c κs = search needs
 
-later-requires : tie.Need-later-requires
-later-requires c κs = search needs
+greatest-requires : tie.Need-greatest-requires
+greatest-requires c κs = search needs
 
 div-requires-2 : tie.Need-div-requires-2
 div-requires-2 c κs = search needs
@@ -38,7 +38,7 @@ stretch-in-requires c κs = omega (arith, chunk-laws.quotient-fits (c .before .b
 returns-3 : tie.Need-returns-3
 returns-3 c =
     let p = c .before .before .before .before .before .before .aligned-subrange in
-    laws.look-in (c .before .before .before .before .before .before .before .before .before .before .before .before .args .g) (c .before .before .before .before .before .before .before .before .before .before .before .before .args .registered .now) (c .before .before .before .before .before .before .before .before .before .before .before .before .args .failed .now) (c .before .before .before .before .before .before .before .before .before .before .before .before .args .alignment) (c .before .before .before .before .before .before .before .before .before .before .before .before .args .ignore) (c .before .before .before .before .before .before .before .before .before .before .before .before .args .c) (c .before .before .before .before .before .before .before .before .before .before .before .before .args .r) (c .before .before .before .before .before .before .before .before .before .unaligned-edge .result) (c .before .before .before .before .before .before .before .before .before .unaligned-edge .ensures) (sym (c .before .before .before .before .before .before .before .before .is-barred .ensures) ∙ c .before .before .before .before .before .before .before .if1 .left) (p .result) (p .ensures) (c .before .before .later .result) (c .before .div2 .result) (c .stretch-in .result) (c .before .before .before .before .if2 .left) (c .before .before .later .ensures ∙ ap (max (c .before .before .before .before .before .before .before .before .before .before .before .before .args .c)) (c .before .before .before .div .ensures)) (c .before .div2 .ensures) (c .stretch-in .ensures)
+    laws.look-in (c .before .before .before .before .before .before .before .before .before .before .before .before .args .g) (c .before .before .before .before .before .before .before .before .before .before .before .before .args .registered .now) (c .before .before .before .before .before .before .before .before .before .before .before .before .args .failed .now) (c .before .before .before .before .before .before .before .before .before .before .before .before .args .alignment) (c .before .before .before .before .before .before .before .before .before .before .before .before .args .ignore) (c .before .before .before .before .before .before .before .before .before .before .before .before .args .c) (c .before .before .before .before .before .before .before .before .before .before .before .before .args .r) (c .before .before .before .before .before .before .before .before .before .unaligned-edge .result) (c .before .before .before .before .before .before .before .before .before .unaligned-edge .ensures) (sym (c .before .before .before .before .before .before .before .before .is-barred .ensures) ∙ c .before .before .before .before .before .before .before .if1 .left) (p .result) (p .ensures) (c .before .before .greatest .result) (c .before .div2 .result) (c .stretch-in .result) (c .before .before .before .before .if2 .left) (c .before .before .greatest .ensures ∙ ap (max (c .before .before .before .before .before .before .before .before .before .before .before .before .args .c)) (c .before .before .before .div .ensures)) (c .before .div2 .ensures) (c .stretch-in .ensures)
 
 pub look-at-spec : {M : Type 1} → statement M
 look-at-spec =
@@ -50,7 +50,7 @@ look-at-spec =
     aligned-subrange-requires
     returns-2
     div-requires
-    later-requires
+    greatest-requires
     div-requires-2
     stretch-in-requires
     returns-3)

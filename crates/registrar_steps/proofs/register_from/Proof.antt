@@ -12,20 +12,20 @@ use Rattle.registrar_steps.proofs.register_from.Tie as tie
 chunk-count-requires : tie.Need-chunk-count-requires
 chunk-count-requires c κs = search needs
 
-earlier-requires : tie.Need-earlier-requires
-earlier-requires c κs = search needs
+least-requires : tie.Need-least-requires
+least-requires c κs = search needs
 
 walk-requires : tie.Need-walk-requires
-walk-requires c κs = λ k h. laws.walk-fits (c .before .before .before .before .before .args .ram .now) (c .before .before .before .before .before .args .g) (c .before .before .before .before .before .args .last) (c .before .chunk-count .result) (c .earlier .result) k (λ j. c .before .before .before .before .shared-slice-known .given j .fits) (c .before .chunk-count .ensures) (c .earlier .ensures) h
+walk-requires c κs = λ k h. laws.walk-fits (c .before .before .before .before .before .args .ram .now) (c .before .before .before .before .before .args .g) (c .before .before .before .before .before .args .last) (c .before .chunk-count .result) (c .least .result) k (λ j. c .before .before .before .before .shared-slice-known .given j .fits) (c .before .chunk-count .ensures) (c .least .ensures) h
 
 end-requires : tie.Need-end-requires
 end-requires c κs = search needs
 
 returns : tie.Need-returns
-returns c = laws.register-done (seen (c .before .before .before .before .before .before .before .before .args .g) (entriesOf (c .before .before .before .before .before .before .before .before .args .ram .now)) (c .before .before .before .before .before .before .before .before .args .registered .now) (c .before .before .before .before .before .before .before .before .args .failed .now)) (c .before .before .before .before .before .before .before .before .args .offset) (c .before .before .before .before .before .before .before .before .args .count) (c .before .before .before .before .before .before .before .before .args .from) (c .before .before .before .before .before .before .before .before .args .last) (c .before .before .before .earlier .result) (c .before .before .walk .result) (c .end .result) (c .before .before .before .earlier .ensures ∙ ap (min (c .before .before .before .before .before .before .before .before .args .last)) (c .before .before .before .before .chunk-count .ensures)) (c .before .before .walk .ensures) (c .before .if1 .taken) (c .end .ensures)
+returns c = laws.register-done (seen (c .before .before .before .before .before .before .before .before .args .g) (entriesOf (c .before .before .before .before .before .before .before .before .args .ram .now)) (c .before .before .before .before .before .before .before .before .args .registered .now) (c .before .before .before .before .before .before .before .before .args .failed .now)) (c .before .before .before .before .before .before .before .before .args .offset) (c .before .before .before .before .before .before .before .before .args .count) (c .before .before .before .before .before .before .before .before .args .from) (c .before .before .before .before .before .before .before .before .args .last) (c .before .before .before .least .result) (c .before .before .walk .result) (c .end .result) (c .before .before .before .least .ensures ∙ ap (min (c .before .before .before .before .before .before .before .before .args .last)) (c .before .before .before .before .chunk-count .ensures)) (c .before .before .walk .ensures) (c .before .if1 .taken) (c .end .ensures)
 
 mul-address : tie.Need-mul-address
-mul-address c = omega (arith, laws.walk-fits (c .before .before .before .before .before .before .before .args .ram .now) (c .before .before .before .before .before .before .before .args .g) (c .before .before .before .before .before .before .before .args .last) (c .before .before .before .chunk-count .result) (c .before .before .earlier .result) (c .before .walk .result) (λ j. c .before .before .before .before .before .before .shared-slice-known .given j .fits) (c .before .before .before .chunk-count .ensures) (c .before .before .earlier .ensures) (c .if1 .left))
+mul-address c = omega (arith, laws.walk-fits (c .before .before .before .before .before .before .before .args .ram .now) (c .before .before .before .before .before .before .before .args .g) (c .before .before .before .before .before .before .before .args .last) (c .before .before .before .chunk-count .result) (c .before .before .least .result) (c .before .walk .result) (λ j. c .before .before .before .before .before .before .shared-slice-known .given j .fits) (c .before .before .before .chunk-count .ensures) (c .before .before .least .ensures) (c .if1 .left))
 
 get-requires : tie.Need-get-requires
 get-requires c κs = search needs
@@ -34,7 +34,7 @@ end-requires-2 : tie.Need-end-requires-2
 end-requires-2 c κs = search needs
 
 returns-2 : tie.Need-returns-2
-returns-2 c = laws.register-failed (seen (c .before .before .before .before .before .before .before .before .before .before .args .g) (entriesOf (c .before .before .before .before .before .before .before .before .before .before .args .ram .now)) (c .before .before .before .before .before .before .before .before .before .before .args .registered .now) (c .before .before .before .before .before .before .before .before .before .before .args .failed .now)) (c .before .before .before .before .before .before .before .before .before .before .args .offset) (c .before .before .before .before .before .before .before .before .before .before .args .count) (c .before .before .before .before .before .before .before .before .before .before .args .from) (c .before .before .before .before .before .before .before .before .before .before .args .last) (c .before .before .before .before .before .earlier .result) (c .before .before .before .before .walk .result) (c .end2 .result) (c .before .before .before .before .before .earlier .ensures ∙ ap (min (c .before .before .before .before .before .before .before .before .before .before .args .last)) (c .before .before .before .before .before .before .chunk-count .ensures)) (c .before .before .before .before .walk .ensures) (c .before .before .before .if1 .left) (sym (c .before .before .get .ensures) ∙ c .before .if2 .taken) (c .end2 .ensures)
+returns-2 c = laws.register-failed (seen (c .before .before .before .before .before .before .before .before .before .before .args .g) (entriesOf (c .before .before .before .before .before .before .before .before .before .before .args .ram .now)) (c .before .before .before .before .before .before .before .before .before .before .args .registered .now) (c .before .before .before .before .before .before .before .before .before .before .args .failed .now)) (c .before .before .before .before .before .before .before .before .before .before .args .offset) (c .before .before .before .before .before .before .before .before .before .before .args .count) (c .before .before .before .before .before .before .before .before .before .before .args .from) (c .before .before .before .before .before .before .before .before .before .before .args .last) (c .before .before .before .before .before .least .result) (c .before .before .before .before .walk .result) (c .end2 .result) (c .before .before .before .before .before .least .ensures ∙ ap (min (c .before .before .before .before .before .before .before .before .before .before .args .last)) (c .before .before .before .before .before .before .chunk-count .ensures)) (c .before .before .before .before .walk .ensures) (c .before .before .before .if1 .left) (sym (c .before .before .get .ensures) ∙ c .before .if2 .taken) (c .end2 .ensures)
 
 add-piece : tie.Need-add-piece
 add-piece c = search needs
@@ -52,14 +52,14 @@ returns-3 : tie.Need-returns-3
 returns-3 c =
     let q = c .before .piece in
     let r = c .before .before .next-ram in
-    laws.register-asks (seen (c .before .before .before .before .before .before .before .before .before .before .before .before .args .g) (entriesOf (c .before .before .before .before .before .before .before .before .before .before .before .before .args .ram .now)) (c .before .before .before .before .before .before .before .before .before .before .before .before .args .registered .now) (c .before .before .before .before .before .before .before .before .before .before .before .before .args .failed .now)) (c .before .before .before .before .before .before .before .before .before .before .before .before .args .offset) (c .before .before .before .before .before .before .before .before .before .before .before .before .args .count) (c .before .before .before .before .before .before .before .before .before .before .before .before .args .from) (c .before .before .before .before .before .before .before .before .before .before .before .before .args .last) (c .before .before .before .before .before .before .before .earlier .result) (c .before .before .before .before .before .before .walk .result) (c .ask .result) (c .before .before .before .before .before .before .before .earlier .ensures ∙ ap (min (c .before .before .before .before .before .before .before .before .before .before .before .before .args .last)) (c .before .before .before .before .before .before .before .before .chunk-count .ensures)) (c .before .before .before .before .before .before .walk .ensures) (c .before .before .before .before .before .if1 .left) (sym (c .before .before .before .before .get .ensures) ∙ c .before .before .before .if2 .left) (c .ask .ensures ∙ ap (asks (c .before .before .before .before .before .before .before .before .before .before .before .before .args .offset) (c .before .before .before .before .before .before .before .before .before .before .before .before .args .from) (c .before .before .before .before .before .before .walk .result)) (q .ensures ∙ ap (pieceOf (c .before .before .before .before .before .before .before .before .before .before .before .before .args .count) (c .before .before .before .before .before .before .walk .result) (c .before .before .before .before .before .before .walk .result + 1) (c .before .before .before .before .before .before .before .before .before .before .before .before .args .last)) (r .ensures)))
+    laws.register-asks (seen (c .before .before .before .before .before .before .before .before .before .before .before .before .args .g) (entriesOf (c .before .before .before .before .before .before .before .before .before .before .before .before .args .ram .now)) (c .before .before .before .before .before .before .before .before .before .before .before .before .args .registered .now) (c .before .before .before .before .before .before .before .before .before .before .before .before .args .failed .now)) (c .before .before .before .before .before .before .before .before .before .before .before .before .args .offset) (c .before .before .before .before .before .before .before .before .before .before .before .before .args .count) (c .before .before .before .before .before .before .before .before .before .before .before .before .args .from) (c .before .before .before .before .before .before .before .before .before .before .before .before .args .last) (c .before .before .before .before .before .before .before .least .result) (c .before .before .before .before .before .before .walk .result) (c .ask .result) (c .before .before .before .before .before .before .before .least .ensures ∙ ap (min (c .before .before .before .before .before .before .before .before .before .before .before .before .args .last)) (c .before .before .before .before .before .before .before .before .chunk-count .ensures)) (c .before .before .before .before .before .before .walk .ensures) (c .before .before .before .before .before .if1 .left) (sym (c .before .before .before .before .get .ensures) ∙ c .before .before .before .if2 .left) (c .ask .ensures ∙ ap (asks (c .before .before .before .before .before .before .before .before .before .before .before .before .args .offset) (c .before .before .before .before .before .before .before .before .before .before .before .before .args .from) (c .before .before .before .before .before .before .walk .result)) (q .ensures ∙ ap (pieceOf (c .before .before .before .before .before .before .before .before .before .before .before .before .args .count) (c .before .before .before .before .before .before .walk .result) (c .before .before .before .before .before .before .walk .result + 1) (c .before .before .before .before .before .before .before .before .before .before .before .before .args .last)) (r .ensures)))
 
 pub register-from-spec : {M : Type 1} → statement M
 register-from-spec =
     tie.close
     (tie.spec
     chunk-count-requires
-    earlier-requires
+    least-requires
     walk-requires
     end-requires
     returns
