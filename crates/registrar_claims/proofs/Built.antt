@@ -1,0 +1,126 @@
+-- What the claims ask of a registrar holds of every one from its build on, whatever calls are made and however they are answered. Assumes nothing.
+use native.Mathlib.Omega.{arith}
+use mathlib.Core.Path.{_≡_, refl, sym, ap, ap₂, _∙_}
+use mathlib.Core.Logic.{⊎-elim}
+use mathlib.Core.Bool.{Bool, true, false, not, cond}
+use mathlib.Core.List.{List, [], _∷_}
+use Prim.Native.Nat.{ℕ, _+_, _-_, _*_, _%_, _^_, _≤_, _<_}
+use lib.Dec.{eqb, ltb}
+use lib.ListN.{length, getD, drop, take, replicate, length-replicate, getD-replicate, List·getD-eq-default}
+use lib.Seq.{drop-drop, take-at, getD-drop}
+use borrow.Author.Tests.{eqb-true, eq-eqb}
+use Rattle.laws.specs.Bools.{lt-or-le}
+use Rattle.laws.specs.Refusal.{passed}
+use Rattle.layout.specs.declared.MemoryRangeWithNode.{MemoryRangeWithNode}
+use Rattle.layout.specs.Layout.{entriesOf, ordered, refusalOf, lastEnd}
+use Rattle.layout.proofs.Laws.{fit, Fit, entries-count}
+use Rattle.registrar_steps.specs.declared.Request.{Request}
+use Rattle.registrar_steps.specs.declared.Answer.the-variants.{Done, Refused}
+use Rattle.registrar_steps.specs.declared.Plan.{Plan}
+use Rattle.registrar_steps.specs.Steps.{idle}
+use Rattle.registrar_state.specs.World.{World, world, Outcome, outcome, requestOf, withRequest, entriesIn, builtState, flatOf, decided, buildRefusal, buildOf, registerRefusal, allRefusal, carriedOut, registerPlan, allPlan, registerOf, allOf, answerRefusal, failedOf, takenTo, donePlan, afterTaken, doneOf}
+use Rattle.registrar_claims.specs.Runs.{Call, Build, RegisterRange, RegisterAll, AnswerDone, AnswerFailed, give, follow}
+use Rattle.registrar_claims.specs.Whole.{wholeAll, wholeRegister, Words, Match}
+use Rattle.registrar_claims.proofs.Steps.{marked-words, register-is-whole}
+use Rattle.registrar_claims.proofs.Stretches.{all-is-whole}
+
+pub record Sound (w : World) : Type 0 where
+  pub in-order : ordered 0 (entriesIn (w .state)) ≡ true
+  pub words : Words (w .registered)
+
+-- ---- the layout stands in the words that no request uses
+
+entries-of : List ℕ → List MemoryRangeWithNode
+entries-of tail = entriesOf (take (3 * getD tail 2 0) (drop 3 tail))
+
+entries-tail : (s : List ℕ) → entriesIn s ≡ entries-of (drop 9 s)
+unfolding entries-of
+entries-tail s =
+    ap₂ (λ (n : ℕ) (l : List ℕ). entriesOf (take (3 * n) l)) (sym (getD-drop 9 s 2 0)) (sym (drop-drop 3 9 s))
+
+kept-order : (s t : List ℕ) → drop 9 t ≡ drop 9 s → ordered 0 (entriesIn s) ≡ true → ordered 0 (entriesIn t) ≡ true
+kept-order s t e h = ap (ordered 0) (entries-tail t ∙ ap entries-of e ∙ sym (entries-tail s)) ∙ h
+
+-- ---- a build
+
+entries-built : (ram : List ℕ) (o g : ℕ) → Fit ram → entriesIn (builtState ram o g) ≡ entriesOf ram
+entries-built ram o g k =
+    let n : length ram ≡ 3 * length (entriesOf ram) = omega (arith, k .divided, entries-count ram) in
+    ap entriesOf (take-at ram (replicate (96 - length ram) 0) (3 * length (entriesOf ram)) n)
+
+zeros-words : (n : ℕ) → Words (replicate n 0)
+zeros-words n j = ⊎-elim inside outside (lt-or-le j n)
+  where
+    inside : j < n → getD (replicate n 0) j 0 < 2 ^ 64
+    inside l = rw (getD-replicate {A = ℕ} n j 0 0 l) (omega arith)
+
+    outside : n ≤ j → getD (replicate n 0) j 0 < 2 ^ 64
+    outside l = rw (List·getD-eq-default {A = ℕ} (replicate n 0) 0 {n = j} (omega (arith, length-replicate {A = ℕ} n 0))) (omega arith)
+
+pub built-sound : (w : World) (ram : List ℕ) (o g : ℕ) → buildRefusal w ram o g ≡ 0 → Sound (buildOf w ram o g .world)
+unfolding buildOf buildRefusal
+built-sound w ram o g z =
+    let a = passed (not (eqb (refusalOf ram) 1)) 0 _ z in
+    let b = passed (eqb (o % 4096) 0) 0 _ (a .1) in
+    let d = passed (ltb (o + lastEnd (entriesOf ram)) (2 ^ 64)) 0 _ (b .1) in
+    let e = passed (eqb (refusalOf ram) 0) 1 _ (d .1) in
+    let k : Fit ram = fit ram (eqb-true (refusalOf ram) 0 (e .0)) in
+    rw (eq-eqb (buildRefusal w ram o g) 0 z)
+    (record { in-order = ap (ordered 0) (entries-built ram o g k) ∙ k .in-order; words = zeros-words (length (w .registered)) })
+
+build-sound : (w : World) (ram : List ℕ) (o g : ℕ) → Sound w → Sound (buildOf w ram o g .world)
+unfolding buildOf
+build-sound w ram o g h = go (eqb (buildRefusal w ram o g) 0) refl (built-sound w ram o g)
+  where
+    go : (t : Bool) → eqb (buildRefusal w ram o g) 0 ≡ t → (buildRefusal w ram o g ≡ 0 → Sound (decided w (buildRefusal w ram o g) (outcome (builtState ram o g) (replicate (length (w .registered)) 0) (replicate (length (w .failed)) 0) (flatOf (Done 0))) .world))
+        → Sound (decided w (buildRefusal w ram o g) (outcome (builtState ram o g) (replicate (length (w .registered)) 0) (replicate (length (w .failed)) 0) (flatOf (Done 0))) .world)
+    go true e k = k (eqb-true _ _ e)
+    go false e k = rw e h
+
+-- ---- the other calls
+
+decided-sound : (w : World) (n : ℕ) (o : Outcome) → Sound w → Sound (o .world) → Sound (decided w n o .world)
+decided-sound w n o h k = go (eqb n 0)
+  where
+    go : (t : Bool) → Sound (cond t o (record { world = w; reply = flatOf (Refused n) }) .world)
+    go true = k
+    go false = h
+
+carried-sound : (w : World) (p : Plan) → Sound w → Sound (carriedOut w p .world)
+carried-sound w p h =
+    record { in-order = kept-order (w .state) (withRequest (p .request) (w .state)) refl (h .in-order); words = marked-words (p .from) (p .to) (w .registered) (h .words) }
+
+pub call-sound : (w : World) (x : Call) → Sound w → Sound (give w x .world)
+unfolding give registerOf allOf doneOf failedOf
+call-sound w (Build ram o g) h = build-sound w ram o g h
+call-sound w (RegisterRange a l) h = decided-sound w (registerRefusal w a l) (carriedOut w (registerPlan w a l)) h (carried-sound w (registerPlan w a l) h)
+call-sound w (RegisterAll al ig) h = decided-sound w (allRefusal w al ig) (carriedOut w (allPlan w al ig)) h (carried-sound w (allPlan w al ig) h)
+call-sound w AnswerDone h =
+    let q : Request = requestOf (w .state) in
+    let v : Sound (afterTaken w) = record { in-order = h .in-order; words = marked-words (q .from) (takenTo (w .state)) (w .registered) (h .words) } in
+    decided-sound w (answerRefusal w) (carriedOut (afterTaken w) (donePlan (afterTaken w))) h (carried-sound (afterTaken w) (donePlan (afterTaken w)) v)
+call-sound w AnswerFailed h =
+    decided-sound w (answerRefusal w) _ h (record { in-order = kept-order (w .state) (withRequest idle (w .state)) refl (h .in-order); words = h .words })
+
+-- any list of calls and answers
+unfoldable pub after : World → List Call → World
+after w [] = w
+after w (x ∷ xs) = after (give w x .world) xs
+
+pub always-sound : (xs : List Call) (w : World) → Sound w → Sound (after w xs)
+unfolding after
+always-sound [] w h = h
+always-sound (x ∷ xs) w h = always-sound xs (give w x .world) (call-sound w x h)
+
+-- THE CLAIMS of the whole call, of a registrar from its build on
+pub register-always-whole : (w : World) (ram : List ℕ) (o g : ℕ) (xs : List Call) (address len : ℕ) (bs : List Bool) → let v : World = after (buildOf w ram o g .world) xs in
+    buildRefusal w ram o g ≡ 0 → registerRefusal v address len ≡ 0 → Match 0 (follow (registerOf v address len) bs) (wholeRegister v address len bs)
+register-always-whole w ram o g xs address len bs z n =
+    let s = always-sound xs (buildOf w ram o g .world) (built-sound w ram o g z) in
+    register-is-whole (after (buildOf w ram o g .world) xs) address len bs n (s .in-order) (s .words)
+
+pub all-always-whole : (w : World) (ram : List ℕ) (o g : ℕ) (xs : List Call) (al ig : ℕ) (bs : List Bool) → let v : World = after (buildOf w ram o g .world) xs in
+    buildRefusal w ram o g ≡ 0 → allRefusal v al ig ≡ 0 → Match 0 (follow (allOf v al ig) bs) (wholeAll v al ig bs)
+all-always-whole w ram o g xs al ig bs z n =
+    let s = always-sound xs (buildOf w ram o g .world) (built-sound w ram o g z) in
+    all-is-whole (after (buildOf w ram o g .world) xs) al ig bs n (s .in-order)

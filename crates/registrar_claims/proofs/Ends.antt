@@ -1,0 +1,189 @@
+-- Every request ends: each answer that is taken lowers the number `left`, and nothing refused changes it. Assumes nothing.
+use native.Mathlib.Omega.{arith}
+use mathlib.Core.Path.{_≡_, refl, sym}
+use mathlib.Core.Logic.{_⊎_, inl, inr, ⊎-elim}
+use mathlib.Core.Bool.{Bool, true, false, not, cond, _&&_}
+use mathlib.Core.List.{List, [], _∷_}
+use Prim.Native.Nat.{ℕ, zero, suc, _+_, _-_, _*_, _/_, _^_, _≤_, _<_, min, max}
+use native.Mathlib.Nat.{mul-le-mul-right, suc-mul}
+use lib.Dec.{eqb, ltb}
+use lib.ListN.{length}
+use borrow.Author.Tests.{eqb-false, eq-eqb, ne-eqb, ltb-true, leb-false, not-true}
+use Rattle.laws.specs.Bools.{and-right, false≢true}
+use Rattle.laws.specs.Refusal.{passed}
+use Rattle.bitmap.specs.Pages.{bitAt}
+use Rattle.layout.specs.declared.MemoryRange.{MemoryRange}
+use Rattle.layout.specs.Layout.{spans}
+use Rattle.chunks.specs.Chunks.{chunkCount, empty, part, pieces, firstOf, firstNotOf, firstNot, alike, alignedPart, edgeOf}
+use Rattle.chunks.specs.Scan.{first-step, first-from}
+use Rattle.registrar_steps.specs.declared.Request.{Request}
+use Rattle.registrar_steps.specs.declared.Answer.the-variants.{Done, RegistrationFailed}
+use Rattle.registrar_steps.specs.declared.Look.{Look}
+use Rattle.registrar_steps.specs.declared.Look.the-variants.{Nothing, Edge, FailedBefore, Stretch}
+use Rattle.registrar_steps.specs.Steps.{Seen, asks, ends, more, ramFrom, passes, pieceOf, registerFrom, stretchIn, lookAt, found, allFrom}
+use Rattle.registrar_state.specs.World.{World, requestOf, offsetOf, granularityOf, entriesIn, seenIn, lengthsFit, answerRefusal, failedOf, restOf, hasRest, donePlan, afterTaken, doneOf}
+use Rattle.registrar_claims.specs.Runs.{leftOf, left}
+
+module _ (P : ℕ → Bool) where
+  first-of-not : (n c : ℕ) → firstNotOf P c n < c + n → P (firstNotOf P c n) ≡ false
+  unfolding firstNotOf
+  first-of-not zero c h = absurd (omega arith)
+  first-of-not (suc n) c h = go (P c) refl h (first-of-not n (suc c))
+    where
+      go : (t : Bool) → P c ≡ t → cond t (firstNotOf P (suc c) n) c < c + suc n → (firstNotOf P (suc c) n < suc c + n → P (firstNotOf P (suc c) n) ≡ false)
+          → P (cond t (firstNotOf P (suc c) n) c) ≡ false
+      go true e h more = more (omega arith)
+      go false e h more = e
+
+  -- where it stops before the end, P does not hold
+  pub first-not : (c e : ℕ) → firstNot P c e < e → P (firstNot P c e) ≡ false
+  first-not c e h = first-of-not (e - c) c (omega (arith, first-from P c e))
+
+-- a plan that asks goes past chunk c
+abbrev Past : ℕ → Request → Type 0
+Past c q = (q .kind ≡ 0) ⊎ (c < q .to)
+
+register-past : (s : Seen) (o n c last : ℕ) → Past c (registerFrom s o n c last .request)
+unfolding registerFrom
+register-past s o n c last =
+    let e : ℕ = min last (chunkCount (s .granularity) (s .entries)) in
+    let t : ℕ = firstNot (passes s) c e in
+    go t (first-from (passes s) c e) (ltb t e) (bitAt 64 (s .failed) t)
+  where
+    go : (t : ℕ) → c ≤ t → (x y : Bool)
+        → Past c (cond x (cond y (ends c t (RegistrationFailed (t * s .granularity) n)) (asks o c t (pieceOf n t (t + 1) last (ramFrom (s .granularity) (s .entries) t (t * s .granularity))))) (ends c t (Done n)) .request)
+    go t h false y = inl refl
+    go t h true true = inl refl
+    go t h true false = inr (omega arith)
+
+-- a stretch is not empty
+module _ (registered failed : List ℕ) where
+  not-alike : (x y : Bool) → (not x && y) ≡ false → x ≡ false → (not x && not y) ≡ true
+  not-alike x y h e = go x y e h
+    where
+      go : (x y : Bool) → x ≡ false → (not x && y) ≡ false → (not x && not y) ≡ true
+      go true y e h = false≢true (sym e)
+      go false true e h = false≢true (sym h)
+      go false false e h = refl
+
+  stretch-past : (c e : ℕ) → let a : ℕ = firstNot (alike registered failed true) c e in a < e → bitAt 64 failed a ≡ false → c < firstNot (alike registered failed false) a e
+  stretch-past c e h f =
+      let a : ℕ = firstNot (alike registered failed true) c e in
+      let n : alike registered failed true a ≡ false = first-not (alike registered failed true) c e h in
+      let y : alike registered failed false a ≡ true = not-alike (bitAt 64 failed a) (bitAt 64 registered a) n f in
+      let q = first-step (alike registered failed false) a e h y in
+      omega (arith, q, first-from (alike registered failed false) (a + 1) e, first-from (alike registered failed true) c e)
+
+-- what is found at or after chunk c ends after it
+abbrev StretchPast : ℕ → Look → Type 0
+StretchPast c Nothing = Unit {0}
+StretchPast c (Edge e) = Unit {0}
+StretchPast c (FailedBefore x) = Unit {0}
+StretchPast c (Stretch a b x y) = c < b
+
+module _ (g : ℕ) (registered failed : List ℕ) (c d e : ℕ) (l : d ≤ c) where
+  abbrev a : ℕ
+  a = firstNot (alike registered failed true) c e
+
+  abbrev b : ℕ
+  b = firstNot (alike registered failed false) a e
+
+  in-past : StretchPast d (stretchIn g registered failed c e)
+  in-past = go (ltb a e) refl (bitAt 64 failed a) refl (ltb b e && bitAt 64 failed b)
+    where
+      go : (x : Bool) → ltb a e ≡ x → (y : Bool) → bitAt 64 failed a ≡ y → (z : Bool)
+          → StretchPast d (cond x (cond y (FailedBefore (a * g)) (cond z (FailedBefore (b * g)) (Stretch a b (a * g) (b * g)))) Nothing)
+      go false hx y hy z = tt
+      go true hx true hy z = tt
+      go true hx false hy true = tt
+      go true hx false hy false = omega (arith, stretch-past registered failed c e (ltb-true a e hx) hy)
+
+look-past : (g : ℕ) (registered failed : List ℕ) (al ignore c : ℕ) (r : MemoryRange) → StretchPast c (lookAt g registered failed al ignore c r)
+unfolding lookAt
+look-past g registered failed al ignore c r =
+    let p : MemoryRange = alignedPart al r in
+    go (eqb ignore 0 && not (empty (edgeOf al r))) (empty p) (in-past g registered failed (max c (p .start / g)) c (p .end / g) (omega arith))
+  where
+    go : (x y : Bool) → StretchPast c (stretchIn g registered failed (max c (alignedPart al r .start / g)) (alignedPart al r .end / g))
+        → StretchPast c (cond x (Edge (edgeOf al r)) (cond y Nothing (stretchIn g registered failed (max c (alignedPart al r .start / g)) (alignedPart al r .end / g))))
+    go true y h = tt
+    go false true h = tt
+    go false false h = h
+
+all-past : (s : Seen) (o n al ignore c : ℕ) (rs : List MemoryRange) → Past c (allFrom s o n al ignore c rs .request)
+unfolding allFrom
+all-past s o n al ignore c [] = inl refl
+all-past s o n al ignore c (r ∷ rs) =
+    go (lookAt (s .granularity) (s .registered) (s .failed) al ignore c r) (look-past (s .granularity) (s .registered) (s .failed) al ignore c r) (all-past s o n al ignore c rs)
+  where
+    go : (l : Look) → StretchPast c l → Past c (allFrom s o n al ignore c rs .request) → Past c (found (s .entries) o n al ignore r l (allFrom s o n al ignore c rs) .request)
+    go Nothing k h = h
+    go (Edge e) k h = inl refl
+    go (FailedBefore x) k h = inl refl
+    go (Stretch a b x y) k h = inr k
+
+-- the RAM that is left of a chunk ends after x
+pieces-past : (x y : ℕ) (rs : List MemoryRange) → empty (firstOf (pieces x y rs)) ≡ false → x < firstOf (pieces x y rs) .end
+unfolding pieces
+pieces-past x y [] h = false≢true (sym h)
+pieces-past x y (r ∷ rs) h = go (empty (part x y r)) refl h (pieces-past x y rs)
+  where
+    go : (t : Bool) → empty (part x y r) ≡ t → empty (firstOf (cond t (pieces x y rs) (part x y r ∷ pieces x y rs))) ≡ false
+        → (empty (firstOf (pieces x y rs)) ≡ false → x < firstOf (pieces x y rs) .end)
+        → x < firstOf (cond t (pieces x y rs) (part x y r ∷ pieces x y rs)) .end
+    go true e h more = more h
+    go false e h more = omega (arith, leb-false (part x y r .end) (part x y r .start) e)
+
+-- ---- what a plan leaves is less
+
+-- first by the chunk, then by the byte
+lex : (k a a′ b b′ : ℕ) → a′ < a → b′ < k → suc (a′ * k + b′) < suc (a * k + b)
+lex k a a′ b b′ h l = omega (arith, mul-le-mul-right {m = suc a′} {n = a} k h, suc-mul a′ k)
+
+less-past : (q r : Request) → q .to < 2 ^ 64 → (q .kind ≡ 0 → ⊥) → Past (q .to) r → leftOf r < leftOf q
+less-past q r b k h =
+    rw (ne-eqb (q .kind) 0 k)
+    (⊎-elim (λ z. rw (eq-eqb (r .kind) 0 z) (omega arith)) (λ l. bounded (eqb (r .kind) 0) l) h)
+  where
+    bounded : (t : Bool) → q .to < r .to → cond t 0 (suc ((2 ^ 64 - r .to) * 2 ^ 65 + (2 ^ 64 - r .end))) < suc ((2 ^ 64 - q .to) * 2 ^ 65 + (2 ^ 64 - q .end))
+    bounded true l = omega arith
+    bounded false l = lex (2 ^ 65) (2 ^ 64 - q .to) (2 ^ 64 - r .to) (2 ^ 64 - q .end) (2 ^ 64 - r .end) (omega arith) (omega arith)
+
+-- something is asked where an answer is taken
+asked-kind : (w : World) → answerRefusal w ≡ 0 → requestOf (w .state) .kind ≡ 0 → ⊥
+unfolding answerRefusal
+asked-kind w h =
+    let a = passed (eqb (length (w .state)) 108) 3 _ h in
+    let b = passed (lengthsFit (granularityOf (w .state)) (entriesIn (w .state)) (w .registered) (w .failed)) 3 _ (a .1) in
+    let d = passed (not (eqb (requestOf (w .state) .kind) 0)) 20 _ (b .1) in
+    eqb-false _ _ (not-true _ (d .0))
+
+plan-lowers : (w : World) → (requestOf (w .state) .kind ≡ 0 → ⊥) → requestOf (w .state) .to < 2 ^ 64 → requestOf (w .state) .end < 2 ^ 64
+    → leftOf (donePlan w .request) < left w
+plan-lowers w k bt be =
+    let q : Request = requestOf (w .state) in
+    go (hasRest (w .state)) refl (eqb (q .kind) 1)
+    (less-past q (registerFrom (seenIn w) (offsetOf (w .state)) (q .count) (q .to) (q .last) .request) bt k (register-past (seenIn w) (offsetOf (w .state)) (q .count) (q .to) (q .last)))
+    (less-past q (allFrom (seenIn w) (offsetOf (w .state)) (q .count) (q .alignment) (q .ignore) (q .to) (spans (entriesIn (w .state))) .request) bt k
+    (all-past (seenIn w) (offsetOf (w .state)) (q .count) (q .alignment) (q .ignore) (q .to) (spans (entriesIn (w .state)))))
+  where
+    go : (x : Bool) → hasRest (w .state) ≡ x → (y : Bool)
+        → leftOf (registerFrom (seenIn w) (offsetOf (w .state)) (requestOf (w .state) .count) (requestOf (w .state) .to) (requestOf (w .state) .last) .request) < left w
+        → leftOf (allFrom (seenIn w) (offsetOf (w .state)) (requestOf (w .state) .count) (requestOf (w .state) .alignment) (requestOf (w .state) .ignore) (requestOf (w .state) .to) (spans (entriesIn (w .state))) .request) < left w
+        → leftOf (cond x (asks (offsetOf (w .state)) 0 0 (pieceOf (requestOf (w .state) .count) (requestOf (w .state) .from) (requestOf (w .state) .to) (requestOf (w .state) .last) (restOf (w .state))))
+        (cond y (registerFrom (seenIn w) (offsetOf (w .state)) (requestOf (w .state) .count) (requestOf (w .state) .to) (requestOf (w .state) .last))
+        (allFrom (seenIn w) (offsetOf (w .state)) (requestOf (w .state) .count) (requestOf (w .state) .alignment) (requestOf (w .state) .ignore) (requestOf (w .state) .to) (spans (entriesIn (w .state))))) .request) < left w
+    go true e y h g =
+        let p = pieces-past (requestOf (w .state) .end) ((requestOf (w .state) .from + 1) * granularityOf (w .state)) (spans (entriesIn (w .state))) (not-true _ (and-right (eqb (requestOf (w .state) .kind) 1) _ e)) in
+        rw (ne-eqb (requestOf (w .state) .kind) 0 k) (omega arith)
+    go false e true h g = h
+    go false e false h g = g
+
+-- THE CLAIM: an answer that is not refused lowers the number
+pub failed-lowers : (w : World) → answerRefusal w ≡ 0 → left (failedOf w .world) < left w
+unfolding failedOf
+failed-lowers w h = rw (eq-eqb (answerRefusal w) 0 h) (rw (ne-eqb (requestOf (w .state) .kind) 0 (asked-kind w h)) (omega arith))
+
+pub done-lowers : (w : World) → answerRefusal w ≡ 0 → requestOf (w .state) .to < 2 ^ 64 → requestOf (w .state) .end < 2 ^ 64 → left (doneOf w .world) < left w
+unfolding doneOf
+done-lowers w h bt be = rw (eq-eqb (answerRefusal w) 0 h) (plan-lowers (afterTaken w) (asked-kind w h) bt be)

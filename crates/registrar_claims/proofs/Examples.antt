@@ -1,0 +1,90 @@
+-- Calls over document 01's worked layout, computed by the definitions; P8 and P9 stand in the table of `worked`. Assumes nothing.
+use mathlib.Core.Path.{_≡_, refl}
+use mathlib.Core.List.{List, [], _∷_}
+use Prim.Native.Nat.{ℕ, _+_, _-_, _^_}
+use Rattle.bitmap.specs.Pages.{word, writtenFrom}
+use Rattle.layout.specs.Layout.{entriesOf, ordered, aligned, refusalOf, spans, spansFrom}
+use Rattle.chunks.specs.Chunks.{powerFrom, pieces, firstNotOf, entryWith}
+use Rattle.registrar_steps.specs.Steps.{registerFrom, lookAt, allFrom}
+use Rattle.registrar_state.specs.World.{World, world, Outcome, outcome, builtState, simple, buildRefusal, registerRefusal, allRefusal, registerOf, allOf, answerRefusal, failedOf, doneOf}
+
+-- RAM pages 0 to 15 and 32 to 39, in two nodes
+abbrev worked : List ℕ
+worked = 0 ∷ 65536 ∷ 0 ∷ 131072 ∷ 163840 ∷ 1 ∷ []
+
+-- the registrar built over it, at offset 2^40 and granularity 65,536
+abbrev built : World
+built = world (builtState worked (2 ^ 40) 65536) (0 ∷ []) (0 ∷ [])
+
+built-fit : buildRefusal built worked (2 ^ 40) 65536 ≡ 0
+unfolding buildRefusal entriesOf ordered aligned refusalOf powerFrom
+built-fit = refl
+
+-- ---- register, over all three chunks: the second has no RAM
+
+abbrev over-all : Outcome
+over-all = doneOf (registerOf built 0 163840 .world)
+
+second-asked : over-all .reply ≡ simple 0 1 0 (2 ^ 40 + 131072) (2 ^ 40 + 163840) 0
+unfolding doneOf answerRefusal registerOf registerRefusal registerFrom entriesOf spans spansFrom pieces firstNotOf word writtenFrom
+second-asked = refl
+
+-- the chunk without RAM is marked with the first, by no operation
+two-marked : over-all .world .registered ≡ 3 ∷ []
+unfolding doneOf answerRefusal registerOf registerRefusal registerFrom entriesOf spans spansFrom pieces firstNotOf word writtenFrom
+two-marked = refl
+
+all-marked : doneOf (over-all .world) ≡ outcome (builtState worked (2 ^ 40) 65536) (7 ∷ []) (0 ∷ []) (simple 0 0 2 0 0 0)
+unfolding doneOf answerRefusal registerOf registerRefusal registerFrom entriesOf spans spansFrom pieces firstNotOf word writtenFrom
+all-marked = refl
+
+-- the second fails: 23 at its address without the offset, and the chunk is marked failed
+second-fails : failedOf (over-all .world) ≡ outcome (builtState worked (2 ^ 40) 65536) (3 ∷ []) (4 ∷ []) (simple 23 0 2 0 0 131072)
+unfolding failedOf doneOf answerRefusal registerOf registerRefusal registerFrom entriesOf spans spansFrom pieces firstNotOf word writtenFrom
+second-fails = refl
+
+-- it is never tried again
+abbrev with-failed : World
+with-failed = world (builtState worked (2 ^ 40) 65536) (3 ∷ []) (4 ∷ [])
+
+not-again : registerOf with-failed 131072 1 ≡ record { world = with-failed; reply = simple 23 0 0 0 0 131072 }
+unfolding registerOf registerRefusal registerFrom entriesOf spans spansFrom pieces firstNotOf word writtenFrom
+not-again = refl
+
+-- past the last chunk: 9, also where the end does not fit in 64 bits; an empty request on a chunk's edge touches none
+past-the-last : registerOf built (2 ^ 64 - 1) 0 .reply ≡ simple 9 0 0 0 0 0
+unfolding registerOf registerRefusal entriesOf
+past-the-last = refl
+
+none-past-the-last : registerOf built (2 ^ 40) 0 .reply ≡ simple 0 0 0 0 0 0
+unfolding registerOf registerRefusal registerFrom entriesOf spans spansFrom pieces firstNotOf
+none-past-the-last = refl
+
+-- ---- register_all_aligned
+
+-- aligned above all RAM: the first span is the edge; with edges ignored nothing is left to do
+too-coarse : allOf built (2 ^ 30) 0 .reply
+    ≡ record { number = 22; asked = 0; count = 0; start = 0; end = 0; address = 0; «span_start» = 0; «span_end» = 65536; «edge_start» = 0; «edge_end» = 65536; vnode = 0; «node_start» = 0; «node_end» = 65536; alignment = 2 ^ 30 }
+unfolding allOf allRefusal allFrom lookAt entriesOf entryWith spans spansFrom powerFrom
+too-coarse = refl
+
+too-coarse-ignored : allOf built (2 ^ 30) 1 .reply ≡ simple 0 0 0 0 0 0
+unfolding allOf allRefusal allFrom lookAt entriesOf entryWith spans spansFrom powerFrom
+too-coarse-ignored = refl
+
+-- chunks of 32,768: the second failed before, so the stretch before it is not offered
+before-failed : allOf (world (builtState worked (2 ^ 40) 32768) (0 ∷ []) (2 ∷ [])) 32768 0 .reply ≡ simple 23 0 0 0 0 32768
+unfolding allOf allRefusal allFrom lookAt entriesOf entryWith spans spansFrom powerFrom firstNotOf
+before-failed = refl
+
+-- the first registered before: the second is a stretch of its own, and the last span another
+abbrev one-before : World
+one-before = world (builtState worked (2 ^ 40) 32768) (1 ∷ []) (0 ∷ [])
+
+second-chunk : allOf one-before 32768 0 .reply ≡ simple 0 1 0 (2 ^ 40 + 32768) (2 ^ 40 + 65536) 0
+unfolding allOf allRefusal allFrom lookAt entriesOf entryWith spans spansFrom powerFrom firstNotOf
+second-chunk = refl
+
+last-span : doneOf (allOf one-before 32768 0 .world) .reply ≡ simple 0 1 0 (2 ^ 40 + 131072) (2 ^ 40 + 163840) 0
+unfolding doneOf answerRefusal allOf allRefusal allFrom lookAt entriesOf entryWith spans spansFrom powerFrom firstNotOf word writtenFrom
+last-span = refl

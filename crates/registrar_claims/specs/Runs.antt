@@ -1,0 +1,54 @@
+-- Calls and their answers as a history: document 01, "The request under way".
+use mathlib.Core.Bool.{Bool, cond, _||_}
+use mathlib.Core.List.{List, [], _∷_}
+use Prim.Native.Nat.{ℕ, suc, _+_, _-_, _*_, _^_}
+use lib.Dec.{eqb}
+use Rattle.layout.specs.declared.MemoryRange.{MemoryRange}
+use Rattle.layout.specs.Layout.{range}
+use Rattle.registrar_steps.specs.declared.Request.{Request}
+use Rattle.registrar_state.specs.World.{World, Outcome, requestOf, buildOf, registerOf, allOf, failedOf, doneOf}
+
+-- what may be done to a registrar
+pub data Call : Type 0 where
+  Build : List ℕ → ℕ → ℕ → Call
+  RegisterRange : ℕ → ℕ → Call
+  RegisterAll : ℕ → ℕ → Call
+  AnswerDone : Call
+  AnswerFailed : Call
+
+unfoldable pub give : World → Call → Outcome
+give w (Build ram offset g) = buildOf w ram offset g
+give w (RegisterRange address len) = registerOf w address len
+give w (RegisterAll al ignore) = allOf w al ignore
+give w AnswerDone = doneOf w
+give w AnswerFailed = failedOf w
+
+-- Ok or an operation asked for, 22, 23: every other number is a refusal that changes nothing
+abbrev pub taken : ℕ → Bool
+taken n = eqb n 0 || (eqb n 22 || eqb n 23)
+
+-- the number that every taken answer lowers: 0 where nothing is asked
+abbrev pub leftOf : Request → ℕ
+leftOf q = cond (eqb (q .kind) 0) 0 (suc ((2 ^ 64 - q .to) * 2 ^ 65 + (2 ^ 64 - q .end)))
+
+abbrev pub left : World → ℕ
+left w = leftOf (requestOf (w .state))
+
+-- ---- a whole call under a list of answers, done or not: the ranges that it asks for, and what it gives last
+
+pub record Told : Type 0 where
+  pub asked : List MemoryRange
+  pub last : Outcome
+
+abbrev pub answerOf : Bool → World → Outcome
+answerOf b w = cond b (doneOf w) (failedOf w)
+
+abbrev pub before : MemoryRange → Told → Told
+before r t = record { asked = r ∷ t .asked; last = t .last }
+
+abbrev pub asksFor : Outcome → MemoryRange
+asksFor o = range (o .reply .start) (o .reply .end)
+
+unfoldable pub follow : Outcome → List Bool → Told
+follow o [] = record { asked = cond (eqb (o .reply .asked) 1) (asksFor o ∷ []) []; last = o }
+follow o (b ∷ bs) = cond (eqb (o .reply .asked) 1) (before (asksFor o) (follow (answerOf b (o .world)) bs)) (record { asked = []; last = o })
