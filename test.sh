@@ -5,8 +5,8 @@ cd "$(dirname "${BASH_SOURCE[0]}")"
 
 left_out=()
 if [ ! -d "${UNDERHILL_MEM_SRC:-../shared/docs/src/openhcl/underhill_mem/src}" ]; then
-    echo "test.sh: the original's source is not at hand (UNDERHILL_MEM_SRC): the oracle is left out" >&2
-    left_out=(--exclude oracle --exclude underhill_mem_source)
+    echo "test.sh: the original's source is not at hand (UNDERHILL_MEM_SRC): the oracle and the differential run are left out" >&2
+    left_out=(--exclude oracle --exclude underhill_mem_source --exclude differential)
 fi
 cargo test --offline --quiet --manifest-path rust/Cargo.toml --workspace "${left_out[@]}"
 

@@ -1,9 +1,11 @@
 //! What was built so far, and the calls.
 
 use crate::parse;
+use crate::parse::Failures;
 use crate::parse::Options;
 use crate::parse::Parsed;
 use crate::parse::bad;
+use crate::parse::exactly;
 use crate::show;
 use crate::show::Maps;
 use guestmem::GuestMemoryAccess;
@@ -13,11 +15,13 @@ use hcl::GuestVtl;
 use hvdef::HvError;
 use hvdef::hypercall::HostVisibilityType;
 use memory_range::MemoryRange;
-use recorder::Failure;
+use protocol::serve;
+use protocol::show::failed;
+use protocol::show::unaligned;
+use protocol::show::words;
 use recorder::Op;
 use recorder::Record;
 use recorder::Watch;
-use std::collections::BTreeMap;
 use std::panic::AssertUnwindSafe;
 use std::panic::catch_unwind;
 use std::sync::Arc;
@@ -36,8 +40,6 @@ const MOST_RAM: u64 = 1 << 41;
 
 /// The most chunks that a registrar may have: the source keeps a bit for each, twice.
 const MOST_CHUNKS: u64 = 1 << 28;
-
-type Failures = BTreeMap<u64, Failure>;
 
 /// A conversation: at most one protector and one registrar.
 pub struct Session {
@@ -114,12 +116,7 @@ impl Session {
 
     /// The answer to a line; none to a blank one or a comment.
     pub fn line(&mut self, line: &str) -> Option<String> {
-        let line = line.trim();
-        if line.is_empty() || line.starts_with('#') {
-            return None;
-        }
-        let answer = self.command(line);
-        Some(answer.unwrap_or_else(|text| format!("bad {text}")))
+        serve::line(line, |line| self.command(line))
     }
 
     fn command(&mut self, line: &str) -> Parsed<String> {
@@ -211,7 +208,7 @@ impl Session {
     fn rdump(&self, args: &[&str]) -> Parsed<String> {
         let [] = exactly(args)?;
         let (registered, failed) = self.registrar.any()?.words();
-        let (registered, failed) = (show::words(&registered), show::words(&failed));
+        let (registered, failed) = (words(&registered), words(&failed));
         plain(&format!("ok registered={registered} failed={failed}"))
     }
 
@@ -221,7 +218,7 @@ impl Session {
         self.registrar_call(failures, |registrar| {
             match registrar.register(address, len) {
                 Ok(()) => "ok".to_string(),
-                Err(address) => format!("err failed address={address}"),
+                Err(address) => failed(address),
             }
         })
     }
@@ -287,10 +284,6 @@ fn plain(result: &str) -> Parsed<String> {
     Ok(show::answer(result, &Record::default()))
 }
 
-fn exactly<'a, const N: usize>(args: &[&'a str]) -> Parsed<[&'a str; N]> {
-    <[&str; N]>::try_from(args).or_else(|_| bad("wrong number of words"))
-}
-
 fn last_end(layout: &MemoryLayout) -> u64 {
     layout.ram().last().map_or(0, |entry| entry.range.end())
 }
@@ -331,21 +324,25 @@ fn permissions(args: &[&str]) -> Parsed<String> {
 }
 
 fn not_all(error: &NotAll) -> String {
-    let bytes = |range: &MemoryRange| format!("{}-{}", range.start(), range.end());
+    let bytes = |range: &MemoryRange| protocol::show::bytes(range.start(), range.end());
     match error {
-        NotAll::Failed { address } => format!("err failed address={address}"),
+        NotAll::Failed { address } => failed(*address),
         NotAll::Unaligned {
             span,
             edge,
             vnode,
             node_range,
             alignment,
-        } => format!(
-            "err UnalignedMemory span={} edge={} vnode={vnode} node_range={} alignment={alignment}",
-            bytes(span),
-            bytes(edge),
-            bytes(node_range),
-        ),
+        } => {
+            let vnode = u64::from(*vnode);
+            unaligned(
+                &bytes(span),
+                &bytes(edge),
+                vnode,
+                &bytes(node_range),
+                *alignment,
+            )
+        }
     }
 }
 
@@ -450,7 +447,7 @@ fn lock_gpns([vtl, pages]: [&str; 2]) -> Parsed<Call> {
     let (vtl, pages) = (parse::vtl(vtl)?, parse::pages(pages)?);
     boxed(move |m| match m.protector.lock_gpns(vtl, &pages) {
         Ok(()) => "ok".to_string(),
-        Err(error) => format!("err failed address={}", error.address),
+        Err(error) => failed(error.address),
     })
 }
 

@@ -2,32 +2,13 @@
 
 #![allow(dead_code)] // each test file uses its part
 
-use std::io::Write;
+use protocol::conversation;
 use std::process::Command;
-use std::process::Stdio;
 
 /// Lines that begin with `> ` are sent, the others are the answers awaited. A panic's text isn't
 /// compared.
 pub fn check(conversation: &str) {
-    let lines = conversation
-        .lines()
-        .map(str::trim)
-        .filter(|l| !l.is_empty());
-    let (sent, awaited): (Vec<_>, Vec<_>) = lines.partition(|line| line.starts_with('>'));
-    let sent: Vec<_> = sent.iter().map(|line| line[1..].trim()).collect();
-    let answers = answers(sent.join("\n").as_bytes());
-    for (i, awaited) in awaited.iter().enumerate() {
-        let answer = answers.get(i).map_or("nothing", |a| a.as_str());
-        assert_eq!(textless(answer), *awaited, "answer to {:?}", sent.get(i));
-    }
-    assert_eq!(answers.len(), awaited.len());
-}
-
-fn textless(answer: &str) -> String {
-    match answer.split_once(" | ") {
-        Some((result, ops)) if result.starts_with("panic ") => format!("panic | {ops}"),
-        _ => answer.to_string(),
-    }
+    conversation::check(&mut program(2), conversation);
 }
 
 /// What the program answers to some input.
@@ -37,18 +18,11 @@ pub fn answers(input: &[u8]) -> Vec<String> {
 
 /// The same, with that many virtual processors.
 pub fn answers_with(vp_count: u32, input: &[u8]) -> Vec<String> {
-    let mut child = Command::new(env!("CARGO_BIN_EXE_oracle"))
-        .env("ORACLE_VP_COUNT", vp_count.to_string())
-        .stdin(Stdio::piped())
-        .stdout(Stdio::piped())
-        .spawn()
-        .expect("the program starts");
-    let mut stdin = child.stdin.take().expect("a pipe");
-    let input = input.to_vec();
-    let writer = std::thread::spawn(move || stdin.write_all(&input).expect("it reads"));
-    let output = child.wait_with_output().expect("the program ends");
-    writer.join().expect("the writer ends");
-    assert!(output.status.success());
-    let text = String::from_utf8(output.stdout).expect("text");
-    text.lines().map(str::to_string).collect()
+    conversation::answers(&mut program(vp_count), input)
+}
+
+fn program(vp_count: u32) -> Command {
+    let mut command = Command::new(env!("CARGO_BIN_EXE_oracle"));
+    command.env("ORACLE_VP_COUNT", vp_count.to_string());
+    command
 }

@@ -4,6 +4,10 @@
 //! One list for the whole process, because the code under test reaches its backend without a
 //! handle (`guestmem::rcu()`, `Mshv::new()`) and from several threads.
 
+pub use protocol::Failure;
+pub use protocol::Op;
+pub use protocol::op::Attributes;
+pub use protocol::op::Pages;
 use std::collections::BTreeMap;
 use std::sync::Arc;
 use std::sync::Mutex;
@@ -11,65 +15,6 @@ use std::sync::MutexGuard;
 use std::sync::PoisonError;
 use std::sync::atomic::AtomicBool;
 use std::sync::atomic::Ordering::Relaxed;
-
-/// A run of pages: the first one and how many.
-#[derive(Debug, Clone, Copy, PartialEq, Eq)]
-pub struct Pages {
-    pub first: u64,
-    pub count: u64,
-}
-
-/// What TDX operations carry besides their pages.
-#[derive(Debug, Clone, Copy, PartialEq, Eq)]
-pub struct Attributes {
-    pub attr: u64,
-    pub mask: u64,
-}
-
-/// One operation asked of the backend.
-#[derive(Debug, Clone, PartialEq, Eq)]
-pub enum Op {
-    Wait,
-    FlushAll,
-    Flush {
-        vtl: u8,
-    },
-    TlbWait {
-        vtl: u8,
-    },
-    Protect {
-        vtl: u8,
-        /// None where the source hands over no flags.
-        flags: Option<u8>,
-        /// The RMPADJUST operand, on SNP.
-        operand: Option<u64>,
-        attributes: Option<Attributes>,
-        pages: Pages,
-    },
-    Invalidate(Pages),
-    Accept {
-        pages: Pages,
-        attributes: Option<Attributes>,
-    },
-    Release(Pages),
-    Zero(Pages),
-    Modify {
-        shared: bool,
-        pages: Vec<u64>,
-    },
-    /// Bytes, the end exclusive.
-    Register {
-        start: u64,
-        end: u64,
-    },
-}
-
-/// A scripted failure.
-#[derive(Debug, Clone, Copy, PartialEq, Eq)]
-pub struct Failure {
-    pub code: u16,
-    pub processed: u64,
-}
 
 /// An operation and, while someone watches, the maps at the moment it was asked for.
 #[derive(Debug, Clone, PartialEq, Eq)]

@@ -1,0 +1,183 @@
+//! Shortens a case that shows a difference.
+
+use crate::case::Act;
+use crate::case::Build;
+use crate::case::Lend;
+use crate::case::Request;
+use crate::case::What;
+use std::time::Duration;
+use std::time::Instant;
+
+/// The most cases that are tried, and the longest time.
+const MOST_TRIES: usize = 20_000;
+const MOST_TIME: Duration = Duration::from_secs(20);
+
+/// The shortest case found that still differs; what lies behind the difference is cut off by
+/// `differs`, which gives its place.
+pub fn shrink(case: &[Act], differs: impl Fn(&[Act]) -> Option<usize>) -> Vec<Act> {
+    let mut case = case.to_vec();
+    if let Some(place) = differs(&case) {
+        case.truncate(place + 1);
+    }
+    let began = Instant::now();
+    let mut tries = (0..MOST_TRIES).take_while(|_| began.elapsed() < MOST_TIME);
+    let simpler = |case: &[Act], tries: &mut dyn Iterator<Item = usize>| {
+        let mut tried = candidates(case).zip(tries);
+        tried.find_map(|(candidate, _)| {
+            let place = differs(&candidate)?;
+            Some(candidate[..=place].to_vec())
+        })
+    };
+    while let Some(better) = simpler(&case, &mut tries) {
+        case = better;
+    }
+    case
+}
+
+/// Simpler cases, the simplest first.
+fn candidates(case: &[Act]) -> impl Iterator<Item = Vec<Act>> {
+    let count = case.len();
+    let sizes = [8, 4, 2, 1].into_iter().filter(move |&size| size < count);
+    let fewer = sizes.flat_map(move |size| {
+        (0..=count - size).map(move |from| [&case[..from], &case[from + size..]].concat())
+    });
+    let simpler = (0..count).flat_map(move |place| {
+        simpler_acts(&case[place]).into_iter().map(move |act| {
+            let mut case = case.to_vec();
+            case[place] = act;
+            case
+        })
+    });
+    fewer.chain(simpler)
+}
+
+fn simpler_acts(act: &Act) -> Vec<Act> {
+    let mut acts = Vec::new();
+    let lend = act.lend;
+    let mut with = |what: What| acts.push(Act { what, lend });
+    match &act.what {
+        What::Build(build) => simpler_builds(build)
+            .into_iter()
+            .for_each(|build| with(What::Build(build))),
+        What::Call { request, fail } => {
+            if let Some(place) = *fail {
+                let request = *request;
+                with(What::Call {
+                    request,
+                    fail: None,
+                });
+                for fail in lower(place).into_iter().filter(|&place| place > 0) {
+                    let fail = Some(fail);
+                    with(What::Call { request, fail });
+                }
+            }
+            for request in simpler_requests(request) {
+                let fail = *fail;
+                with(What::Call { request, fail });
+            }
+        }
+        What::Start(request) => {
+            let (request, fail) = (*request, None);
+            with(What::Call { request, fail });
+            simpler_requests(&request)
+                .into_iter()
+                .for_each(|request| with(What::Start(request)));
+        }
+        What::Answer { done: false } => with(What::Answer { done: true }),
+        What::Answer { done: true } => (),
+    }
+    if lend != Lend::default() {
+        acts.push(Act {
+            what: act.what.clone(),
+            lend: Lend::default(),
+        });
+    }
+    acts
+}
+
+fn simpler_builds(build: &Build) -> Vec<Build> {
+    let mut builds = Vec::new();
+    for place in 0..build.ram.len() {
+        let mut fewer = build.clone();
+        fewer.ram.remove(place);
+        builds.push(fewer);
+    }
+    let with_ram = |shrunk: &dyn Fn(u64) -> u64| {
+        let mut smaller = build.clone();
+        for entry in &mut smaller.ram {
+            entry.start = shrunk(entry.start);
+            entry.end = shrunk(entry.end);
+        }
+        smaller
+    };
+    // All of it lower, by whole pieces of many sizes, so that what is aligned stays so.
+    let lowest = build.ram.iter().map(|e| e.start.min(e.end)).min();
+    for shift in (15..52).rev() {
+        let by = lowest.unwrap_or(0) >> shift << shift;
+        builds.push(with_ram(&|address| address - by));
+    }
+    builds.push(with_ram(&|address| address / 65_536 * 32_768));
+    for place in 0..build.ram.len() {
+        let entry = build.ram[place];
+        let mut smaller = build.clone();
+        smaller.ram[place].end = entry.start.wrapping_add(32_768);
+        builds.push(smaller);
+        let mut plain = build.clone();
+        plain.ram[place].node = place as u64;
+        builds.push(plain);
+    }
+    builds.extend(lower(build.offset).into_iter().map(|offset| Build {
+        offset,
+        ..build.clone()
+    }));
+    for granularity in [4096, build.granularity / 2] {
+        builds.push(Build {
+            granularity,
+            ..build.clone()
+        });
+    }
+    builds.retain(|simpler| weight(simpler) < weight(build));
+    builds
+}
+
+/// Falls with each simpler build, so that shrinking ends.
+fn weight(build: &Build) -> (usize, u128) {
+    let numbers = build
+        .ram
+        .iter()
+        .flat_map(|e| [e.start, e.end, e.node])
+        .chain([build.offset, build.granularity]);
+    (build.ram.len(), numbers.map(u128::from).sum())
+}
+
+fn simpler_requests(request: &Request) -> Vec<Request> {
+    match *request {
+        Request::Register { address, len } => {
+            let addresses = lower(address).into_iter();
+            let lens = lower(len).into_iter();
+            addresses
+                .map(|address| Request::Register { address, len })
+                .chain(lens.map(|len| Request::Register { address, len }))
+                .collect()
+        }
+        Request::All { alignment, ignore } => {
+            let alignments = lower(alignment).into_iter();
+            let ignores = lower(ignore).into_iter();
+            alignments
+                .map(|alignment| Request::All { alignment, ignore })
+                .chain(ignores.map(|ignore| Request::All { alignment, ignore }))
+                .collect()
+        }
+    }
+}
+
+/// Lower numbers, round ones first, then by ever smaller steps.
+fn lower(number: u64) -> Vec<u64> {
+    let round = [0, 1, 4096, number & !32_767, number & !4095];
+    let steps = (1..64).map(|shift| number - (number >> shift));
+    let mut numbers: Vec<_> = round.into_iter().chain(steps).collect();
+    numbers.push(number.saturating_sub(1));
+    numbers.retain(|&lower| lower < number);
+    numbers.dedup();
+    numbers
+}

@@ -1,0 +1,116 @@
+//! A conversation: which command a line is, and what earlier lines set.
+
+use crate::lend::Lends;
+use crate::registrar::Registrar;
+use protocol::Parsed;
+use protocol::bad;
+use protocol::parse;
+use protocol::parse::Failures;
+use protocol::parse::exactly;
+use protocol::serve;
+use protocol::show;
+
+/// The protector's commands.
+const PROTECTOR: [&str; 20] = [
+    "build",
+    "change_host_visibility",
+    "query_host_visibility",
+    "change_vtl_protections",
+    "change_default_vtl_protections",
+    "register_overlay_page",
+    "unregister_overlay_page",
+    "is_overlay_page",
+    "lock_gpns",
+    "unlock_gpns",
+    "set_vtl1_protections_enabled",
+    "vtl1_protections_enabled",
+    "default_vtl0_protections",
+    "query_lower_vtl_permissions",
+    "query_access_permission",
+    "page_fault",
+    "permissions",
+    "dump",
+    "tables",
+    "answer",
+];
+
+/// A conversation: at most one registrar.
+#[derive(Default)]
+pub struct Session {
+    step: bool,
+    /// For the next line alone.
+    lends: Lends,
+    registrar: Registrar,
+}
+
+/// How a line's call is run.
+pub struct Run {
+    /// It stops at the first operation.
+    pub step: bool,
+    pub failures: Failures,
+    pub lends: Lends,
+}
+
+impl Session {
+    pub fn new() -> Self {
+        Self::default()
+    }
+
+    /// The answer to a line; none to a blank one or a comment.
+    pub fn line(&mut self, line: &str) -> Option<String> {
+        serve::line(line, |line| self.command(line))
+    }
+
+    fn command(&mut self, line: &str) -> Parsed<String> {
+        let lends = std::mem::take(&mut self.lends);
+        let (words, failures) = parse::split_failures(line)?;
+        let Some((&name, args)) = words.split_first() else {
+            return bad("no command");
+        };
+        if self.step && !failures.is_empty() {
+            return bad("fail= while calls are stepped");
+        }
+        let run = Run {
+            step: self.step,
+            failures,
+            lends,
+        };
+        match name {
+            "registrar" => self.registrar.build(args, run),
+            "register" => self.registrar.register(args, run),
+            "register_all_aligned" => self.registrar.register_all_aligned(args, run),
+            "ranswer" => self.registrar.answer(args, run),
+            "rdump" => self.registrar.dump(args),
+            "lend" => self.lend(args),
+            "step" => self.set_step(args),
+            "trace" => trace(args),
+            name if PROTECTOR.contains(&name) => bad("not in this build"),
+            _ => bad("unknown command"),
+        }
+    }
+
+    fn lend(&mut self, args: &[&str]) -> Parsed<String> {
+        let lends = Lends::new(args)?;
+        self.registrar.check_lends(&lends)?;
+        self.lends = lends;
+        plain("ok")
+    }
+
+    fn set_step(&mut self, args: &[&str]) -> Parsed<String> {
+        let [on] = exactly(args)?;
+        self.step = parse::bit(on)?;
+        plain("ok")
+    }
+}
+
+/// A trace shows the protector's maps, and none follow Register.
+fn trace(args: &[&str]) -> Parsed<String> {
+    let [on] = exactly(args)?;
+    parse::bit(on)?;
+    plain("ok")
+}
+
+/// A line that asked for nothing.
+pub fn plain(result: &str) -> Parsed<String> {
+    Ok(show::answer(result, &[], &[]))
+}

@@ -1,0 +1,59 @@
+#!/usr/bin/env bash
+# Shows that the differential run would see a fault: each edit below changes one operand in a copy of
+# the original's source, and each must be reported as a difference.
+#
+#   ./sensitivity.sh [CALLS]
+#
+# UNDERHILL_MEM_SRC names the folder with the original's three files, as for the oracle.
+set -euo pipefail
+cd "$(dirname "${BASH_SOURCE[0]}")"
+
+calls=${1:-20000}
+source=${UNDERHILL_MEM_SRC:-$PWD/../../shared/docs/src/openhcl/underhill_mem/src}
+[ -f "$source/registrar.rs" ] || { echo "sensitivity.sh: the original's source is not in $source (UNDERHILL_MEM_SRC)" >&2; exit 2; }
+copy=$(mktemp -d)
+trap 'rm -rf "$copy"' EXIT
+
+# FILE|LINE AS IT STANDS|LINE AS EDITED, without the blanks in front
+edits=(
+    'registrar.rs|let end = range.end().div_ceil(self.granularity);|let end = range.end() / self.granularity;'
+    'registrar.rs|self.registration_offset + range.start()..self.registration_offset + range.end(),|self.registration_offset + range.start()..self.registration_offset + range.end() - PAGE_SIZE,'
+    'registrar.rs|return Err(range.start());|return Err(range.end());'
+    'registrar.rs|address \& !(PAGE_SIZE - 1)..(address + len + (PAGE_SIZE - 1)) \& !(PAGE_SIZE - 1),|address \& !(PAGE_SIZE - 1)..(address + len.max(1) + (PAGE_SIZE - 1)) \& !(PAGE_SIZE - 1),'
+    'registrar.rs|return Err(chunk * self.granularity);|return Err(requested_range.start());'
+    'registrar.rs|self.registered.set(chunk, true);|self.registered.set(chunk, chunk != 65);'
+    'registrar.rs|\&\& previous.end() == range.start()|\&\& previous.end() == range.end()'
+    'registrar.rs|} else if span.start() != aligned_range.start() {|} else if span.end() != aligned_range.end() {'
+    'registrar.rs|let range = MemoryRange::new(start..aligned_range.end());|let range = MemoryRange::new(start..span.end());'
+    'registrar.rs|for registered_chunk in start / self.granularity..chunk {|for registered_chunk in start / self.granularity + 1..chunk {'
+    'registrar.rs|.find(\|entry\| entry.range.overlaps(\&edge))|.find(\|entry\| entry.range.overlaps(\&span))'
+    'registrar.rs|if state.failed.get_mut(chunk) {|if state.failed.get_mut(chunk) \&\& chunk != 1 {'
+)
+
+missed=0
+for edit in "${edits[@]}"; do
+    # A bar that stands in the line itself is written \|
+    protected=${edit//'\|'/$'\x01'}
+    IFS='|' read -r file from to <<<"$protected"
+    from=${from//$'\x01'/'|'} to=${to//$'\x01'/'|'}
+    from=${from//'\&'/'&'} to=${to//'\&'/'&'}
+    cp "$source"/*.rs "$copy/"
+    chmod u+w "$copy"/*.rs
+    FROM=$from TO=$to perl -0pi -e 's/\Q$ENV{FROM}\E/$ENV{TO}/' "$copy/$file"
+    if cmp -s "$source/$file" "$copy/$file"; then
+        echo "NOT FOUND: $from"
+        missed=$((missed + 1))
+        continue
+    fi
+    echo "== $from"
+    echo "-> $to"
+    UNDERHILL_MEM_SRC=$copy cargo build --offline --quiet --release --target-dir target/sensitivity -p differential --bin differential
+    if said=$(target/sensitivity/release/differential --calls "$calls" --seed 1 2>/dev/null); then
+        echo "MISSED: no difference in $calls calls"
+        missed=$((missed + 1))
+    else
+        echo "seen: ${said#*$'\n'differential: }"
+    fi
+done
+echo "sensitivity: ${#edits[@]} edits, $missed missed"
+[ "$missed" -eq 0 ]

@@ -1,0 +1,179 @@
+//! The library's entries as they are: slices of any length, words in and words out.
+//!
+//! Every entry is proved for all inputs, slices of wrong lengths and arbitrary words among them, so
+//! these functions are safe. [`MemoryRegistrar`](crate::MemoryRegistrar) is what one wants instead;
+//! this is for those who keep the memory themselves, and for tests.
+
+/// What a registrar's entry gives.
+#[repr(C)]
+#[derive(Debug, Clone, Copy, PartialEq, Eq, Default)]
+pub struct Reply {
+    /// Document 01's number; 0 where none.
+    pub number: u64,
+    /// 1 if a Register of `start` to before `end` is asked for.
+    pub asked: u64,
+    /// Of a finished call, how many operations it asked for.
+    pub count: u64,
+    pub start: u64,
+    pub end: u64,
+    /// Of 23.
+    pub address: u64,
+    /// Of 22, with what follows.
+    pub span_start: u64,
+    pub span_end: u64,
+    pub edge_start: u64,
+    pub edge_end: u64,
+    pub vnode: u64,
+    pub node_start: u64,
+    pub node_end: u64,
+    pub alignment: u64,
+}
+
+/// The words of a registrar's state block.
+pub const STATE_WORDS: usize = 108;
+
+/// Places in the state block.
+pub(crate) mod place {
+    /// 0 while nothing is asked for.
+    pub const KIND: usize = 0;
+    /// The bytes asked for, without offset.
+    pub const START: usize = 4;
+    pub const END: usize = 5;
+    pub const OFFSET: usize = 9;
+    pub const GRANULARITY: usize = 10;
+}
+
+/// What a registrar's call is lent.
+#[derive(Debug)]
+pub struct Lent<'a> {
+    /// [`STATE_WORDS`] words.
+    pub state: &'a mut [u64],
+    /// A bit a chunk: [`map_words`] words.
+    pub registered: &'a mut [u64],
+    /// The same.
+    pub failed: &'a mut [u64],
+}
+
+/// How many words a bitmap of the chunks below `last_end` has; 0 where that is unfit.
+pub fn map_words(last_end: u64, granularity: u64) -> u64 {
+    match granularity {
+        0 => 0,
+        _ => last_end.div_ceil(granularity).div_ceil(64),
+    }
+}
+
+mod entries {
+    use super::Reply;
+
+    // A slice crosses as its pointer and its length in words.
+    unsafe extern "C" {
+        pub fn registrar_build(
+            ram: *const u64,
+            ram_len: usize,
+            offset: u64,
+            granularity: u64,
+            state: *mut u64,
+            state_len: usize,
+            registered: *mut u64,
+            registered_len: usize,
+            failed: *mut u64,
+            failed_len: usize,
+        ) -> Reply;
+
+        pub fn registrar_register(
+            state: *mut u64,
+            state_len: usize,
+            registered: *mut u64,
+            registered_len: usize,
+            failed: *mut u64,
+            failed_len: usize,
+            address: u64,
+            len: u64,
+        ) -> Reply;
+
+        pub fn registrar_register_all_aligned(
+            state: *mut u64,
+            state_len: usize,
+            registered: *mut u64,
+            registered_len: usize,
+            failed: *mut u64,
+            failed_len: usize,
+            alignment: u64,
+            ignore_unaligned_ranges: u64,
+        ) -> Reply;
+
+        pub fn registrar_answer_done(
+            state: *mut u64,
+            state_len: usize,
+            registered: *mut u64,
+            registered_len: usize,
+            failed: *mut u64,
+            failed_len: usize,
+        ) -> Reply;
+
+        pub fn registrar_answer_failed(
+            state: *mut u64,
+            state_len: usize,
+            registered: *mut u64,
+            registered_len: usize,
+            failed: *mut u64,
+            failed_len: usize,
+        ) -> Reply;
+    }
+}
+
+/// Calls an entry with what is lent between the words before and those behind.
+macro_rules! call {
+    ($entry:ident, [$($before:expr),*], $lent:expr, [$($behind:expr),*]) => {{
+        let Lent { state, registered, failed } = $lent;
+        // SAFETY: the pointers and lengths are of slices that are borrowed for the call, those
+        // that are written exclusively. The entry reads and writes inside them alone, keeps none,
+        // and takes any length and any words: that is proved of it.
+        unsafe {
+            entries::$entry(
+                $($before,)*
+                state.as_mut_ptr(),
+                state.len(),
+                registered.as_mut_ptr(),
+                registered.len(),
+                failed.as_mut_ptr(),
+                failed.len(),
+                $($behind,)*
+            )
+        }
+    }};
+}
+
+/// `ram` is three words an entry: start, end, node.
+pub fn build(ram: &[u64], offset: u64, granularity: u64, lent: Lent<'_>) -> Reply {
+    call!(
+        registrar_build,
+        [ram.as_ptr(), ram.len(), offset, granularity],
+        lent,
+        []
+    )
+}
+
+pub fn register(lent: Lent<'_>, address: u64, len: u64) -> Reply {
+    call!(registrar_register, [], lent, [address, len])
+}
+
+/// `ignore_unaligned_ranges` is 0 or 1.
+pub fn register_all_aligned(lent: Lent<'_>, alignment: u64, ignore_unaligned_ranges: u64) -> Reply {
+    call!(
+        registrar_register_all_aligned,
+        [],
+        lent,
+        [alignment, ignore_unaligned_ranges]
+    )
+}
+
+/// The operation asked for is done.
+pub fn answer_done(lent: Lent<'_>) -> Reply {
+    call!(registrar_answer_done, [], lent, [])
+}
+
+/// The operation asked for failed.
+pub fn answer_failed(lent: Lent<'_>) -> Reply {
+    call!(registrar_answer_failed, [], lent, [])
+}
