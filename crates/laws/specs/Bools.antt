@@ -63,6 +63,10 @@ pub or-right : (a b : Bool) → b ≡ true → (a || b) ≡ true
 or-right true b e = refl
 or-right false b e = e
 
+pub or-false : (a b : Bool) → (a || b) ≡ false → (a ≡ false) × (b ≡ false)
+or-false true b e = false≢true (sym e)
+or-false false b e = (refl, e)
+
 pub or-swap : (a b : Bool) → (a || b) ≡ (b || a)
 or-swap true true = refl
 or-swap true false = refl
