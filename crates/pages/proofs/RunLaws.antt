@@ -19,13 +19,13 @@ neighbour-yes p q h = elim (ℕ-discrete q (p + 1)) [
   | no e ↦ ne-eqb (q - p) 1 (λ d. e (omega arith)) ∙ sym (ne-eqb q (p + 1) e)
 ]
 
-part-next : (t : List ℕ) (n a : ℕ) → a < n → a < length t → part t n a ≡ getD t a 0 ∷ part t n (a + 1)
+pub part-next : (t : List ℕ) (n a : ℕ) → a < n → a < length t → part t n a ≡ getD t a 0 ∷ part t n (a + 1)
 part-next t n a h g =
     let f : a < length (take n t) = omega (arith, length-take n t) in
     drop-cons (take n t) a 0 f ∙ ap (λ (x : ℕ). x ∷ drop (suc a) (take n t)) (getD-take n t a 0 h)
     ∙ ap (λ (m : ℕ). getD t a 0 ∷ drop m (take n t)) (sym (add-one a))
 
-part-end : (t : List ℕ) (n a : ℕ) → min n (length t) ≤ a → part t n a ≡ []
+pub part-end : (t : List ℕ) (n a : ℕ) → min n (length t) ≤ a → part t n a ≡ []
 part-end t n a h = let g : length (take n t) ≤ a = omega (arith, length-take n t) in drop-of-length-le (take n t) g
 
 -- the run at a place: none, or counted page by page
