@@ -1,11 +1,12 @@
 // The pages of the request under way, in a table of 1,024 words: pages in the first 512, then their places in the list
 // as sent.
 ghost use mathlib.Core.Path.{_≡_};
-ghost use mathlib.Core.Bool.{_&&_};
-ghost use Prim.Native.Nat.{_<_};
+ghost use mathlib.Core.Bool.{cond, _&&_};
+ghost use Prim.Native.Nat.{_+_, _<_, _≤_};
+ghost use lib.ListN.{length, set, take};
 ghost use Rattle.bitmap.specs.Pages.{bitAt};
 ghost use Rattle.pages.specs.Pages.{pagesOf};
-ghost use Rattle.request.specs.Request.{stopAt, isOpen};
+ghost use Rattle.request.specs.Request.{pick, tableOf, stopAt, isOpen, wanted};
 
 // Whether a page is readable and writable.
 fn is_open(read: &[u8], write: &[u8], p: u64) -> bool
@@ -30,4 +31,45 @@ pub fn stop_at(read: &[u8], write: &[u8], asked: bool, list: &[u8]) -> u64
         i += 1;
     }
     i
+}
+
+// Whether a page's shared mark isn't yet as asked.
+fn is_wanted(shared: &[u8], share: bool, p: u64) -> bool
+    ensures { λ r. ⌜ r ≡ wanted (now (shared .entry)) share p ⌝ }
+{
+    if bitmap::page_state(shared, p) {
+        !share
+    } else {
+        share
+    }
+}
+
+// A page stored with its place behind the k stored before, where it is kept; how many are stored then.
+fn store_one(t: &mut [u64], k: u64, p: u64, place: u64, keep: bool) -> u64
+    requires { ⌜ (k < 512) × (length (now t) ≡ 1024) ⌝ }
+    ensures { λ r. ⌜ (r ≡ cond keep (k + 1) k) × (now (t .exit) ≡ cond keep (set (set (now (t .entry)) k p) (512 + k) place) (now (t .entry))) ⌝ }
+{
+    if keep {
+        let i = k as usize;
+        t[i] = p;
+        t[512 + i] = place;
+        return k + 1;
+    }
+    k
+}
+
+// The pages before place `stop` of a list that are wanted, with their places; how many they are.
+pub fn store(t: &mut [u64], shared: &[u8], share: bool, list: &[u8], stop: u64) -> u64
+    requires { ⌜ (length (now t) ≡ 1024) × (length (now list) ≤ 4096) ⌝ }
+    ensures { λ r. ⌜ (r ≡ length (pick (wanted (now (shared .entry)) share) (take stop (pagesOf (now (list .entry)))))) × (now (t .exit) ≡ tableOf (wanted (now (shared .entry)) share) (take stop (pagesOf (now (list .entry)))) (now (t .entry))) ⌝ }
+{
+    let n = numbers::least(stop, pages::page_count(list));
+    let mut k: u64 = 0;
+    let mut i: u64 = 0;
+    while i < n {
+        let p = pages::page_at(list, i);
+        k = store_one(t, k, p, i, is_wanted(shared, share, p));
+        i += 1;
+    }
+    k
 }
