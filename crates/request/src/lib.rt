@@ -3,7 +3,7 @@
 ghost use mathlib.Core.Path.{_≡_};
 ghost use mathlib.Core.Bool.{cond, _&&_};
 ghost use Prim.Native.Nat.{_+_, _<_, _≤_};
-ghost use lib.ListN.{length, set, take};
+ghost use lib.ListN.{length, getD, set, take};
 ghost use Rattle.bitmap.specs.Pages.{bitAt};
 ghost use Rattle.pages.specs.Pages.{pagesOf};
 ghost use Rattle.request.specs.Request.{pick, tableOf, stopAt, isOpen, wanted};
@@ -72,4 +72,15 @@ pub fn store(t: &mut [u64], shared: &[u8], share: bool, list: &[u8], stop: u64) 
         i += 1;
     }
     k
+}
+
+// The place in the list as sent of the page at place i of the table.
+pub fn place_at(t: &[u64], i: u64) -> u64
+    ensures { λ r. ⌜ r ≡ getD (now (t .entry)) (512 + i) 0 ⌝ }
+{
+    if i < t.len() as u64 {
+        numbers::word_at(t, 512 + i)
+    } else {
+        0
+    }
 }
