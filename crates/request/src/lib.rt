@@ -6,7 +6,7 @@ ghost use Prim.Native.Nat.{_+_, _<_, _≤_};
 ghost use lib.ListN.{length, getD, set, take};
 ghost use Rattle.bitmap.specs.Pages.{bitAt};
 ghost use Rattle.pages.specs.Pages.{pagesOf};
-ghost use Rattle.request.specs.Request.{pick, tableOf, stopAt, isOpen, wanted};
+ghost use Rattle.request.specs.Request.{pick, tableOf, stopAt, isOpen, wanted, runEnd};
 
 // Whether a page is readable and writable.
 fn is_open(read: &[u8], write: &[u8], p: u64) -> bool
@@ -83,4 +83,12 @@ pub fn place_at(t: &[u64], i: u64) -> u64
     } else {
         0
     }
+}
+
+// The place after the run of ascending neighbours that starts at a place, among the first n.
+pub fn run_end(t: &[u64], n: u64, at: u64) -> u64
+    ensures { λ r. ⌜ r ≡ runEnd (now (t .entry)) n at ⌝ }
+{
+    let run = pages::run_at(t, n, at);
+    at + run.count
 }
