@@ -4,9 +4,10 @@ ghost use mathlib.Core.Path.{_≡_};
 ghost use mathlib.Core.Bool.{cond, _&&_};
 ghost use Prim.Native.Nat.{_+_, _<_, _≤_};
 ghost use lib.ListN.{length, getD, set, take};
-ghost use Rattle.bitmap.specs.Pages.{bitAt};
+ghost use Rattle.laws.specs.Ranges.{between};
+ghost use Rattle.bitmap.specs.Pages.{bitAt, written};
 ghost use Rattle.pages.specs.Pages.{pagesOf};
-ghost use Rattle.request.specs.Request.{pick, tableOf, stopAt, isOpen, wanted, runEnd};
+ghost use Rattle.request.specs.Request.{pick, tableOf, stopAt, isOpen, wanted, runEnd, put};
 
 // Whether a page is readable and writable.
 fn is_open(read: &[u8], write: &[u8], p: u64) -> bool
@@ -91,4 +92,31 @@ pub fn run_end(t: &[u64], n: u64, at: u64) -> u64
 {
     let run = pages::run_at(t, n, at);
     at + run.count
+}
+
+// The pages from `first` to `last`, with it.
+fn set_run(map: &mut [u8], first: u64, last: u64, state: bool)
+    requires { ⌜ first ≤ last ⌝ }
+    ensures { λ _. ⌜ now (map .exit) ≡ written 8 (between first (last + 1)) state (now (map .entry)) ⌝ }
+{
+    bitmap::update(map, first, last, state);
+    bitmap::set_page(map, last, state);
+}
+
+// The pages at the places from `from` to before `to`, run by run.
+pub fn set_places(map: &mut [u8], t: &[u64], from: u64, to: u64, state: bool)
+    ensures { λ _. ⌜ now (map .exit) ≡ put (now (t .entry)) from to state (now (map .entry)) ⌝ }
+{
+    let stop = numbers::least(to, t.len() as u64);
+    let mut i = from;
+    while i < stop {
+        let end = run_end(t, to, i);
+        set_run(
+            map,
+            numbers::word_at(t, i),
+            numbers::word_at(t, end - 1),
+            state,
+        );
+        i = end;
+    }
 }
