@@ -14,7 +14,8 @@ use Rattle.fault.specs.declared.GuestMemoryViewReadType.{GuestMemoryView
 use Rattle.fault.specs.declared.PageFaultAction.{PageFaultAction}
 use Rattle.fault.specs.declared.PageFaultAction.the-variants.{Retry, NotMapped, NotShared, NotPrivate, VtlProtected, Refused as FaultRefused}
 use Rattle.mapping.specs.Maps.{Maps, fitLen, mapsFit, inMaps}
-use Rattle.fault.specs.Fault.{mappingOf, viewOf, boolOf, accessMap, faultOf, faultRefusal, pageFault}
+use Rattle.permissions.specs.Flags.{boolOf}
+use Rattle.fault.specs.Fault.{mappingOf, viewOf, accessMap, faultOf, faultRefusal, pageFault}
 
 module _ (m : Maps) (tracked : Bool) (mapping : GuestValidMemoryType) (view : GuestMemoryViewReadType) (p : ℕ) (write failure : Bool) where
   abbrev given : PageFaultAction

@@ -12,10 +12,11 @@ use Rattle.fault.specs.declared.GuestMemoryViewReadType.{GuestMemoryView
 use Rattle.fault.specs.declared.GuestMemoryViewReadType.the-variants.{Read, KernelExecute, UserExecute}
 use Rattle.fault.specs.declared.PageFaultAction.{PageFaultAction}
 use Rattle.fault.specs.declared.PageFaultAction.the-variants.{Retry, NotMapped, NotShared, NotPrivate, VtlProtected, Refused}
+use Rattle.permissions.specs.Flags.{fitBool, boolOf}
 use Rattle.permissions.specs.HvError.{codeOf}
 use Rattle.mapping.specs.Maps.{Permissions, Maps, mapsFit, inMaps}
 
--- the numbers that cross, the port's choice: mapping encrypted 0, shared 1; view Read 0, KernelExecute 1, UserExecute 2; no 0, yes 1
+-- the numbers that cross, the port's choice: mapping encrypted 0, shared 1; view Read 0, KernelExecute 1, UserExecute 2
 abbrev pub fitMapping : ℕ → Bool
 fitMapping n = ltb n 2
 
@@ -27,12 +28,6 @@ fitView n = ltb n 3
 
 abbrev pub viewOf : ℕ → GuestMemoryViewReadType
 viewOf n = cond (eqb n 0) Read (cond (eqb n 1) KernelExecute UserExecute)
-
-abbrev pub fitBool : ℕ → Bool
-fitBool n = ltb n 2
-
-abbrev pub boolOf : ℕ → Bool
-boolOf n = eqb n 1
 
 -- the marks that a mapping is tested by, and what an unmarked page gives there
 abbrev pub marks : GuestValidMemoryType → Maps → List ℕ

@@ -1,5 +1,5 @@
--- The numbers that cross for VTLs, isolation types and flags (01, "Defaults", refusals 3 and 8). 01 gives those of VTLs and flags; those of
--- isolation types are the port's choice.
+-- The numbers that cross for VTLs, isolation types, flags and a yes or no (01, "Defaults", refusals 3 and 8). 01 gives those of VTLs and flags;
+-- the others are the port's choice.
 use mathlib.Core.Bool.{Bool, true, false, cond, _&&_}
 use Prim.Native.Nat.{ℕ, _+_, _*_, _/_, _%_}
 use lib.Dec.{eqb, leb, ltb}
@@ -49,3 +49,10 @@ noFlags = record { readable = false; writable = false; «kernel_executable» = f
 
 abbrev pub allFlags : HvMapGpaFlags
 allFlags = record { readable = true; writable = true; «kernel_executable» = true; «user_executable» = true }
+
+-- no 0, yes 1
+abbrev pub fitBool : ℕ → Bool
+fitBool n = ltb n 2
+
+abbrev pub boolOf : ℕ → Bool
+boolOf n = eqb n 1

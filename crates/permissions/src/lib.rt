@@ -134,7 +134,7 @@ impl HvMapGpaFlags {
     }
 }
 
-fn digit_of(b: bool) -> u64
+pub fn digit_of(b: bool) -> u64
     ensures { λ r. ⌜ r ≡ digit b ⌝ }
     ensures { λ r. ⌜ r ≤ 1 ⌝ }
 {
