@@ -1,0 +1,77 @@
+-- Laws of the state block, one for each way that the code goes. Assumes nothing.
+use native.Mathlib.Omega.{arith}
+use native.Mathlib.Decide.{decLt}
+use native.Mathlib.Numerals.{add-one}
+use mathlib.Core.Path.{_≡_, refl, sym, ap, ap₂, _∙_}
+use mathlib.Core.List.{List, [], _∷_, _++_, append-assoc}
+use Prim.Native.Nat.{ℕ, suc, _+_, _-_, _*_, _≤_, _<_, min}
+use lib.ListN.{length, getD, drop, take, set, replicate, length-drop}
+use lib.Seq.{set-at, take-all, take-suc, take-length, length-take-le}
+use Rattle.laws.specs.Bools.{digit}
+use Rattle.layout.specs.Layout.{entriesOf}
+use Rattle.permissions.specs.Flags.{vtlNumber}
+use Rattle.acceptor.specs.declared.Phase.{Phase}
+use Rattle.acceptor.specs.declared.Request.{Request}
+use Rattle.protector_state.specs.State.{phaseNumber, withRequest, ramOf, builtState}
+
+-- ---- the request's words
+
+module _ (a0 a1 a2 a3 a4 a5 a6 a7 a8 a9 : ℕ) where
+  pub saved : (s : List ℕ) → 10 ≤ length s → set (set (set (set (set (set (set (set (set (set s 0 a0) 1 a1) 2 a2) 3 a3) 4 a4) 5 a5) 6 a6) 7 a7) 8 a8) 9 a9 ≡ a0 ∷ a1 ∷ a2 ∷ a3 ∷ a4 ∷ a5 ∷ a6 ∷ a7 ∷ a8 ∷ a9 ∷ drop 10 s
+  saved [] h = absurd (omega arith)
+  saved (x0 ∷ []) h = absurd (omega arith)
+  saved (x0 ∷ x1 ∷ []) h = absurd (omega arith)
+  saved (x0 ∷ x1 ∷ x2 ∷ []) h = absurd (omega arith)
+  saved (x0 ∷ x1 ∷ x2 ∷ x3 ∷ []) h = absurd (omega arith)
+  saved (x0 ∷ x1 ∷ x2 ∷ x3 ∷ x4 ∷ []) h = absurd (omega arith)
+  saved (x0 ∷ x1 ∷ x2 ∷ x3 ∷ x4 ∷ x5 ∷ []) h = absurd (omega arith)
+  saved (x0 ∷ x1 ∷ x2 ∷ x3 ∷ x4 ∷ x5 ∷ x6 ∷ []) h = absurd (omega arith)
+  saved (x0 ∷ x1 ∷ x2 ∷ x3 ∷ x4 ∷ x5 ∷ x6 ∷ x7 ∷ []) h = absurd (omega arith)
+  saved (x0 ∷ x1 ∷ x2 ∷ x3 ∷ x4 ∷ x5 ∷ x6 ∷ x7 ∷ x8 ∷ []) h = absurd (omega arith)
+  saved (x0 ∷ x1 ∷ x2 ∷ x3 ∷ x4 ∷ x5 ∷ x6 ∷ x7 ∷ x8 ∷ x9 ∷ s) h = refl
+
+pub request-saved : (p : Phase) (q : Request) (s : List ℕ) (n share vtl stopped failed : ℕ) → 10 ≤ length s → n ≡ phaseNumber p → share ≡ digit (q .share)
+    → vtl ≡ vtlNumber (q .vtl) → stopped ≡ digit (q .stopped) → failed ≡ digit (q .failed)
+    → set (set (set (set (set (set (set (set (set (set s 0 n) 1 share) 2 vtl) 3 (q .n)) 4 (q .at)) 5 stopped) 6 failed) 7 (q .index)) 8 (q .code)) 9 (q .count) ≡ withRequest p q s
+request-saved p q s n share vtl stopped failed h e0 e1 e2 e5 e6 =
+    saved n share vtl (q .n) (q .at) stopped failed (q .index) (q .code) (q .count) s h ∙ rw (e0, e1, e2, e5, e6) refl
+
+-- ---- the layout's words
+
+pub ram-is : (s : List ℕ) (n : ℕ) → length s ≡ 128 → n ≡ min (getD s 31 0) 32 → take (32 + 3 * n - 32) (drop 32 s) ≡ ramOf s
+ram-is s n h e = elim (decLt (getD s 31 0) 32) [
+  | yes d ↦ let q : 32 + 3 * n - 32 ≡ 3 * getD s 31 0 = omega arith in ap (λ (k : ℕ). take k (drop 32 s)) q
+  | no d ↦
+      take-all (32 + 3 * n - 32) (drop 32 s) (omega (arith, length-drop 32 s))
+      ∙ sym (take-all (3 * getD s 31 0) (drop 32 s) (omega (arith, length-drop 32 s)))
+]
+
+-- ---- a build: the block while it is filled
+
+abbrev pub filledTo : List ℕ → ℕ → ℕ → ℕ → ℕ → List ℕ
+filledTo ram iso tracked release i =
+    0 ∷ 0 ∷ 0 ∷ 0 ∷ 0 ∷ 0 ∷ 0 ∷ 0 ∷ 0 ∷ 0 ∷ 0 ∷ 0 ∷ 0 ∷ 0 ∷ 0 ∷ 0 ∷ iso ∷ tracked ∷ release ∷ 0 ∷ 15 ∷ 16 ∷ 0 ∷ 0 ∷ 0 ∷ 0 ∷ 0 ∷ 0 ∷ 0 ∷ 0 ∷ 0 ∷ length (entriesOf ram) ∷ (take i ram ++ replicate (96 - i) 0)
+
+pub filled-none : (s t ram : List ℕ) (iso tracked release n : ℕ) → length s ≡ 128 → t ≡ replicate (length s) 0 → n ≡ length (entriesOf ram)
+    → set (set (set (set (set (set t 16 iso) 17 tracked) 18 release) 20 15) 21 16) 31 n ≡ filledTo ram iso tracked release 0
+filled-none s t ram iso tracked release n h f e =
+    ap₂ (λ (l : List ℕ) (m : ℕ). set (set (set (set (set (set l 16 iso) 17 tracked) 18 release) 20 15) 21 16) 31 m) (f ∙ ap (λ (k : ℕ). replicate k 0) h) e
+
+filled-next : (ram : List ℕ) (i : ℕ) → i < length ram → i < 96 → set (take i ram ++ replicate (96 - i) 0) i (getD ram i 0) ≡ take (i + 1) ram ++ replicate (96 - (i + 1)) 0
+filled-next ram i h k =
+    let d : 96 - i ≡ suc (96 - (i + 1)) = omega arith in
+    ap (λ (m : ℕ). set (take i ram ++ replicate m 0) i (getD ram i 0)) d
+    ∙ set-at (take i ram) 0 (replicate (96 - (i + 1)) 0) (getD ram i 0) i (length-take-le i ram (omega arith))
+    ∙ sym (ap (λ (l : List ℕ). l ++ replicate (96 - (i + 1)) 0) (ap (λ (m : ℕ). take m ram) (add-one i) ∙ take-suc ram i 0 h) ∙ append-assoc (take i ram) (getD ram i 0 ∷ []) (replicate (96 - (i + 1)) 0))
+
+module _ (ram : List ℕ) (iso tracked release i : ℕ) where
+  pub filled-more : i < length ram → i < 96 → set (filledTo ram iso tracked release i) (32 + i) (getD ram i 0) ≡ filledTo ram iso tracked release (i + 1)
+  filled-more h k =
+      let d : 32 + i ≡ suc (suc (suc (suc (suc (suc (suc (suc (suc (suc (suc (suc (suc (suc (suc (suc (suc (suc (suc (suc (suc (suc (suc (suc (suc (suc (suc (suc (suc (suc (suc (suc i))))))))))))))))))))))))))))))) = omega arith in
+      ap (λ (m : ℕ). set (filledTo ram iso tracked release i) m (getD ram i 0)) d
+      ∙ ap (λ (l : List ℕ). 0 ∷ 0 ∷ 0 ∷ 0 ∷ 0 ∷ 0 ∷ 0 ∷ 0 ∷ 0 ∷ 0 ∷ 0 ∷ 0 ∷ 0 ∷ 0 ∷ 0 ∷ 0 ∷ iso ∷ tracked ∷ release ∷ 0 ∷ 15 ∷ 16 ∷ 0 ∷ 0 ∷ 0 ∷ 0 ∷ 0 ∷ 0 ∷ 0 ∷ 0 ∷ 0 ∷ length (entriesOf ram) ∷ l) (filled-next ram i h k)
+
+  pub filled-all : length ram ≤ i → i ≤ length ram → filledTo ram iso tracked release i ≡ builtState ram iso tracked release
+  filled-all h k =
+      let d : i ≡ length ram = omega arith in
+      ap (filledTo ram iso tracked release) d ∙ ap (λ (l : List ℕ). 0 ∷ 0 ∷ 0 ∷ 0 ∷ 0 ∷ 0 ∷ 0 ∷ 0 ∷ 0 ∷ 0 ∷ 0 ∷ 0 ∷ 0 ∷ 0 ∷ 0 ∷ 0 ∷ iso ∷ tracked ∷ release ∷ 0 ∷ 15 ∷ 16 ∷ 0 ∷ 0 ∷ 0 ∷ 0 ∷ 0 ∷ 0 ∷ 0 ∷ 0 ∷ 0 ∷ length (entriesOf ram) ∷ (l ++ replicate (96 - length ram) 0)) (take-length ram)

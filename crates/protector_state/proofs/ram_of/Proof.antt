@@ -1,0 +1,42 @@
+-- `protector_state::ram_of` meets its contract. Assumes nothing.
+use borrow.Author.Needs.{needs}
+use Rattle.protector_state.proofs.ram_of.Statement.{statement}
+use Rattle.protector_state.proofs.ram_of.Tie as tie
+use Rattle.protector_state.proofs.Laws as laws
+
+shared-slice-read-least : tie.Need-shared-slice-read-least
+shared-slice-read-least c = search needs
+
+least-requires : tie.Need-least-requires
+least-requires c κs = search needs
+
+mul-end : tie.Need-mul-end
+mul-end c = search needs
+
+add-end : tie.Need-add-end
+add-end c = search needs
+
+sub-result : tie.Need-sub-result
+sub-result c = search needs
+
+part-result-start : tie.Need-part-result-start
+part-result-start c = search needs
+
+part-result-end : tie.Need-part-result-end
+part-result-end c = search needs
+
+returns : tie.Need-returns
+returns c = laws.ram-is (c .before .before .before .before .args .state .now) (c .before .least .result) (c .before .before .before .before .pre) (c .before .least .ensures)
+
+pub ram-of-spec : {M : Type 1} → statement M
+ram-of-spec =
+    tie.close
+    (tie.spec
+    shared-slice-read-least
+    least-requires
+    mul-end
+    add-end
+    sub-result
+    part-result-start
+    part-result-end
+    returns)

@@ -1,0 +1,59 @@
+-- What crosses for each answer: 01's number, and the values of an answer or of the operation asked for (01, "From the state", "Defaults"). The numbers
+-- of the operations are the port's choice.
+use mathlib.Core.Bool.{Bool, cond}
+use Prim.Native.Nat.{ℕ}
+use Rattle.laws.specs.Bools.{digit}
+use Rattle.permissions.specs.declared.GuestVtl.{GuestVtl}
+use Rattle.permissions.specs.declared.IsolationType.{IsolationType}
+use Rattle.permissions.specs.declared.HvMapGpaFlags.{HvMapGpaFlags}
+use Rattle.permissions.specs.Flags.{vtlNumber, bitsOf}
+use Rattle.permissions.specs.Rmpadjust.{operandOf}
+use Rattle.permissions.specs.HvError.{codeOf}
+use Rattle.pages.specs.declared.PageRun.{PageRun}
+use Rattle.acceptor.specs.declared.Operation.{Operation}
+use Rattle.acceptor.specs.declared.Operation.the-variants.{Wait, FlushAll, Protect, Invalidate, Release, Modify, Accept, Zero}
+use Rattle.acceptor.specs.declared.Answer.{Answer}
+use Rattle.acceptor.specs.declared.Answer.the-variants.{Done, AccessDenied, Failed, Halted, Ask, Refused}
+use Rattle.acceptor.specs.Steps.{isSnp}
+use Rattle.protector_state.specs.declared.Reply.{Reply}
+
+-- a call refused or finished: the number, its code, its index, the count
+abbrev pub finished : ℕ → ℕ → ℕ → ℕ → Reply
+finished number code index count =
+    record { number = number; code = code; index = index; count = count; operation = 0; vtl = 0; flags = 0; operand = 0; first = 0; pages = 0; shared = 0 }
+
+-- an operation on no page, and one on a run of pages
+abbrev pub plain : ℕ → Reply
+plain o = record { number = 0; code = 0; index = 0; count = 0; operation = o; vtl = 0; flags = 0; operand = 0; first = 0; pages = 0; shared = 0 }
+
+abbrev pub onRun : ℕ → PageRun → Reply
+onRun o r =
+    record { number = 0; code = 0; index = 0; count = 0; operation = o; vtl = 0; flags = 0; operand = 0; first = r .first; pages = r .count; shared = 0 }
+
+-- a Protect has its RMPADJUST operand on SNP
+abbrev pub protects : IsolationType → GuestVtl → HvMapGpaFlags → PageRun → Reply
+protects i v f r =
+    record { number = 0; code = 0; index = 0; count = 0; operation = 3; vtl = vtlNumber v; flags = bitsOf f; operand = cond (isSnp i) (operandOf v f) 0; first = r .first; pages = r .count; shared = 0 }
+
+-- a Modify has how many pages it asks for; they are the first of the request's table
+abbrev pub modifies : Bool → ℕ → Reply
+modifies s n =
+    record { number = 0; code = 0; index = 0; count = 0; operation = 6; vtl = 0; flags = 0; operand = 0; first = 0; pages = n; shared = digit s }
+
+unfoldable pub askedOf : IsolationType → Operation → Reply
+askedOf i Wait = plain 1
+askedOf i FlushAll = plain 2
+askedOf i (Protect v f r) = protects i v f r
+askedOf i (Invalidate r) = onRun 4 r
+askedOf i (Release r) = onRun 5 r
+askedOf i (Modify s n) = modifies s n
+askedOf i (Accept r) = onRun 7 r
+askedOf i (Zero r) = onRun 8 r
+
+unfoldable pub flatOf : IsolationType → Answer → Reply
+flatOf i (Done n) = finished 0 0 0 n
+flatOf i (AccessDenied index n) = finished 15 (codeOf 15) index n
+flatOf i (Failed code index n) = finished 16 code index n
+flatOf i (Halted n) = finished 20 0 0 n
+flatOf i (Ask o) = askedOf i o
+flatOf i (Refused number) = finished number (codeOf number) 0 0
