@@ -1,0 +1,63 @@
+-- `protector::apply` meets its contract. Assumes nothing.
+use borrow.Author.Needs.{needs}
+use Rattle.mapping.specs.Maps.{maps}
+use Rattle.protector.proofs.apply.Statement.{statement}
+use Rattle.protector.proofs.apply.Tie as tie
+use Rattle.protector.proofs.Laws as laws
+
+set-marks-requires : tie.Need-set-marks-requires
+set-marks-requires c κs = search needs
+
+set-marks-requires-2 : tie.Need-set-marks-requires-2
+set-marks-requires-2 c κs = search needs
+
+set-marks-requires-3 : tie.Need-set-marks-requires-3
+set-marks-requires-3 c κs = search needs
+
+set-marks-requires-4 : tie.Need-set-marks-requires-4
+set-marks-requires-4 c κs = search needs
+
+set-marks-requires-5 : tie.Need-set-marks-requires-5
+set-marks-requires-5 c κs = search needs
+
+set-marks-requires-6 : tie.Need-set-marks-requires-6
+set-marks-requires-6 c κs = search needs
+
+same-length : tie.Need-same-length
+same-length c = search needs
+
+same-length-2 : tie.Need-same-length-2
+same-length-2 c = search needs
+
+same-length-3 : tie.Need-same-length-3
+same-length-3 c = search needs
+
+same-length-4 : tie.Need-same-length-4
+same-length-4 c = search needs
+
+same-length-5 : tie.Need-same-length-5
+same-length-5 c = search needs
+
+same-length-6 : tie.Need-same-length-6
+same-length-6 c = search needs
+
+returns : tie.Need-returns
+returns c = let a = c .before .before .before .before .before .before .before .before .before .before .before .before .before .before .before .before .before .before .before .before .before .before .before .before .before .before .before .before .before .before .before .before .before .before .before .args in laws.applies (a .pages .now) (a .w) (maps (a .private .now) (a .shared .now) (a .read .now) (a .write .now) (a .kernel .now) (a .user .now)) (c .before .before .before .before .before .before .before .before .before .before .before .before .before .before .before .before .before .before .before .before .before .before .set-marks .last .0) (c .before .before .before .before .before .before .before .before .before .before .before .before .before .before .before .before .before .before .set-marks2 .last .0) (c .before .before .before .before .before .before .before .before .before .before .before .before .before .before .set-marks3 .last .0) (c .before .before .before .before .before .before .before .before .before .before .set-marks4 .last .0) (c .before .before .before .before .before .before .set-marks5 .last .0) (c .before .before .set-marks6 .last .0) (c .before .before .before .before .before .before .before .before .before .before .before .before .before .before .before .before .before .before .before .before .before .before .set-marks .ensures) (c .before .before .before .before .before .before .before .before .before .before .before .before .before .before .before .before .before .before .set-marks2 .ensures) (c .before .before .before .before .before .before .before .before .before .before .before .before .before .before .set-marks3 .ensures) (c .before .before .before .before .before .before .before .before .before .before .set-marks4 .ensures) (c .before .before .before .before .before .before .set-marks5 .ensures) (c .before .before .set-marks6 .ensures)
+
+pub apply-spec : {M : Type 1} → statement M
+apply-spec =
+    tie.close
+    (tie.spec
+    set-marks-requires
+    set-marks-requires-2
+    set-marks-requires-3
+    set-marks-requires-4
+    set-marks-requires-5
+    set-marks-requires-6
+    same-length
+    same-length-2
+    same-length-3
+    same-length-4
+    same-length-5
+    same-length-6
+    returns)

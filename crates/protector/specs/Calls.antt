@@ -1,0 +1,179 @@
+-- The calls, each as a definition of what it gives (01, "The request under way", "From the input", "From the state", and the order of refusals).
+use mathlib.Core.Bool.{Bool, true, false, cond, not, _&&_}
+use mathlib.Core.List.{List, [], _∷_}
+use Prim.Native.Nat.{ℕ}
+use lib.Dec.{eqb, ltb}
+use lib.ListN.{length, take, replicate}
+use Rattle.laws.specs.Bools.{digit}
+use Rattle.laws.specs.Refusal.{unless}
+use Rattle.bitmap.specs.Pages.{bitAt}
+use Rattle.layout.specs.declared.MemoryRangeWithNode.{MemoryRangeWithNode}
+use Rattle.layout.specs.Layout.{entriesOf, refusalOf, isRam, mapLen}
+use Rattle.permissions.specs.declared.GuestVtl.{GuestVtl}
+use Rattle.permissions.specs.Flags.{fitVtl, vtlOf, fitIsolation, fitBool, boolOf}
+use Rattle.permissions.specs.HvError.{codeOf}
+use Rattle.mapping.specs.Maps.{marksFit, permissionLen, permissionsFit, built}
+use Rattle.pages.specs.Pages.{pagesOf, isLong, repeats, isRagged}
+use Rattle.request.specs.Request.{pick, tableOf, stopAt, isOpen, wanted}
+use Rattle.overlays.specs.Overlays.{isOverlay}
+use Rattle.acceptor.specs.declared.Settings.{Settings}
+use Rattle.acceptor.specs.declared.Step.{Step}
+use Rattle.acceptor.specs.Steps.{isVtl0, startOf, doneOf, failedOf}
+use Rattle.protector_state.specs.declared.Reply.{Reply}
+use Rattle.protector_state.specs.State.{stateLen, phaseIn, requestOf, withRequest, settingsOf, entriesIn, builtState}
+use Rattle.protector_state.specs.Reply.{finished, flatOf}
+use Rattle.protector.specs.World.{World, Outcome, outcome, pagesLen, tablesLen, overlaysOf, locksOf, isLocked, fits, statusOf, takes, applied}
+
+-- a call refused by the number n changes nothing; else it gives what it does
+abbrev pub refusedBy : World → ℕ → Outcome
+refusedBy w n = record { world = w; reply = finished n (codeOf n) 0 0 }
+
+abbrev pub decided : World → ℕ → Outcome → Outcome
+decided w n taken = cond (eqb n 0) taken (refusedBy w n)
+
+-- a step carried out: its writes made, its phase and request kept
+unfoldable pub carriedOut : World → List ℕ → Step → Outcome
+carriedOut w table s =
+    outcome (applied table (s .writes) (w .maps)) (withRequest (s .phase) (s .request) (w .state)) table (w .tables)
+    (flatOf (settingsOf (w .state) .isolation) (s .answer))
+
+-- ---- build: 1, 2, 3, 4, 8; where `tracked` is unfit no permission map has a length to be tested
+
+abbrev pub permissionMapsFit : ℕ → ℕ → ℕ → ℕ → ℕ → ℕ → Bool
+permissionMapsFit len tracked read write kernel user = cond (fitBool tracked) (permissionsFit (permissionLen len (boolOf tracked)) read write kernel user) true
+
+abbrev pub buildFits : ℕ → ℕ → World → Bool
+buildFits len tracked w =
+    marksFit len (length (w .maps .private)) (length (w .maps .shared))
+    && (permissionMapsFit len tracked (length (w .maps .permissions .read)) (length (w .maps .permissions .write)) (length (w .maps .permissions .kernel)) (length (w .maps .permissions .user))
+    && (eqb (length (w .state)) stateLen && (eqb (length (w .pages)) pagesLen && eqb (length (w .tables)) tablesLen)))
+
+unfoldable pub buildRefusal : List ℕ → ℕ → ℕ → ℕ → Bool → ℕ
+buildRefusal ram isolation tracked release fit =
+    unless (eqb (refusalOf ram) 0) (refusalOf ram)
+    (unless (fitIsolation isolation) 3
+    (unless fit 4
+    (unless (fitBool tracked) 8
+    (unless (fitBool release) 8
+    0))))
+
+-- every map, the state and the tables as a build leaves them, whatever they held
+unfoldable pub buildTaken : World → List ℕ → ℕ → ℕ → ℕ → Outcome
+buildTaken w ram isolation tracked release =
+    outcome (built (entriesOf ram) (w .maps)) (builtState ram isolation tracked release) (replicate (length (w .pages)) 0)
+    (replicate (length (w .tables)) 0) (finished 0 0 0 0)
+
+unfoldable pub buildOf : World → List ℕ → ℕ → ℕ → ℕ → Outcome
+buildOf w ram isolation tracked release =
+    decided w (buildRefusal ram isolation tracked release (buildFits (mapLen (entriesOf ram)) tracked w)) (buildTaken w ram isolation tracked release)
+
+-- ---- a visibility change: each page in turn, 7 where it isn't RAM, 10 where it is locked, 11 where an overlay is to be shared
+
+abbrev pub pageRefusal : List MemoryRangeWithNode → List ℕ → List ℕ → Bool → ℕ → ℕ
+pageRefusal es overlays locks share p =
+    unless (isRam es p) 7
+    (unless (not (isLocked overlays locks p)) 10
+    (unless (not (share && isOverlay overlays p)) 11
+    0))
+
+-- the number of the first page that is refused
+unfoldable pub firstRefusal : (ℕ → ℕ) → List ℕ → ℕ
+firstRefusal f [] = 0
+firstRefusal f (p ∷ ps) = cond (eqb (f p) 0) (firstRefusal f ps) (f p)
+
+-- a visibility as it crosses: private 0, shared 1
+unfoldable pub visibilityRefusal : List ℕ → Bool → List ℕ → ℕ → ℕ → List ℕ → ℕ
+visibilityRefusal s fit tables vtl visibility l =
+    unless (eqb (length s) stateLen) 4
+    (unless (eqb (statusOf (phaseIn s)) 0) (statusOf (phaseIn s))
+    (unless fit 4
+    (unless (not (isLong l)) 5
+    (unless (not (repeats (pagesOf l))) 6
+    (unless (fitVtl vtl) 8
+    (unless (fitBool visibility) 8
+    (unless (not (isRagged l)) 8
+    (firstRefusal (pageRefusal (entriesIn s) (overlaysOf tables (vtlOf vtl)) (locksOf tables (vtlOf vtl)) (boolOf visibility)) (pagesOf l)))))))))
+
+-- whether the permission maps are looked at: a share that VTL0 asks for, once protections are enabled
+abbrev pub looksAt : Settings → GuestVtl → Bool → Bool
+looksAt s v share = share && (isVtl0 v && s .enabled)
+
+-- where it stops (15): how many pages come before the first that isn't open
+abbrev pub stopOf : World → GuestVtl → Bool → List ℕ → ℕ
+stopOf w v share l =
+    stopAt (isOpen (w .maps .permissions .read) (w .maps .permissions .write) (looksAt (settingsOf (w .state)) v share)) (pagesOf l)
+
+-- the pages before the stop that aren't yet as asked, and the table that has them with their places in the list
+abbrev pub askedFor : World → GuestVtl → Bool → List ℕ → List ℕ
+askedFor w v share l = pick (wanted (w .maps .shared) share) (take (stopOf w v share l) (pagesOf l))
+
+abbrev pub tableFor : World → GuestVtl → Bool → List ℕ → List ℕ
+tableFor w v share l = tableOf (wanted (w .maps .shared) share) (take (stopOf w v share l) (pagesOf l)) (w .pages)
+
+unfoldable pub visibilityTaken : World → GuestVtl → Bool → List ℕ → Outcome
+visibilityTaken w v share l =
+    carriedOut w (tableFor w v share l)
+    (startOf (settingsOf (w .state)) v share (length (askedFor w v share l)) (stopOf w v share l) (ltb (stopOf w v share l) (length (pagesOf l))))
+
+unfoldable pub visibilityOf : World → ℕ → ℕ → List ℕ → Outcome
+visibilityOf w vtl visibility l = decided w (visibilityRefusal (w .state) (fits w) (w .tables) vtl visibility l) (visibilityTaken w (vtlOf vtl) (boolOf visibility) l)
+
+-- ---- the answer: 20, 4, 21, else taken
+
+unfoldable pub answerRefusal : List ℕ → Bool → Bool → ℕ
+answerRefusal s fit failed =
+    unless (eqb (length s) stateLen) 4
+    (unless (not (eqb (statusOf (phaseIn s)) 20)) 20
+    (unless fit 4
+    (unless (takes (phaseIn s) failed) 21
+    0)))
+
+unfoldable pub answerDone : World → Outcome
+answerDone w =
+    decided w (answerRefusal (w .state) (fits w) false)
+    (carriedOut w (w .pages) (doneOf (settingsOf (w .state)) (phaseIn (w .state)) (requestOf (w .state)) (w .pages)))
+
+unfoldable pub answerFailed : World → ℕ → ℕ → Outcome
+answerFailed w code processed =
+    decided w (answerRefusal (w .state) (fits w) true)
+    (carriedOut w (w .pages) (failedOf (settingsOf (w .state)) (phaseIn (w .state)) (requestOf (w .state)) (w .pages) code processed))
+
+-- ---- query_host_visibility: 20, 19, 4, 5, 8, then 7 at its own index; the output is filled as far as it goes
+
+unfoldable pub queryRefusal : List ℕ → ℕ → List ℕ → ℕ
+queryRefusal s shared l =
+    unless (eqb (length s) stateLen) 4
+    (unless (eqb (statusOf (phaseIn s)) 0) (statusOf (phaseIn s))
+    (unless (eqb shared (mapLen (entriesIn s))) 4
+    (unless (not (isLong l)) 5
+    (unless (not (isRagged l)) 8
+    0))))
+
+-- how many of the pages come before the first that isn't RAM
+abbrev pub ramBefore : List ℕ → List ℕ → ℕ
+ramBefore s l = stopAt (isRam (entriesIn s)) (pagesOf l)
+
+-- a byte for each page: whether it is marked shared
+unfoldable pub visibilities : List ℕ → List ℕ → List ℕ
+visibilities shared [] = []
+visibilities shared (p ∷ ps) = digit (bitAt 8 shared p) ∷ visibilities shared ps
+
+unfoldable pub filledBy : List ℕ → List ℕ → List ℕ
+filledBy [] out = out
+filledBy (b ∷ bs) [] = []
+filledBy (b ∷ bs) (x ∷ out) = b ∷ filledBy bs out
+
+pub record Query : Type 0 where
+  pub out : List ℕ
+  pub reply : Reply
+
+abbrev pub query : List ℕ → Reply → Query
+query out r = record { out = out; reply = r }
+
+unfoldable pub queryOf : List ℕ → List ℕ → List ℕ → List ℕ → Query
+queryOf s shared l out =
+    let n = queryRefusal s (length shared) l in
+    cond (eqb n 0)
+    (cond (ltb (ramBefore s l) (length (pagesOf l))) (query out (finished 7 (codeOf 7) (ramBefore s l) 0))
+    (query (filledBy (visibilities shared (pagesOf l)) out) (finished 0 0 0 0)))
+    (query out (finished n (codeOf n) 0 0))

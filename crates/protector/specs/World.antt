@@ -1,0 +1,119 @@
+-- What the protector is lent, and the tests that all its calls share (01, "Overlays and locks", "From the input" 4, "From the state" 19 and 20).
+use mathlib.Core.Bool.{Bool, true, false, not, _&&_}
+use mathlib.Core.List.{List}
+use Prim.Native.Nat.{ℕ, _+_, _*_}
+use lib.Dec.{eqb}
+use lib.ListN.{length, drop, take}
+use Rattle.permissions.specs.declared.GuestVtl.{GuestVtl}
+use Rattle.permissions.specs.declared.HvMapGpaFlags.{HvMapGpaFlags}
+use Rattle.permissions.specs.Flags.{vtlNumber}
+use Rattle.layout.specs.Layout.{mapLen}
+use Rattle.mapping.specs.Maps.{Permissions, Maps, perms, marksFit, permissionLen, permissionsFit}
+use Rattle.overlays.specs.Overlays.{isOverlay}
+use Rattle.locks.specs.Locks.{listsOf, held}
+use Rattle.request.specs.Request.{put}
+use Rattle.acceptor.specs.declared.Phase.{Phase}
+use Rattle.acceptor.specs.declared.Phase.the-variants.{Idle, Halted, Wait, FlushAll, ProtectNone0, ProtectNone1, Invalidate, Release, Modify, Accept, Zero, ProtectDefault0, ProtectDefault1}
+use Rattle.acceptor.specs.declared.Places.{Places}
+use Rattle.acceptor.specs.declared.Writes.{Writes}
+use Rattle.protector_state.specs.declared.Reply.{Reply}
+use Rattle.protector_state.specs.State.{settingsOf, entriesIn}
+
+-- the six maps, the state block, the table of the request's pages, and the tables of overlays and locks
+pub record World : Type 0 where
+  pub maps : Maps
+  pub state : List ℕ
+  pub pages : List ℕ
+  pub tables : List ℕ
+
+abbrev pub world : Maps → List ℕ → List ℕ → List ℕ → World
+world m s p t = record { maps = m; state = s; pages = p; tables = t }
+
+-- what a call gives: all that is lent as it is then, and the reply
+pub record Outcome : Type 0 where
+  pub world : World
+  pub reply : Reply
+
+abbrev pub outcome : Maps → List ℕ → List ℕ → List ℕ → Reply → Outcome
+outcome m s p t r = record { world = world m s p t; reply = r }
+
+abbrev pub pagesLen : ℕ
+pagesLen = 1024
+
+abbrev pub tablesLen : ℕ
+tablesLen = 3460
+
+-- ---- the tables: overlays of VTL0 and VTL1, 641 words each, then locks of VTL0 and VTL1, 1,089 words each
+
+abbrev pub overlaysOf : List ℕ → GuestVtl → List ℕ
+overlaysOf t v = take 641 (drop (641 * vtlNumber v) t)
+
+abbrev pub locksOf : List ℕ → GuestVtl → List ℕ
+locksOf t v = take 1089 (drop (1282 + 1089 * vtlNumber v) t)
+
+-- locked: in one of the lists, and not an overlay
+abbrev pub isLocked : List ℕ → List ℕ → ℕ → Bool
+isLocked overlays locks p = held (listsOf locks) p && not (isOverlay overlays p)
+
+-- ---- 4: the lengths of what is lent beside the state block
+
+abbrev pub lengthsFit : List ℕ → ℕ → ℕ → ℕ → ℕ → ℕ → ℕ → ℕ → ℕ → Bool
+lengthsFit s private shared read write kernel user pages tables =
+    (marksFit (mapLen (entriesIn s)) private shared && permissionsFit (permissionLen (mapLen (entriesIn s)) (settingsOf s .tracked)) read write kernel user)
+    && (eqb pages pagesLen && eqb tables tablesLen)
+
+abbrev pub fits : World → Bool
+fits w =
+    lengthsFit (w .state) (length (w .maps .private)) (length (w .maps .shared)) (length (w .maps .permissions .read)) (length (w .maps .permissions .write))
+    (length (w .maps .permissions .kernel)) (length (w .maps .permissions .user)) (length (w .pages)) (length (w .tables))
+
+-- ---- 20 where halted, 19 while an operation waits for its answer
+
+abbrev pub statusOf : Phase → ℕ
+statusOf Idle = 0
+statusOf Halted = 20
+statusOf Wait = 19
+statusOf FlushAll = 19
+statusOf ProtectNone0 = 19
+statusOf ProtectNone1 = 19
+statusOf Invalidate = 19
+statusOf Release = 19
+statusOf Modify = 19
+statusOf Accept = 19
+statusOf Zero = 19
+statusOf ProtectDefault0 = 19
+statusOf ProtectDefault1 = 19
+
+-- whether an answer is taken (21 else): nothing waits, or what waits cannot fail
+abbrev pub takes : Phase → Bool → Bool
+takes Idle failed = false
+takes Halted failed = false
+takes Wait failed = not failed
+takes FlushAll failed = not failed
+takes ProtectNone0 failed = true
+takes ProtectNone1 failed = true
+takes Invalidate failed = true
+takes Release failed = true
+takes Modify failed = true
+takes Accept failed = true
+takes Zero failed = true
+takes ProtectDefault0 failed = true
+takes ProtectDefault1 failed = true
+
+-- ---- what a step writes: the marks and the permissions of places of the table
+
+abbrev pub putPlaces : List ℕ → Places → Bool → List ℕ → List ℕ
+putPlaces t a s m = put t (a .from) (a .to) s m
+
+abbrev pub putPermissions : List ℕ → Places → HvMapGpaFlags → Permissions → Permissions
+putPermissions t a f m =
+    perms (putPlaces t a (f .readable) (m .read)) (putPlaces t a (f .writable) (m .write))
+    (putPlaces t a (f .«kernel_executable») (m .kernel)) (putPlaces t a (f .«user_executable») (m .user))
+
+unfoldable pub applied : List ℕ → Writes → Maps → Maps
+applied t w m =
+    record {
+      private = putPlaces t (w .private) (w .state) (m .private);
+      shared = putPlaces t (w .shared) (w .state) (m .shared);
+      permissions = putPermissions t (w .permissions) (w .flags) (m .permissions);
+    }

@@ -1,0 +1,403 @@
+// The protector's tests of a call, and the one function that writes the maps.
+ghost use mathlib.Core.Path.{_≡_};
+ghost use mathlib.Core.Bool.{_&&_};
+ghost use lib.Dec.{eqb};
+ghost use lib.ListN.{length};
+ghost use Rattle.layout.specs.Layout.{entriesOf, mapLen};
+ghost use Rattle.mapping.specs.Maps.{maps, marksFit};
+ghost use Rattle.pages.specs.Pages.{pagesOf};
+ghost use Rattle.protector_state.specs.State.{stateLen, withRequest, settingsOf};
+ghost use Rattle.protector_state.specs.Reply.{flatOf};
+ghost use Rattle.protector.specs.World.{pagesLen, tablesLen, overlaysOf, locksOf, isLocked, lengthsFit, statusOf, takes, putPlaces, applied};
+ghost use Rattle.protector.specs.Calls.{permissionMapsFit, buildRefusal, pageRefusal, firstRefusal, visibilityRefusal, looksAt, answerRefusal};
+use acceptor::Phase;
+use acceptor::Places;
+use acceptor::Settings;
+use acceptor::Step;
+use acceptor::Writes;
+use permissions::GuestVtl;
+use protector_state::Reply;
+
+// The tables of one VTL.
+fn overlays_of(tables: &[u64], vtl: GuestVtl) -> &[u64]
+    requires { ⌜ length (now tables) ≡ tablesLen ⌝ }
+    ensures { λ r. ⌜ now r ≡ overlaysOf (now (tables .entry)) vtl ⌝ }
+{
+    match vtl {
+        GuestVtl::Vtl0 => &tables[0..641],
+        GuestVtl::Vtl1 => &tables[641..1282],
+    }
+}
+
+fn locks_of(tables: &[u64], vtl: GuestVtl) -> &[u64]
+    requires { ⌜ length (now tables) ≡ tablesLen ⌝ }
+    ensures { λ r. ⌜ now r ≡ locksOf (now (tables .entry)) vtl ⌝ }
+{
+    match vtl {
+        GuestVtl::Vtl0 => &tables[1282..2371],
+        GuestVtl::Vtl1 => &tables[2371..3460],
+    }
+}
+
+fn is_locked(overlays: &[u64], locks: &[u64], gpn: u64) -> bool
+    ensures { λ r. ⌜ r ≡ isLocked (now (overlays .entry)) (now (locks .entry)) gpn ⌝ }
+{
+    if locks::holds(locks, gpn) {
+        !overlays::is_overlay(overlays, gpn)
+    } else {
+        false
+    }
+}
+
+// Whether what is lent beside the state block has its lengths.
+fn lengths_fit(
+    state: &[u64],
+    private: u64,
+    shared: u64,
+    read: u64,
+    write: u64,
+    kernel: u64,
+    user: u64,
+    pages: u64,
+    tables: u64,
+) -> bool
+    requires { ⌜ length (now state) ≡ stateLen ⌝ }
+    ensures { λ r. ⌜ r ≡ lengthsFit (now (state .entry)) private shared read write kernel user pages tables ⌝ }
+{
+    let len = layout::map_len(protector_state::ram_of(state));
+    let tracked = state[17] == 1;
+    if !mapping::maps_fit(len, tracked, private, shared, read, write, kernel, user) {
+        return false;
+    }
+    if pages != 1024 {
+        return false;
+    }
+    tables == 3460
+}
+
+pub fn status(phase: Phase) -> u64
+    ensures { λ r. ⌜ r ≡ statusOf phase ⌝ }
+{
+    match phase {
+        Phase::Idle => 0,
+        Phase::Halted => 20,
+        Phase::Wait => 19,
+        Phase::FlushAll => 19,
+        Phase::ProtectNone0 => 19,
+        Phase::ProtectNone1 => 19,
+        Phase::Invalidate => 19,
+        Phase::Release => 19,
+        Phase::Modify => 19,
+        Phase::Accept => 19,
+        Phase::Zero => 19,
+        Phase::ProtectDefault0 => 19,
+        Phase::ProtectDefault1 => 19,
+    }
+}
+
+// Whether an answer, a failure or not, is one to the operation outstanding.
+fn is_taken(phase: Phase, failed: bool) -> bool
+    ensures { λ r. ⌜ r ≡ takes phase failed ⌝ }
+{
+    match phase {
+        Phase::Idle => false,
+        Phase::Halted => false,
+        Phase::Wait => !failed,
+        Phase::FlushAll => !failed,
+        Phase::ProtectNone0 => true,
+        Phase::ProtectNone1 => true,
+        Phase::Invalidate => true,
+        Phase::Release => true,
+        Phase::Modify => true,
+        Phase::Accept => true,
+        Phase::Zero => true,
+        Phase::ProtectDefault0 => true,
+        Phase::ProtectDefault1 => true,
+    }
+}
+
+fn page_refusal(ram: &[u64], overlays: &[u64], locks: &[u64], share: bool, gpn: u64) -> u64
+    ensures { λ r. ⌜ r ≡ pageRefusal (entriesOf (now (ram .entry))) (now (overlays .entry)) (now (locks .entry)) share gpn ⌝ }
+{
+    if !layout::is_in_guest_memory(ram, gpn) {
+        return 7;
+    }
+    if is_locked(overlays, locks, gpn) {
+        return 10;
+    }
+    if share {
+        if overlays::is_overlay(overlays, gpn) {
+            return 11;
+        }
+    }
+    0
+}
+
+// The number of the first page of a list that is refused.
+fn pages_refusal(ram: &[u64], overlays: &[u64], locks: &[u64], share: bool, list: &[u8]) -> u64
+    ensures { λ r. ⌜ r ≡ firstRefusal (pageRefusal (entriesOf (now (ram .entry))) (now (overlays .entry)) (now (locks .entry)) share) (pagesOf (now (list .entry))) ⌝ }
+{
+    let count = pages::page_count(list);
+    let mut i: u64 = 0;
+    while i < count {
+        let n = page_refusal(ram, overlays, locks, share, pages::page_at(list, i));
+        if n != 0 {
+            return n;
+        }
+        i += 1;
+    }
+    0
+}
+
+// The number that refuses a visibility change: 0 where none does.
+pub fn visibility_refusal(
+    state: &[u64],
+    private: u64,
+    shared: u64,
+    read: u64,
+    write: u64,
+    kernel: u64,
+    user: u64,
+    pages: u64,
+    tables: &[u64],
+    vtl: u64,
+    visibility: u64,
+    list: &[u8],
+) -> u64
+    ensures { λ r. ⌜ r ≡ visibilityRefusal (now (state .entry)) (lengthsFit (now (state .entry)) private shared read write kernel user pages (length (now (tables .entry)))) (now (tables .entry)) vtl visibility (now (list .entry)) ⌝ }
+{
+    if state.len() != 128 {
+        return 4;
+    }
+    let busy = status(protector_state::phase(state));
+    if busy != 0 {
+        return busy;
+    }
+    let held = tables.len() as u64;
+    if !lengths_fit(
+        state,
+        private,
+        shared,
+        read,
+        write,
+        kernel,
+        user,
+        pages,
+        held,
+    ) {
+        return 4;
+    }
+    if pages::is_long(list) {
+        return 5;
+    }
+    if pages::has_repeat(list) {
+        return 6;
+    }
+    if !permissions::is_vtl(vtl) {
+        return 8;
+    }
+    if 1 < visibility {
+        return 8;
+    }
+    if pages::is_ragged(list) {
+        return 8;
+    }
+    let v = permissions::vtl_of(vtl);
+    pages_refusal(
+        protector_state::ram_of(state),
+        overlays_of(tables, v),
+        locks_of(tables, v),
+        visibility == 1,
+        list,
+    )
+}
+
+// Whether a visibility change looks at the permission maps.
+pub fn looks_at(set: Settings, vtl: GuestVtl, share: bool) -> bool
+    ensures { λ r. ⌜ r ≡ looksAt set vtl share ⌝ }
+{
+    if !share {
+        return false;
+    }
+    match vtl {
+        GuestVtl::Vtl0 => set.enabled,
+        GuestVtl::Vtl1 => false,
+    }
+}
+
+// The number that refuses an answer: 0 where none does.
+pub fn answer_refusal(
+    state: &[u64],
+    private: u64,
+    shared: u64,
+    read: u64,
+    write: u64,
+    kernel: u64,
+    user: u64,
+    pages: u64,
+    tables: u64,
+    failed: bool,
+) -> u64
+    ensures { λ r. ⌜ r ≡ answerRefusal (now (state .entry)) (lengthsFit (now (state .entry)) private shared read write kernel user pages tables) failed ⌝ }
+{
+    if state.len() != 128 {
+        return 4;
+    }
+    let phase = protector_state::phase(state);
+    if status(phase) == 20 {
+        return 20;
+    }
+    if !lengths_fit(
+        state,
+        private,
+        shared,
+        read,
+        write,
+        kernel,
+        user,
+        pages,
+        tables,
+    ) {
+        return 4;
+    }
+    if is_taken(phase, failed) { 0 } else { 21 }
+}
+
+fn set_marks(map: &mut [u8], pages: &[u64], places: Places, state: bool)
+    ensures { λ _. ⌜ now (map .exit) ≡ putPlaces (now (pages .entry)) places state (now (map .entry)) ⌝ }
+{
+    let from = places.from;
+    let to = places.to;
+    request::set_places(map, pages, from, to, state);
+}
+
+// What a step writes. Places of no page write nothing.
+pub fn apply(
+    private: &mut [u8],
+    shared: &mut [u8],
+    read: &mut [u8],
+    write: &mut [u8],
+    kernel: &mut [u8],
+    user: &mut [u8],
+    pages: &[u64],
+    w: Writes,
+)
+    ensures { λ _. ⌜ maps (now (private .exit)) (now (shared .exit)) (now (read .exit)) (now (write .exit)) (now (kernel .exit)) (now (user .exit)) ≡ applied (now (pages .entry)) w (maps (now (private .entry)) (now (shared .entry)) (now (read .entry)) (now (write .entry)) (now (kernel .entry)) (now (user .entry))) ⌝ }
+{
+    let p = w.private;
+    let s = w.shared;
+    let m = w.permissions;
+    let f = w.flags;
+    set_marks(private, pages, p, w.state);
+    set_marks(shared, pages, s, w.state);
+    set_marks(read, pages, m, f.readable);
+    set_marks(write, pages, m, f.writable);
+    set_marks(kernel, pages, m, f.kernel_executable);
+    set_marks(user, pages, m, f.user_executable);
+}
+
+// A step carried out: its writes made, its phase and request kept.
+pub fn carry_out(
+    private: &mut [u8],
+    shared: &mut [u8],
+    read: &mut [u8],
+    write: &mut [u8],
+    kernel: &mut [u8],
+    user: &mut [u8],
+    state: &mut [u64],
+    pages: &[u64],
+    set: Settings,
+    s: Step,
+) -> Reply
+    requires { ⌜ length (now state) ≡ stateLen ⌝ }
+    ensures { λ _. ⌜ maps (now (private .exit)) (now (shared .exit)) (now (read .exit)) (now (write .exit)) (now (kernel .exit)) (now (user .exit)) ≡ applied (now (pages .entry)) (s .writes) (maps (now (private .entry)) (now (shared .entry)) (now (read .entry)) (now (write .entry)) (now (kernel .entry)) (now (user .entry))) ⌝ }
+    ensures { λ _. ⌜ now (state .exit) ≡ withRequest (s .phase) (s .request) (now (state .entry)) ⌝ }
+    ensures { λ r. ⌜ r ≡ flatOf (set .isolation) (s .answer) ⌝ }
+{
+    let writes = s.writes;
+    let phase = s.phase;
+    let request = s.request;
+    let answer = s.answer;
+    let isolation = set.isolation;
+    apply(private, shared, read, write, kernel, user, pages, writes);
+    protector_state::save(state, phase, request);
+    protector_state::flatten(isolation, answer)
+}
+
+fn permission_maps_fit(
+    len: u64,
+    tracked: u64,
+    read: u64,
+    write: u64,
+    kernel: u64,
+    user: u64,
+) -> bool
+    ensures { λ r. ⌜ r ≡ permissionMapsFit len tracked read write kernel user ⌝ }
+{
+    if 1 < tracked {
+        return true;
+    }
+    let n = mapping::permission_len(len, tracked == 1);
+    mapping::permissions_fit(n, read, write, kernel, user)
+}
+
+fn blocks_fit(state: u64, pages: u64, tables: u64) -> bool
+    ensures { λ r. ⌜ r ≡ (eqb state stateLen && (eqb pages pagesLen && eqb tables tablesLen)) ⌝ }
+{
+    if state != 128 {
+        return false;
+    }
+    if pages != 1024 {
+        return false;
+    }
+    tables == 3460
+}
+
+// Whether what is lent to a build has its lengths.
+pub fn build_fits(
+    ram: &[u64],
+    tracked: u64,
+    private: u64,
+    shared: u64,
+    read: u64,
+    write: u64,
+    kernel: u64,
+    user: u64,
+    state: u64,
+    pages: u64,
+    tables: u64,
+) -> bool
+    ensures { λ r. ⌜ r ≡ (marksFit (mapLen (entriesOf (now (ram .entry)))) private shared && (permissionMapsFit (mapLen (entriesOf (now (ram .entry)))) tracked read write kernel user && (eqb state stateLen && (eqb pages pagesLen && eqb tables tablesLen)))) ⌝ }
+{
+    let len = layout::map_len(ram);
+    if !mapping::marks_fit(len, private, shared) {
+        return false;
+    }
+    if !permission_maps_fit(len, tracked, read, write, kernel, user) {
+        return false;
+    }
+    blocks_fit(state, pages, tables)
+}
+
+// The number that refuses a build: 0 where none does.
+pub fn build_refusal(ram: &[u64], isolation: u64, tracked: u64, release: u64, fit: bool) -> u64
+    ensures { λ r. ⌜ r ≡ buildRefusal (now (ram .entry)) isolation tracked release fit ⌝ }
+{
+    let n = layout::refusal(ram);
+    if n != 0 {
+        return n;
+    }
+    if !permissions::is_isolation(isolation) {
+        return 3;
+    }
+    if !fit {
+        return 4;
+    }
+    if 1 < tracked {
+        return 8;
+    }
+    if 1 < release {
+        return 8;
+    }
+    0
+}
