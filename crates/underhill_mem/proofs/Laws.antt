@@ -1,0 +1,120 @@
+-- Laws of the entries: what a call that isn't refused knows, and one law for each way out. Assumes nothing.
+use native.Mathlib.Omega.{arith}
+use mathlib.Core.Path.{_≡_, refl, sym, ap, ap₂, _∙_}
+use mathlib.Core.Bool.{Bool, true, false, not, _&&_}
+use mathlib.Core.List.{List}
+use Prim.Native.Nat.{ℕ, _≤_}
+use lib.Dec.{eqb, ltb}
+use lib.ListN.{length, take, replicate}
+use borrow.Author.Tests.{eqb-true, ltb-false}
+use Rattle.laws.specs.Bools.{and-left, and-right, false≢true}
+use Rattle.laws.specs.Refusal.{unless, passed, refused, answered}
+use Rattle.layout.specs.Layout.{entriesOf, refusalOf, mapLen}
+use Rattle.layout.proofs.Laws.{fit, entries-count}
+use Rattle.permissions.specs.declared.GuestVtl.{GuestVtl}
+use Rattle.permissions.specs.Flags.{fitIsolation}
+use Rattle.permissions.specs.HvError.{codeOf}
+use Rattle.mapping.specs.Maps.{Maps, built, marksFit}
+use Rattle.pages.specs.Pages.{pagesOf, isLong}
+use Rattle.request.specs.Request.{pick, tableOf, stopAt, isOpen, wanted}
+use Rattle.acceptor.specs.declared.Settings.{Settings}
+use Rattle.acceptor.specs.declared.Step.{Step}
+use Rattle.acceptor.specs.Steps.{startOf}
+use Rattle.protector_state.specs.declared.Reply.{Reply}
+use Rattle.protector_state.specs.State.{stateLen, phaseIn, withRequest, settingsOf, builtState}
+use Rattle.protector_state.specs.Reply.{finished, flatOf}
+use Rattle.protector.specs.World.{World, Outcome, outcome, pagesLen, tablesLen, statusOf, applied}
+use Rattle.protector.specs.Calls.{decided, refusedBy, carriedOut, permissionMapsFit, buildFits, buildRefusal, buildTaken, visibilityRefusal, looksAt, visibilityTaken, answerRefusal}
+
+-- ---- a call refused, and one that isn't
+
+module _ (w : World) (n x : ℕ) (e : n ≡ x) (taken : Outcome) where
+  pub call-refused : (r : Reply) → (n ≡ 0 → ⊥) → r ≡ finished n (codeOf n) 0 0 → outcome (w .maps) (w .state) (w .pages) (w .tables) r ≡ decided w x taken
+  call-refused r h q = ap (outcome (w .maps) (w .state) (w .pages) (w .tables)) q ∙ refused n x e taken (refusedBy w) h
+
+  pub call-taken : (o : Outcome) → n ≡ 0 → o ≡ taken → o ≡ decided w x taken
+  call-taken o h q = answered n x e taken o (refusedBy w) h q
+
+-- ---- what a call that isn't refused knows of its lengths
+
+not-busy : (s rest : ℕ) → unless (eqb s 0) s rest ≡ 0 → rest ≡ 0
+not-busy s rest h = go (eqb s 0) refl
+  where
+    go : (b : Bool) → eqb s 0 ≡ b → rest ≡ 0
+    go true e = sym (ap (λ (t : Bool). unless t s rest) e) ∙ h
+    go false e = absurd (false≢true (sym e ∙ ap (λ (k : ℕ). eqb k 0) (sym (ap (λ (t : Bool). unless t s rest) e) ∙ h)))
+
+long-le : (l : List ℕ) → not (isLong l) ≡ true → length l ≤ 4096
+long-le l h = ltb-false 4096 (length l) (go (isLong l) h)
+  where
+    go : (b : Bool) → not b ≡ true → b ≡ false
+    go true e = sym e
+    go false e = refl
+
+module _ (s : List ℕ) (fits : Bool) (n : ℕ) (z : n ≡ 0) where
+  pub visibility-passed : (tables : List ℕ) (vtl visibility : ℕ) (l : List ℕ) → n ≡ visibilityRefusal s fits tables vtl visibility l
+      → (length s ≡ stateLen) × (fits ≡ true) × (length l ≤ 4096)
+  unfolding visibilityRefusal
+  visibility-passed tables vtl visibility l e =
+      let a = passed (eqb (length s) stateLen) 3 _ (sym e ∙ z) in
+      let b = passed fits 3 _ (not-busy (statusOf (phaseIn s)) _ (a .1)) in
+      let d = passed (not (isLong l)) 4 _ (b .1) in
+      (eqb-true (length s) stateLen (a .0), b .0, long-le l (d .0))
+
+  pub answer-passed : (failed : Bool) → n ≡ answerRefusal s fits failed → length s ≡ stateLen
+  unfolding answerRefusal
+  answer-passed failed e = eqb-true (length s) stateLen (passed (eqb (length s) stateLen) 3 _ (sym e ∙ z) .0)
+
+pub build-passed : (ram : List ℕ) (isolation tracked release : ℕ) (w : World) (n : ℕ) → n ≡ 0
+    → n ≡ buildRefusal ram isolation tracked release (buildFits (mapLen (entriesOf ram)) tracked w) → (length (w .state) ≡ stateLen) × (length ram ≤ 96)
+unfolding buildRefusal
+build-passed ram isolation tracked release w n z e =
+    let len : ℕ = mapLen (entriesOf ram) in
+    let f = layout-passed (sym e ∙ z) in
+    let g = passed (fitIsolation isolation) 2 _ (f .1) in
+    let h = passed (buildFits len tracked w) 3 _ (g .1) in
+    let k = fit ram (f .0) in
+    let d : Bool = eqb (length (w .pages)) pagesLen && eqb (length (w .tables)) tablesLen in
+    let x : Bool = eqb (length (w .state)) stateLen && d in
+    let y : Bool = permissionMapsFit len tracked (length (w .maps .permissions .read)) (length (w .maps .permissions .write)) (length (w .maps .permissions .kernel)) (length (w .maps .permissions .user)) in (
+      eqb-true (length (w .state)) stateLen (and-left (eqb (length (w .state)) stateLen) d (and-right y x (and-right (marksFit len (length (w .maps .private)) (length (w .maps .shared))) (y && x) (h .0)))),
+      omega (arith, k .divided, k .few, entries-count ram),
+    )
+  where
+    layout-passed : {rest : ℕ} → unless (eqb (refusalOf ram) 0) (refusalOf ram) rest ≡ 0 → (refusalOf ram ≡ 0) × (rest ≡ 0)
+    layout-passed {rest} q = go (eqb (refusalOf ram) 0) refl
+      where
+        go : (t : Bool) → eqb (refusalOf ram) 0 ≡ t → (refusalOf ram ≡ 0) × (rest ≡ 0)
+        go true p = (eqb-true (refusalOf ram) 0 p, sym (ap (λ (t : Bool). unless t (refusalOf ram) rest) p) ∙ q)
+        go false p = absurd (false≢true (sym p ∙ ap (λ (k : ℕ). eqb k 0) (sym (ap (λ (t : Bool). unless t (refusalOf ram) rest) p) ∙ q)))
+
+-- ---- a step carried out
+
+pub carried : (w : World) (table : List ℕ) (set : Settings) (st x : Step) (m : Maps) (s : List ℕ) (r : Reply) → set ≡ settingsOf (w .state) → st ≡ x
+    → m ≡ applied table (st .writes) (w .maps) → s ≡ withRequest (st .phase) (st .request) (w .state) → r ≡ flatOf (set .isolation) (st .answer)
+    → outcome m s table (w .tables) r ≡ carriedOut w table x
+unfolding carriedOut
+carried w table set st x m s r e d a b c =
+    rw (a, b, c ∙ ap (λ (y : Settings). flatOf (y .isolation) (st .answer)) e) (ap (λ (y : Step). outcome (applied table (y .writes) (w .maps)) (withRequest (y .phase) (y .request) (w .state)) table (w .tables) (flatOf (settingsOf (w .state) .isolation) (y .answer))) d)
+
+module _ (w : World) (v : GuestVtl) (share : Bool) (l : List ℕ) where
+  pub visibility-made : (set : Settings) (looks : Bool) (stop count pc : ℕ) (table : List ℕ) (st : Step) (m : Maps) (s : List ℕ) (r : Reply) → set ≡ settingsOf (w .state) → looks ≡ looksAt set v share
+      → stop ≡ stopAt (isOpen (w .maps .permissions .read) (w .maps .permissions .write) looks) (pagesOf l)
+      → count ≡ length (pick (wanted (w .maps .shared) share) (take stop (pagesOf l))) → table ≡ tableOf (wanted (w .maps .shared) share) (take stop (pagesOf l)) (w .pages)
+      → pc ≡ length (pagesOf l) → st ≡ startOf set v share count stop (ltb stop pc) → m ≡ applied table (st .writes) (w .maps)
+      → s ≡ withRequest (st .phase) (st .request) (w .state) → r ≡ flatOf (set .isolation) (st .answer)
+      → outcome m s table (w .tables) r ≡ visibilityTaken w v share l
+  unfolding visibilityTaken
+  visibility-made set looks stop count pc table st m s r e1 e2 e3 e4 e5 e6 e7 a b c =
+      let ps : List ℕ = pagesOf l in
+      let f : stop ≡ stopAt (isOpen (w .maps .permissions .read) (w .maps .permissions .write) (looksAt (settingsOf (w .state)) v share)) ps
+      = e3 ∙ ap (λ (y : Bool). stopAt (isOpen (w .maps .permissions .read) (w .maps .permissions .write) y) ps) (e2 ∙ ap (λ (y : Settings). looksAt y v share) e1) in
+      carried w table set st _ m s r e1 e7 a b c
+      ∙ ap₂ (carriedOut w) (e5 ∙ ap (λ (k : ℕ). tableOf (wanted (w .maps .shared) share) (take k ps) (w .pages)) f)
+      (ap₂ (λ (y : Settings) (k : ℕ). startOf y v share k stop (ltb stop pc)) e1 e4 ∙ ap (λ (k : ℕ). startOf (settingsOf (w .state)) v share (length (pick (wanted (w .maps .shared) share) (take stop ps))) stop (ltb stop k)) e6
+      ∙ ap (λ (k : ℕ). startOf (settingsOf (w .state)) v share (length (pick (wanted (w .maps .shared) share) (take k ps))) k (ltb k (length ps))) f)
+
+pub build-made : (w : World) (ram : List ℕ) (isolation tracked release : ℕ) (m : Maps) (s p t : List ℕ) (r : Reply) → m ≡ built (entriesOf ram) (w .maps) → s ≡ builtState ram isolation tracked release
+    → p ≡ replicate (length (w .pages)) 0 → t ≡ replicate (length (w .tables)) 0 → r ≡ finished 0 0 0 0 → outcome m s p t r ≡ buildTaken w ram isolation tracked release
+unfolding buildTaken
+build-made w ram isolation tracked release m s p t r a b c d e = rw (a, b, c, d, e) refl

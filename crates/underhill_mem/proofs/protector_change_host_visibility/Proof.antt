@@ -1,0 +1,109 @@
+-- `underhill_mem::protector_change_host_visibility` meets its contract. Assumes nothing.
+use borrow.Author.Needs.{needs}
+use lib.ListN.{length}
+use mathlib.Core.Path.{ap, _∙_}
+use Rattle.mapping.specs.Maps.{maps}
+use Rattle.protector.specs.World.{world}
+use Rattle.protector.specs.Calls.{visibilityOf, visibilityTaken}
+use Rattle.protector.proofs.Laws as fits
+use Rattle.permissions.specs.declared.GuestVtl.{GuestVtl}
+use Rattle.permissions.specs.Flags.{vtlOf, boolOf}
+use Rattle.underhill_mem.proofs.protector_change_host_visibility.Statement.{statement}
+use Rattle.underhill_mem.proofs.protector_change_host_visibility.Tie as tie
+use Rattle.underhill_mem.proofs.Laws as laws
+
+visibility-refusal-requires : tie.Need-visibility-refusal-requires
+visibility-refusal-requires c κs = search needs
+
+refused-requires : tie.Need-refused-requires
+refused-requires c κs = search needs
+
+same-length : tie.Need-same-length
+same-length c = search needs
+
+returns : tie.Need-returns
+unfolding visibilityOf
+returns c = let a = c .before .before .before .before .before .before .before .before .before .before .before .before .before .before .args in laws.call-refused (world (maps (a .private .now) (a .shared .now) (a .read .now) (a .write .now) (a .kernel .now) (a .user .now)) (a .state .now) (a .pages .now) (a .tables .now)) _ _ (c .before .before .visibility-refusal .ensures) (visibilityTaken (world (maps (a .private .now) (a .shared .now) (a .read .now) (a .write .now) (a .kernel .now) (a .user .now)) (a .state .now) (a .pages .now) (a .tables .now)) (vtlOf (a .vtl)) (boolOf (a .visibility)) (a .list .now)) (c .refused .result) (c .before .if1 .taken) (c .refused .ensures)
+
+settings-requires : tie.Need-settings-requires
+settings-requires c κs = (let a = c .before .before .before .before .before .before .before .before .before .before .before .before .before .before .args in laws.visibility-passed (a .state .now) _ _ (c .before .if1 .left) (a .tables .now) (a .vtl) (a .visibility) (a .list .now) (c .before .before .visibility-refusal .ensures)) .0
+
+vtl-of-requires : tie.Need-vtl-of-requires
+vtl-of-requires c κs = search needs
+
+looks-at-requires : tie.Need-looks-at-requires
+looks-at-requires c κs = search needs
+
+stop-at-requires : tie.Need-stop-at-requires
+stop-at-requires c κs = search needs
+
+store-requires : tie.Need-store-requires
+store-requires c κs = let a = c .before .before .before .before .before .before .before .before .before .before .before .before .before .before .before .before .before .before .before .before .before .before .args in let p = (let a = c .before .before .before .before .before .before .before .before .before .before .before .before .before .before .before .before .before .before .before .before .before .before .args in laws.visibility-passed (a .state .now) _ _ (c .before .before .before .before .before .before .before .before .before .if1 .left) (a .tables .now) (a .vtl) (a .visibility) (a .list .now) (c .before .before .before .before .before .before .before .before .before .before .visibility-refusal .ensures)) in (fits.pages-fit (a .state .now) (length (a .private .now)) (length (a .shared .now)) (length (a .read .now)) (length (a .write .now)) (length (a .kernel .now)) (length (a .user .now)) (length (a .pages .now)) (length (a .tables .now)) (p .1), p .2)
+
+page-count-requires : tie.Need-page-count-requires
+page-count-requires c κs = search needs
+
+start-requires : tie.Need-start-requires
+start-requires c κs = search needs
+
+carry-out-requires : tie.Need-carry-out-requires
+carry-out-requires c κs = (let a = c .before .before .before .before .before .before .before .before .before .before .before .before .before .before .before .before .before .before .before .before .before .before .before .before .before .before .before .before .before .before .before .before .before .before .before .args in laws.visibility-passed (a .state .now) _ _ (c .before .before .before .before .before .before .before .before .before .before .before .before .before .before .before .before .before .before .before .before .before .before .if1 .left) (a .tables .now) (a .vtl) (a .visibility) (a .list .now) (c .before .before .before .before .before .before .before .before .before .before .before .before .before .before .before .before .before .before .before .before .before .before .before .visibility-refusal .ensures)) .0
+
+same-length-2 : tie.Need-same-length-2
+same-length-2 c = search needs
+
+same-length-3 : tie.Need-same-length-3
+same-length-3 c = search needs
+
+same-length-4 : tie.Need-same-length-4
+same-length-4 c = search needs
+
+same-length-5 : tie.Need-same-length-5
+same-length-5 c = search needs
+
+same-length-6 : tie.Need-same-length-6
+same-length-6 c = search needs
+
+same-length-7 : tie.Need-same-length-7
+same-length-7 c = search needs
+
+same-length-8 : tie.Need-same-length-8
+same-length-8 c = search needs
+
+same-length-9 : tie.Need-same-length-9
+same-length-9 c = search needs
+
+returns-2 : tie.Need-returns-2
+unfolding visibilityOf
+returns-2 c = let a = c .before .before .before .before .before .before .before .before .before .before .before .before .before .before .before .before .before .before .before .before .before .before .before .before .before .before .before .before .before .before .before .before .before .before .before .before .before .before .before .before .before .before .before .before .before .before .before .before .before .before .args in
+    let v = c .before .before .before .before .before .before .before .before .before .before .before .before .before .before .before .before .before .before .before .before .before .before .before .before .before .before .before .before .before .before .before .before .before .before .vtl-of .result in
+    laws.call-taken (world (maps (a .private .now) (a .shared .now) (a .read .now) (a .write .now) (a .kernel .now) (a .user .now)) (a .state .now) (a .pages .now) (a .tables .now)) _ _ (c .before .before .before .before .before .before .before .before .before .before .before .before .before .before .before .before .before .before .before .before .before .before .before .before .before .before .before .before .before .before .before .before .before .before .before .before .before .before .visibility-refusal .ensures) (visibilityTaken (world (maps (a .private .now) (a .shared .now) (a .read .now) (a .write .now) (a .kernel .now) (a .user .now)) (a .state .now) (a .pages .now) (a .tables .now)) (vtlOf (a .vtl)) (boolOf (a .visibility)) (a .list .now)) _ (c .before .before .before .before .before .before .before .before .before .before .before .before .before .before .before .before .before .before .before .before .before .before .before .before .before .before .before .before .before .before .before .before .before .before .before .before .before .if1 .left)
+    (laws.visibility-made (world (maps (a .private .now) (a .shared .now) (a .read .now) (a .write .now) (a .kernel .now) (a .user .now)) (a .state .now) (a .pages .now) (a .tables .now)) v (boolOf (a .visibility)) (a .list .now) (c .before .before .before .before .before .before .before .before .before .before .before .before .before .before .before .before .before .before .before .before .before .before .before .before .before .before .before .before .before .before .before .before .before .before .before .settings .result) (c .before .before .before .before .before .before .before .before .before .before .before .before .before .before .before .before .before .before .before .before .before .before .before .before .before .before .before .before .before .before .before .before .before .looks-at .result) (c .before .before .before .before .before .before .before .before .before .before .before .before .before .before .before .before .before .before .before .before .before .before .before .before .before .before .before .before .before .before .stop-at .result) (c .before .before .before .before .before .before .before .before .before .before .before .before .before .before .before .before .before .before .before .before .before .before .before .before .before .before .before .store .result) (c .before .before .before .before .before .before .before .before .before .before .before .before .before .before .before .before .before .before .before .before .before .before .before .before .page-count .result) _ (c .before .before .before .before .before .before .before .before .before .before .before .before .before .before .before .before .before .before .before .before .before .before .before .start .result) _ _ (c .before .before .before .before .before .before .before .before .before .before .before .before .before .before .carry-out .result)
+    (c .before .before .before .before .before .before .before .before .before .before .before .before .before .before .before .before .before .before .before .before .before .before .before .before .before .before .before .before .before .before .before .before .before .before .before .settings .ensures) (c .before .before .before .before .before .before .before .before .before .before .before .before .before .before .before .before .before .before .before .before .before .before .before .before .before .before .before .before .before .before .before .before .before .looks-at .ensures) (c .before .before .before .before .before .before .before .before .before .before .before .before .before .before .before .before .before .before .before .before .before .before .before .before .before .before .before .before .before .before .stop-at .ensures) (c .before .before .before .before .before .before .before .before .before .before .before .before .before .before .before .before .before .before .before .before .before .before .before .before .before .before .before .store .ensures .0) (c .before .before .before .before .before .before .before .before .before .before .before .before .before .before .before .before .before .before .before .before .before .before .before .before .before .before .before .store .ensures .1) (c .before .before .before .before .before .before .before .before .before .before .before .before .before .before .before .before .before .before .before .before .before .before .before .before .page-count .ensures) (c .before .before .before .before .before .before .before .before .before .before .before .before .before .before .before .before .before .before .before .before .before .before .before .start .ensures) (c .before .before .before .before .before .before .before .before .before .before .before .before .before .before .carry-out .ensures .0) (c .before .before .before .before .before .before .before .before .before .before .before .before .before .before .carry-out .ensures .1 .0) (c .before .before .before .before .before .before .before .before .before .before .before .before .before .before .carry-out .ensures .1 .1)
+    ∙ ap (λ (x : GuestVtl). visibilityTaken (world (maps (a .private .now) (a .shared .now) (a .read .now) (a .write .now) (a .kernel .now) (a .user .now)) (a .state .now) (a .pages .now) (a .tables .now)) x (boolOf (a .visibility)) (a .list .now)) (c .before .before .before .before .before .before .before .before .before .before .before .before .before .before .before .before .before .before .before .before .before .before .before .before .before .before .before .before .before .before .before .before .before .before .vtl-of .ensures))
+
+pub protector-change-host-visibility-spec : {M : Type 1} → statement M
+protector-change-host-visibility-spec =
+    tie.close
+    (tie.spec
+    visibility-refusal-requires
+    refused-requires
+    same-length
+    returns
+    settings-requires
+    vtl-of-requires
+    looks-at-requires
+    stop-at-requires
+    store-requires
+    page-count-requires
+    start-requires
+    carry-out-requires
+    same-length-2
+    same-length-3
+    same-length-4
+    same-length-5
+    same-length-6
+    same-length-7
+    same-length-8
+    same-length-9
+    returns-2)

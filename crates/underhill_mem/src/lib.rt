@@ -1,0 +1,202 @@
+// The protector's entries. Every one takes any lengths, any numbers, any bytes and words.
+ghost use mathlib.Core.Path.{_≡_};
+ghost use Rattle.mapping.specs.Maps.{maps};
+ghost use Rattle.protector.specs.World.{world, outcome};
+ghost use Rattle.protector.specs.Calls.{buildOf, visibilityOf, answerDone, answerFailed};
+use protector_state::Reply;
+
+#[no_mangle]
+pub extern "C" fn protector_build(
+    ram: &[u64],
+    isolation: u64,
+    tracked: u64,
+    release: u64,
+    private: &mut [u8],
+    shared: &mut [u8],
+    read: &mut [u8],
+    write: &mut [u8],
+    kernel: &mut [u8],
+    user: &mut [u8],
+    state: &mut [u64],
+    pages: &mut [u64],
+    tables: &mut [u64],
+) -> Reply
+    ensures { λ r. ⌜ outcome (maps (now (private .exit)) (now (shared .exit)) (now (read .exit)) (now (write .exit)) (now (kernel .exit)) (now (user .exit))) (now (state .exit)) (now (pages .exit)) (now (tables .exit)) r ≡ buildOf (world (maps (now (private .entry)) (now (shared .entry)) (now (read .entry)) (now (write .entry)) (now (kernel .entry)) (now (user .entry))) (now (state .entry)) (now (pages .entry)) (now (tables .entry))) (now (ram .entry)) isolation tracked release ⌝ }
+{
+    let fit = protector::build_fits(
+        ram,
+        tracked,
+        private.len() as u64,
+        shared.len() as u64,
+        read.len() as u64,
+        write.len() as u64,
+        kernel.len() as u64,
+        user.len() as u64,
+        state.len() as u64,
+        pages.len() as u64,
+        tables.len() as u64,
+    );
+    let n = protector::build_refusal(ram, isolation, tracked, release, fit);
+    if n != 0 {
+        return protector_state::refused(n);
+    }
+    mapping::build(private, shared, read, write, kernel, user, ram);
+    protector_state::build_state(state, ram, isolation, tracked, release);
+    words::clear(pages);
+    words::clear(tables);
+    protector_state::finished(0, 0, 0, 0)
+}
+
+#[no_mangle]
+pub extern "C" fn protector_change_host_visibility(
+    private: &mut [u8],
+    shared: &mut [u8],
+    read: &mut [u8],
+    write: &mut [u8],
+    kernel: &mut [u8],
+    user: &mut [u8],
+    state: &mut [u64],
+    pages: &mut [u64],
+    tables: &[u64],
+    vtl: u64,
+    visibility: u64,
+    list: &[u8],
+) -> Reply
+    ensures { λ r. ⌜ outcome (maps (now (private .exit)) (now (shared .exit)) (now (read .exit)) (now (write .exit)) (now (kernel .exit)) (now (user .exit))) (now (state .exit)) (now (pages .exit)) (now (tables .entry)) r ≡ visibilityOf (world (maps (now (private .entry)) (now (shared .entry)) (now (read .entry)) (now (write .entry)) (now (kernel .entry)) (now (user .entry))) (now (state .entry)) (now (pages .entry)) (now (tables .entry))) vtl visibility (now (list .entry)) ⌝ }
+{
+    let n = protector::visibility_refusal(
+        state,
+        private.len() as u64,
+        shared.len() as u64,
+        read.len() as u64,
+        write.len() as u64,
+        kernel.len() as u64,
+        user.len() as u64,
+        pages.len() as u64,
+        tables,
+        vtl,
+        visibility,
+        list,
+    );
+    if n != 0 {
+        return protector_state::refused(n);
+    }
+    let set = protector_state::settings(state);
+    let v = permissions::vtl_of(vtl);
+    let share = visibility == 1;
+    let looks = protector::looks_at(set, v, share);
+    let stop = request::stop_at(read, write, looks, list);
+    let count = request::store(pages, shared, share, list, stop);
+    let stopped = stop < pages::page_count(list);
+    let s = acceptor::start(set, v, share, count, stop, stopped);
+    protector::carry_out(
+        private,
+        shared,
+        read,
+        write,
+        kernel,
+        user,
+        state,
+        pages,
+        set,
+        s,
+    )
+}
+
+// The operation asked for is done.
+#[no_mangle]
+pub extern "C" fn protector_answer_done(
+    private: &mut [u8],
+    shared: &mut [u8],
+    read: &mut [u8],
+    write: &mut [u8],
+    kernel: &mut [u8],
+    user: &mut [u8],
+    state: &mut [u64],
+    pages: &mut [u64],
+    tables: &mut [u64],
+) -> Reply
+    ensures { λ r. ⌜ outcome (maps (now (private .exit)) (now (shared .exit)) (now (read .exit)) (now (write .exit)) (now (kernel .exit)) (now (user .exit))) (now (state .exit)) (now (pages .exit)) (now (tables .exit)) r ≡ answerDone (world (maps (now (private .entry)) (now (shared .entry)) (now (read .entry)) (now (write .entry)) (now (kernel .entry)) (now (user .entry))) (now (state .entry)) (now (pages .entry)) (now (tables .entry))) ⌝ }
+{
+    let n = protector::answer_refusal(
+        state,
+        private.len() as u64,
+        shared.len() as u64,
+        read.len() as u64,
+        write.len() as u64,
+        kernel.len() as u64,
+        user.len() as u64,
+        pages.len() as u64,
+        tables.len() as u64,
+        false,
+    );
+    if n != 0 {
+        return protector_state::refused(n);
+    }
+    let set = protector_state::settings(state);
+    let phase = protector_state::phase(state);
+    let q = protector_state::load(state);
+    let s = acceptor::done(set, phase, q, pages);
+    protector::carry_out(
+        private,
+        shared,
+        read,
+        write,
+        kernel,
+        user,
+        state,
+        pages,
+        set,
+        s,
+    )
+}
+
+// The operation asked for failed.
+#[no_mangle]
+pub extern "C" fn protector_answer_failed(
+    private: &mut [u8],
+    shared: &mut [u8],
+    read: &mut [u8],
+    write: &mut [u8],
+    kernel: &mut [u8],
+    user: &mut [u8],
+    state: &mut [u64],
+    pages: &mut [u64],
+    tables: &mut [u64],
+    code: u16,
+    processed: u64,
+) -> Reply
+    ensures { λ r. ⌜ outcome (maps (now (private .exit)) (now (shared .exit)) (now (read .exit)) (now (write .exit)) (now (kernel .exit)) (now (user .exit))) (now (state .exit)) (now (pages .exit)) (now (tables .exit)) r ≡ answerFailed (world (maps (now (private .entry)) (now (shared .entry)) (now (read .entry)) (now (write .entry)) (now (kernel .entry)) (now (user .entry))) (now (state .entry)) (now (pages .entry)) (now (tables .entry))) code processed ⌝ }
+{
+    let n = protector::answer_refusal(
+        state,
+        private.len() as u64,
+        shared.len() as u64,
+        read.len() as u64,
+        write.len() as u64,
+        kernel.len() as u64,
+        user.len() as u64,
+        pages.len() as u64,
+        tables.len() as u64,
+        true,
+    );
+    if n != 0 {
+        return protector_state::refused(n);
+    }
+    let set = protector_state::settings(state);
+    let phase = protector_state::phase(state);
+    let q = protector_state::load(state);
+    let s = acceptor::failed(set, phase, q, pages, code as u64, processed);
+    protector::carry_out(
+        private,
+        shared,
+        read,
+        write,
+        kernel,
+        user,
+        state,
+        pages,
+        set,
+        s,
+    )
+}
