@@ -4,9 +4,7 @@ use mathlib.Core.List.{List, [], _∷_}
 use Prim.Native.Nat.{ℕ}
 use lib.Dec.{eqb, ltb}
 use lib.ListN.{length, take, replicate}
-use Rattle.laws.specs.Bools.{digit}
 use Rattle.laws.specs.Refusal.{unless}
-use Rattle.bitmap.specs.Pages.{bitAt}
 use Rattle.layout.specs.declared.MemoryRangeWithNode.{MemoryRangeWithNode}
 use Rattle.layout.specs.Layout.{entriesOf, refusalOf, isRam, mapLen}
 use Rattle.permissions.specs.declared.GuestVtl.{GuestVtl}
@@ -19,7 +17,6 @@ use Rattle.overlays.specs.Overlays.{isOverlay}
 use Rattle.acceptor.specs.declared.Settings.{Settings}
 use Rattle.acceptor.specs.declared.Step.{Step}
 use Rattle.acceptor.specs.Steps.{isVtl0, startOf, doneOf, failedOf}
-use Rattle.protector_state.specs.declared.Reply.{Reply}
 use Rattle.protector_state.specs.State.{stateLen, phaseIn, requestOf, withRequest, settingsOf, entriesIn, builtState}
 use Rattle.protector_state.specs.Reply.{finished, flatOf}
 use Rattle.protector.specs.World.{World, Outcome, outcome, pagesLen, tablesLen, overlaysOf, locksOf, isLocked, fits, statusOf, takes, applied}
@@ -137,43 +134,3 @@ unfoldable pub answerFailed : World → ℕ → ℕ → Outcome
 answerFailed w code processed =
     decided w (answerRefusal (w .state) (fits w) true)
     (carriedOut w (w .pages) (failedOf (settingsOf (w .state)) (phaseIn (w .state)) (requestOf (w .state)) (w .pages) code processed))
-
--- ---- query_host_visibility: 20, 19, 4, 5, 8, then 7 at its own index; the output is filled as far as it goes
-
-unfoldable pub queryRefusal : List ℕ → ℕ → List ℕ → ℕ
-queryRefusal s shared l =
-    unless (eqb (length s) stateLen) 4
-    (unless (eqb (statusOf (phaseIn s)) 0) (statusOf (phaseIn s))
-    (unless (eqb shared (mapLen (entriesIn s))) 4
-    (unless (not (isLong l)) 5
-    (unless (not (isRagged l)) 8
-    0))))
-
--- how many of the pages come before the first that isn't RAM
-abbrev pub ramBefore : List ℕ → List ℕ → ℕ
-ramBefore s l = stopAt (isRam (entriesIn s)) (pagesOf l)
-
--- a byte for each page: whether it is marked shared
-unfoldable pub visibilities : List ℕ → List ℕ → List ℕ
-visibilities shared [] = []
-visibilities shared (p ∷ ps) = digit (bitAt 8 shared p) ∷ visibilities shared ps
-
-unfoldable pub filledBy : List ℕ → List ℕ → List ℕ
-filledBy [] out = out
-filledBy (b ∷ bs) [] = []
-filledBy (b ∷ bs) (x ∷ out) = b ∷ filledBy bs out
-
-pub record Query : Type 0 where
-  pub out : List ℕ
-  pub reply : Reply
-
-abbrev pub query : List ℕ → Reply → Query
-query out r = record { out = out; reply = r }
-
-unfoldable pub queryOf : List ℕ → List ℕ → List ℕ → List ℕ → Query
-queryOf s shared l out =
-    let n = queryRefusal s (length shared) l in
-    cond (eqb n 0)
-    (cond (ltb (ramBefore s l) (length (pagesOf l))) (query out (finished 7 (codeOf 7) (ramBefore s l) 0))
-    (query (filledBy (visibilities shared (pagesOf l)) out) (finished 0 0 0 0)))
-    (query out (finished n (codeOf n) 0 0))

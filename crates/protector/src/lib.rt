@@ -6,7 +6,7 @@ ghost use lib.ListN.{length};
 ghost use Rattle.layout.specs.Layout.{entriesOf, mapLen};
 ghost use Rattle.mapping.specs.Maps.{maps, marksFit};
 ghost use Rattle.pages.specs.Pages.{pagesOf};
-ghost use Rattle.protector_state.specs.State.{stateLen, withRequest, settingsOf};
+ghost use Rattle.protector_state.specs.State.{stateLen, withRequest};
 ghost use Rattle.protector_state.specs.Reply.{flatOf};
 ghost use Rattle.protector.specs.World.{pagesLen, tablesLen, overlaysOf, locksOf, isLocked, lengthsFit, statusOf, takes, putPlaces, applied};
 ghost use Rattle.protector.specs.Calls.{permissionMapsFit, buildRefusal, pageRefusal, firstRefusal, visibilityRefusal, looksAt, answerRefusal};

@@ -2,7 +2,7 @@
 ghost use mathlib.Core.Path.{_≡_};
 ghost use Prim.Native.Nat.{_≤_};
 ghost use mathlib.Core.Bool.{cond};
-ghost use lib.ListN.{length, getD};
+ghost use lib.ListN.{length};
 ghost use Rattle.acceptor.specs.Steps.{isSnp};
 ghost use Rattle.permissions.specs.HvError.{codeOf};
 ghost use Rattle.permissions.specs.Rmpadjust.{operandOf};

@@ -1,12 +1,12 @@
 -- Laws of the entries: what a call that isn't refused knows, and one law for each way out. Assumes nothing.
 use native.Mathlib.Omega.{arith}
 use mathlib.Core.Path.{_≡_, refl, sym, ap, ap₂, _∙_}
-use mathlib.Core.Bool.{Bool, true, false, not, _&&_}
+use mathlib.Core.Bool.{Bool, true, false, not, cond, _&&_}
 use mathlib.Core.List.{List}
-use Prim.Native.Nat.{ℕ, _≤_}
+use Prim.Native.Nat.{ℕ, _≤_, _<_}
 use lib.Dec.{eqb, ltb}
 use lib.ListN.{length, take, replicate}
-use borrow.Author.Tests.{eqb-true, ltb-false}
+use borrow.Author.Tests.{eqb-true, lt-ltb, le-ltb, ltb-false}
 use Rattle.laws.specs.Bools.{and-left, and-right, false≢true}
 use Rattle.laws.specs.Refusal.{unless, passed, refused, answered}
 use Rattle.layout.specs.Layout.{entriesOf, refusalOf, mapLen}
@@ -24,6 +24,7 @@ use Rattle.protector_state.specs.declared.Reply.{Reply}
 use Rattle.protector_state.specs.State.{stateLen, phaseIn, withRequest, settingsOf, builtState}
 use Rattle.protector_state.specs.Reply.{finished, flatOf}
 use Rattle.protector.specs.World.{World, Outcome, outcome, pagesLen, tablesLen, statusOf, applied}
+use Rattle.queries.specs.Queries.{queryRefusal, ramBefore, visibilities, filledBy, Query, query, queryTaken, queryOf}
 use Rattle.protector.specs.Calls.{decided, refusedBy, carriedOut, permissionMapsFit, buildFits, buildRefusal, buildTaken, visibilityRefusal, looksAt, visibilityTaken, answerRefusal}
 
 -- ---- a call refused, and one that isn't
@@ -118,3 +119,33 @@ pub build-made : (w : World) (ram : List ℕ) (isolation tracked release : ℕ) 
     → p ≡ replicate (length (w .pages)) 0 → t ≡ replicate (length (w .tables)) 0 → r ≡ finished 0 0 0 0 → outcome m s p t r ≡ buildTaken w ram isolation tracked release
 unfolding buildTaken
 build-made w ram isolation tracked release m s p t r a b c d e = rw (a, b, c, d, e) refl
+
+-- ---- a query of visibilities
+
+module _ (s shared l out : List ℕ) (n : ℕ) (e : n ≡ queryRefusal s (length shared) l) where
+  pub query-refused : (r : Reply) → (n ≡ 0 → ⊥) → r ≡ finished n (codeOf n) 0 0 → query out r ≡ queryOf s shared l out
+  unfolding queryOf
+  query-refused r h q = ap (query out) q ∙ refused n _ e (queryTaken s shared l out) (λ k. query out (finished k (codeOf k) 0 0)) h
+
+  pub query-passed : n ≡ 0 → length s ≡ stateLen
+  unfolding queryRefusal
+  query-passed z = eqb-true (length s) stateLen (passed (eqb (length s) stateLen) 3 _ (sym e ∙ z) .0)
+
+  module _ (before count : ℕ) (z : n ≡ 0) (f : before ≡ ramBefore s l) (g : count ≡ length (pagesOf l)) where
+    answers : (x : Query) → x ≡ queryTaken s shared l out → x ≡ queryOf s shared l out
+    unfolding queryOf
+    answers x q = answered n _ e (queryTaken s shared l out) x (λ k. query out (finished k (codeOf k) 0 0)) z q
+
+    pub query-hole : (code : ℕ) (r : Reply) → before < count → code ≡ codeOf 7 → r ≡ finished 7 code before 0 → query out r ≡ queryOf s shared l out
+    query-hole code r h d q =
+        answers (query out r)
+        (ap (query out) (q ∙ ap₂ (λ (x y : ℕ). finished 7 x y 0) d f)
+        ∙ ap (λ (b : Bool). cond b (query out (finished 7 (codeOf 7) (ramBefore s l) 0)) (query (filledBy (visibilities shared (pagesOf l)) out) (finished 0 0 0 0)))
+        (sym (lt-ltb (ramBefore s l) (length (pagesOf l)) (omega (arith, f, g)))))
+
+    pub query-filled : (o : List ℕ) (r : Reply) → count ≤ before → o ≡ filledBy (visibilities shared (pagesOf l)) out → r ≡ finished 0 0 0 0 → query o r ≡ queryOf s shared l out
+    query-filled o r h d q =
+        answers (query o r)
+        (ap₂ query d q
+        ∙ ap (λ (b : Bool). cond b (query out (finished 7 (codeOf 7) (ramBefore s l) 0)) (query (filledBy (visibilities shared (pagesOf l)) out) (finished 0 0 0 0)))
+        (sym (le-ltb (ramBefore s l) (length (pagesOf l)) (omega (arith, f, g)))))

@@ -3,7 +3,11 @@ ghost use mathlib.Core.Path.{_≡_};
 ghost use Rattle.mapping.specs.Maps.{maps};
 ghost use Rattle.protector.specs.World.{world, outcome};
 ghost use Rattle.protector.specs.Calls.{buildOf, visibilityOf, answerDone, answerFailed};
+ghost use Rattle.queries.specs.Queries.{query, queryOf, faultIn, lowerIn, accessIn};
+use fault::PageFaultAction;
+use mapping::PermissionsAnswer;
 use protector_state::Reply;
+use queries::Value;
 
 #[no_mangle]
 pub extern "C" fn protector_build(
@@ -199,4 +203,129 @@ pub extern "C" fn protector_answer_failed(
         set,
         s,
     )
+}
+
+// A byte for each page of a list: 0 private, 1 shared. A short output is filled as far as it goes.
+#[no_mangle]
+pub extern "C" fn protector_query_host_visibility(
+    state: &[u64],
+    shared: &[u8],
+    list: &[u8],
+    out: &mut [u8],
+) -> Reply
+    ensures { λ r. ⌜ query (now (out .exit)) r ≡ queryOf (now (state .entry)) (now (shared .entry)) (now (list .entry)) (now (out .entry)) ⌝ }
+{
+    let n = queries::query_refusal(state, shared.len() as u64, list);
+    if n != 0 {
+        return protector_state::refused(n);
+    }
+    let before = queries::ram_before(protector_state::ram_of(state), list);
+    if before < pages::page_count(list) {
+        return protector_state::finished(7, permissions::hv_error(7), before, 0);
+    }
+    queries::fill(out, shared, list);
+    protector_state::finished(0, 0, 0, 0)
+}
+
+#[no_mangle]
+pub extern "C" fn protector_page_fault(
+    private: &[u8],
+    shared: &[u8],
+    read: &[u8],
+    write: &[u8],
+    kernel: &[u8],
+    user: &[u8],
+    state: &[u64],
+    mapping: u64,
+    view: u64,
+    address: u64,
+    writes: u64,
+    failure: u64,
+) -> Value
+    ensures { λ r. ⌜ r ≡ faultIn (now (state .entry)) (maps (now (private .entry)) (now (shared .entry)) (now (read .entry)) (now (write .entry)) (now (kernel .entry)) (now (user .entry))) mapping view address writes failure ⌝ }
+{
+    if state.len() != 128 {
+        return queries::fault_value(PageFaultAction::Refused(4));
+    }
+    let tracked = state[17] == 1;
+    let ram = protector_state::ram_of(state);
+    queries::fault_value(fault::page_fault(
+        private,
+        shared,
+        read,
+        write,
+        kernel,
+        user,
+        ram,
+        tracked,
+        mapping,
+        view,
+        address,
+        writes,
+        failure,
+    ))
+}
+
+#[no_mangle]
+pub extern "C" fn protector_query_lower_vtl_permissions(
+    private: &[u8],
+    shared: &[u8],
+    read: &[u8],
+    write: &[u8],
+    kernel: &[u8],
+    user: &[u8],
+    state: &[u64],
+    vtl: u64,
+    gpn: u64,
+) -> Value
+    ensures { λ r. ⌜ r ≡ lowerIn (now (state .entry)) (maps (now (private .entry)) (now (shared .entry)) (now (read .entry)) (now (write .entry)) (now (kernel .entry)) (now (user .entry))) vtl gpn ⌝ }
+{
+    if state.len() != 128 {
+        return queries::permissions_value(PermissionsAnswer::Refused(4));
+    }
+    let tracked = state[17] == 1;
+    let ram = protector_state::ram_of(state);
+    queries::permissions_value(mapping::query_lower_vtl_permissions(
+        private,
+        shared,
+        read,
+        write,
+        kernel,
+        user,
+        ram,
+        tracked,
+        vtl,
+        gpn,
+    ))
+}
+
+#[no_mangle]
+pub extern "C" fn protector_query_access_permission(
+    private: &[u8],
+    shared: &[u8],
+    read: &[u8],
+    write: &[u8],
+    kernel: &[u8],
+    user: &[u8],
+    state: &[u64],
+    gpn: u64,
+) -> Value
+    ensures { λ r. ⌜ r ≡ accessIn (now (state .entry)) (maps (now (private .entry)) (now (shared .entry)) (now (read .entry)) (now (write .entry)) (now (kernel .entry)) (now (user .entry))) gpn ⌝ }
+{
+    if state.len() != 128 {
+        return queries::permissions_value(PermissionsAnswer::Refused(4));
+    }
+    let tracked = state[17] == 1;
+    let ram = protector_state::ram_of(state);
+    queries::permissions_value(mapping::query_access_permission(
+        private,
+        shared,
+        read,
+        write,
+        kernel,
+        user,
+        ram,
+        tracked,
+        gpn,
+    ))
 }

@@ -1,0 +1,96 @@
+-- Faults and queries of the protector's block (01, "Bitmaps", "From the input" 4, 5, 7 and 8, "From the state" 24). A fault and the permission queries
+-- look at no request: they have no 19 and no 20.
+use mathlib.Core.Bool.{cond, not}
+use mathlib.Core.List.{List, [], _∷_}
+use Prim.Native.Nat.{ℕ}
+use lib.Dec.{eqb, ltb}
+use lib.ListN.{length}
+use Rattle.laws.specs.Bools.{digit}
+use Rattle.laws.specs.Refusal.{unless}
+use Rattle.bitmap.specs.Pages.{bitAt}
+use Rattle.layout.specs.Layout.{isRam, mapLen}
+use Rattle.permissions.specs.HvError.{codeOf}
+use Rattle.mapping.specs.declared.PermissionsAnswer.{PermissionsAnswer}
+use Rattle.mapping.specs.declared.PermissionsAnswer.the-variants as permissions
+use Rattle.mapping.specs.Maps.{Maps}
+use Rattle.mapping.specs.Query.{accessPermission, lowerVtlPermissions, permissionsNumber, permissionsValue}
+use Rattle.fault.specs.declared.PageFaultAction.{PageFaultAction}
+use Rattle.fault.specs.declared.PageFaultAction.the-variants as fault
+use Rattle.fault.specs.Fault.{pageFault, faultNumber, faultValue}
+use Rattle.pages.specs.Pages.{pagesOf, isLong, isRagged}
+use Rattle.request.specs.Request.{stopAt}
+use Rattle.protector_state.specs.declared.Reply.{Reply}
+use Rattle.protector_state.specs.State.{stateLen, phaseIn, settingsOf, entriesIn}
+use Rattle.protector_state.specs.Reply.{finished}
+use Rattle.protector.specs.World.{statusOf}
+use Rattle.queries.specs.declared.Value.{Value}
+
+-- ---- query_host_visibility: 20, 19, 4, 5, 8, then 7 at its own index
+
+unfoldable pub queryRefusal : List ℕ → ℕ → List ℕ → ℕ
+queryRefusal s shared l =
+    unless (eqb (length s) stateLen) 4
+    (unless (eqb (statusOf (phaseIn s)) 0) (statusOf (phaseIn s))
+    (unless (eqb shared (mapLen (entriesIn s))) 4
+    (unless (not (isLong l)) 5
+    (unless (not (isRagged l)) 8
+    0))))
+
+-- how many of the pages come before the first that isn't RAM
+abbrev pub ramBefore : List ℕ → List ℕ → ℕ
+ramBefore s l = stopAt (isRam (entriesIn s)) (pagesOf l)
+
+-- a byte for each page: whether it is marked shared; written as far as the output goes
+unfoldable pub visibilities : List ℕ → List ℕ → List ℕ
+visibilities shared [] = []
+visibilities shared (p ∷ ps) = digit (bitAt 8 shared p) ∷ visibilities shared ps
+
+unfoldable pub filledBy : List ℕ → List ℕ → List ℕ
+filledBy [] out = out
+filledBy (b ∷ bs) [] = []
+filledBy (b ∷ bs) (x ∷ out) = b ∷ filledBy bs out
+
+-- what the query gives: its output, and the reply
+pub record Query : Type 0 where
+  pub out : List ℕ
+  pub reply : Reply
+
+abbrev pub query : List ℕ → Reply → Query
+query out r = record { out = out; reply = r }
+
+-- the pages are RAM, or the first that isn't gives 7
+abbrev pub queryTaken : List ℕ → List ℕ → List ℕ → List ℕ → Query
+queryTaken s shared l out =
+    cond (ltb (ramBefore s l) (length (pagesOf l))) (query out (finished 7 (codeOf 7) (ramBefore s l) 0))
+    (query (filledBy (visibilities shared (pagesOf l)) out) (finished 0 0 0 0))
+
+unfoldable pub queryOf : List ℕ → List ℕ → List ℕ → List ℕ → Query
+queryOf s shared l out =
+    cond (eqb (queryRefusal s (length shared) l) 0) (queryTaken s shared l out)
+    (query out (finished (queryRefusal s (length shared) l) (codeOf (queryRefusal s (length shared) l)) 0 0))
+
+-- ---- faults and permissions: 4 for a state block of another length, else as the maps have it
+
+abbrev pub value : ℕ → ℕ → Value
+value n v = record { number = n; value = v }
+
+abbrev pub faultValueOf : PageFaultAction → Value
+faultValueOf a = value (faultNumber a) (faultValue a)
+
+abbrev pub permissionsValueOf : PermissionsAnswer → Value
+permissionsValueOf a = value (permissionsNumber a) (permissionsValue a)
+
+unfoldable pub faultIn : List ℕ → Maps → ℕ → ℕ → ℕ → ℕ → ℕ → Value
+faultIn s m mapping view address write failure =
+    faultValueOf
+    (cond (eqb (length s) stateLen) (pageFault (entriesIn s) m (settingsOf s .tracked) mapping view address write failure)
+    (fault.Refused 4))
+
+unfoldable pub lowerIn : List ℕ → Maps → ℕ → ℕ → Value
+lowerIn s m vtl gpn =
+    permissionsValueOf
+    (cond (eqb (length s) stateLen) (lowerVtlPermissions (entriesIn s) m (settingsOf s .tracked) vtl gpn) (permissions.Refused 4))
+
+unfoldable pub accessIn : List ℕ → Maps → ℕ → Value
+accessIn s m gpn =
+    permissionsValueOf (cond (eqb (length s) stateLen) (accessPermission (entriesIn s) m (settingsOf s .tracked) gpn) (permissions.Refused 4))
