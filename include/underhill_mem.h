@@ -1,5 +1,5 @@
 /* The entries of the proved library; docs/ABI.md says what each buffer and reply word means.
-   A run of words is passed as its address and its length in words. No two runs may overlap. */
+   A run is passed as its address and its length, in words or in bytes. No two runs may overlap. */
 #ifndef UNDERHILL_MEM_H
 #define UNDERHILL_MEM_H
 
@@ -37,5 +37,65 @@ struct registrar_reply registrar_answer_done(uint64_t *state, size_t state_words
                                              size_t registered_words, uint64_t *failed, size_t failed_words);
 struct registrar_reply registrar_answer_failed(uint64_t *state, size_t state_words, uint64_t *registered,
                                                size_t registered_words, uint64_t *failed, size_t failed_words);
+
+#define PROTECTOR_STATE_WORDS 128
+#define PROTECTOR_PAGES_WORDS 1024
+#define PROTECTOR_TABLES_WORDS 3460
+
+struct protector_reply {
+    uint64_t number;    /* 0, or the number of document 01 that refuses or ends the call */
+    uint64_t code;      /* the error code of a number that has one */
+    uint64_t index;     /* the place in the list of a number that has one */
+    uint64_t count;     /* of a finished call: how many operations it asked for */
+    uint64_t operation; /* what is asked for: 0 nothing, 1 Wait, 2 FlushAll, 3 Protect, 4 Invalidate, 5 Release,
+                           6 Modify, 7 Accept, 8 Zero */
+    uint64_t vtl;       /* Protect */
+    uint64_t flags;     /* Protect */
+    uint64_t operand;   /* Protect on SNP */
+    uint64_t first;     /* the first page of the run */
+    uint64_t pages;     /* how many pages */
+    uint64_t shared;    /* Modify: 1 to shared, 0 to private */
+};
+
+struct protector_value {
+    uint64_t number; /* 0, or the number of document 01 that refuses the call */
+    uint64_t value;
+};
+
+struct protector_reply protector_build(const uint64_t *ram, size_t ram_words, uint64_t isolation, uint64_t tracked,
+    uint64_t release, uint8_t *private_, size_t private_bytes, uint8_t *shared, size_t shared_bytes,
+    uint8_t *read, size_t read_bytes, uint8_t *write, size_t write_bytes, uint8_t *kernel, size_t kernel_bytes,
+    uint8_t *user, size_t user_bytes, uint64_t *state, size_t state_words, uint64_t *pages, size_t pages_words,
+    uint64_t *tables, size_t tables_words);
+struct protector_reply protector_change_host_visibility(uint8_t *private_, size_t private_bytes, uint8_t *shared, size_t shared_bytes,
+    uint8_t *read, size_t read_bytes, uint8_t *write, size_t write_bytes, uint8_t *kernel, size_t kernel_bytes,
+    uint8_t *user, size_t user_bytes, uint64_t *state, size_t state_words, uint64_t *pages, size_t pages_words,
+    const uint64_t *tables, size_t tables_words, uint64_t vtl, uint64_t visibility,
+    const uint8_t *list, size_t list_bytes);
+struct protector_reply protector_answer_done(uint8_t *private_, size_t private_bytes, uint8_t *shared, size_t shared_bytes,
+    uint8_t *read, size_t read_bytes, uint8_t *write, size_t write_bytes, uint8_t *kernel, size_t kernel_bytes,
+    uint8_t *user, size_t user_bytes, uint64_t *state, size_t state_words, uint64_t *pages, size_t pages_words,
+    uint64_t *tables, size_t tables_words);
+struct protector_reply protector_answer_failed(uint8_t *private_, size_t private_bytes, uint8_t *shared, size_t shared_bytes,
+    uint8_t *read, size_t read_bytes, uint8_t *write, size_t write_bytes, uint8_t *kernel, size_t kernel_bytes,
+    uint8_t *user, size_t user_bytes, uint64_t *state, size_t state_words, uint64_t *pages, size_t pages_words,
+    uint64_t *tables, size_t tables_words, uint16_t code, uint64_t processed);
+struct protector_reply protector_query_host_visibility(const uint64_t *state, size_t state_words,
+    const uint8_t *shared, size_t shared_bytes, const uint8_t *list, size_t list_bytes, uint8_t *out, size_t out_bytes);
+struct protector_value protector_page_fault(const uint8_t *private_, size_t private_bytes, const uint8_t *shared, size_t shared_bytes,
+    const uint8_t *read, size_t read_bytes, const uint8_t *write, size_t write_bytes,
+    const uint8_t *kernel, size_t kernel_bytes, const uint8_t *user, size_t user_bytes,
+    const uint64_t *state, size_t state_words,
+    uint64_t mapping, uint64_t view, uint64_t address, uint64_t writes, uint64_t failure);
+struct protector_value protector_query_lower_vtl_permissions(const uint8_t *private_, size_t private_bytes, const uint8_t *shared, size_t shared_bytes,
+    const uint8_t *read, size_t read_bytes, const uint8_t *write, size_t write_bytes,
+    const uint8_t *kernel, size_t kernel_bytes, const uint8_t *user, size_t user_bytes,
+    const uint64_t *state, size_t state_words,
+    uint64_t vtl, uint64_t gpn);
+struct protector_value protector_query_access_permission(const uint8_t *private_, size_t private_bytes, const uint8_t *shared, size_t shared_bytes,
+    const uint8_t *read, size_t read_bytes, const uint8_t *write, size_t write_bytes,
+    const uint8_t *kernel, size_t kernel_bytes, const uint8_t *user, size_t user_bytes,
+    const uint64_t *state, size_t state_words,
+    uint64_t gpn);
 
 #endif
