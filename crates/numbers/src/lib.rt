@@ -1,6 +1,6 @@
 // Choices and reads of words that several crates make.
 ghost use mathlib.Core.Path.{_≡_};
-ghost use Prim.Native.Nat.{min, max};
+ghost use Prim.Native.Nat.{_-_, min, max};
 ghost use lib.ListN.{getD};
 
 pub fn least(a: u64, b: u64) -> u64
@@ -13,6 +13,13 @@ pub fn greatest(a: u64, b: u64) -> u64
     ensures { λ r. ⌜ r ≡ max a b ⌝ }
 {
     if a < b { b } else { a }
+}
+
+// A difference: 0 where there is none.
+pub fn minus(a: u64, b: u64) -> u64
+    ensures { λ r. ⌜ r ≡ a - b ⌝ }
+{
+    if b < a { a - b } else { 0 }
 }
 
 // A word of a run: 0 past the end.

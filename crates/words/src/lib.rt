@@ -1,6 +1,8 @@
 // Words of a lent run written and moved. Nothing is written past its end.
 ghost use mathlib.Core.Path.{_≡_};
-ghost use lib.ListN.{length, set, replicate};
+ghost use Prim.Native.Nat.{_+_, _≤_, min};
+ghost use lib.ListN.{length, getD, set, replicate};
+ghost use Rattle.words.specs.Words.{closed, swapped, turned};
 
 pub fn put(t: &mut [u64], i: u64, v: u64)
     ensures { λ _. ⌜ now (t .exit) ≡ set (now (t .entry)) i v ⌝ }
@@ -19,4 +21,79 @@ pub fn clear(t: &mut [u64])
         t[i] = 0;
         i += 1;
     }
+}
+
+// The place n words after a place: the end where there are fewer.
+pub fn place_after(t: &[u64], place: u64, n: u64) -> u64
+    ensures { λ r. ⌜ r ≡ min (length (now (t .entry))) (place + n) ⌝ }
+{
+    let end = t.len() as u64;
+    if end <= place {
+        return end;
+    }
+    if end - place <= n {
+        return end;
+    }
+    place + n
+}
+
+// The word n places after a place: 0 past the end.
+pub fn word_after(t: &[u64], place: u64, n: u64) -> u64
+    ensures { λ r. ⌜ r ≡ getD (now (t .entry)) (place + n) 0 ⌝ }
+{
+    numbers::word_at(t, place_after(t, place, n))
+}
+
+pub fn put_after(t: &mut [u64], place: u64, n: u64, v: u64)
+    ensures { λ _. ⌜ now (t .exit) ≡ set (now (t .entry)) (place + n) v ⌝ }
+{
+    let i = place_after(t, place, n);
+    put(t, i, v);
+}
+
+// n words at a place go: what follows closes the gap, and the freed words are zero.
+pub fn close_gap(t: &mut [u64], place: u64, n: u64)
+    ensures { λ _. ⌜ now (t .exit) ≡ closed (now (t .entry)) place n ⌝ }
+{
+    let mut i = place;
+    while i < t.len() as u64 {
+        let w = word_after(t, i, n);
+        put(t, i, w);
+        i += 1;
+    }
+}
+
+fn swap(t: &mut [u64], i: u64, j: u64)
+    ensures { λ _. ⌜ now (t .exit) ≡ set (set (now (t .entry)) i (getD (now (t .entry)) j 0)) j (getD (now (t .entry)) i 0) ⌝ }
+{
+    let v = numbers::word_at(t, i);
+    let w = numbers::word_at(t, j);
+    put(t, i, w);
+    put(t, j, v);
+}
+
+// The words from `from` to before `to`, the other way round.
+fn turn(t: &mut [u64], from: u64, to: u64)
+    requires { ⌜ (from ≤ to) × (to ≤ length (now t)) ⌝ }
+    ensures { λ _. ⌜ now (t .exit) ≡ turned (now (t .entry)) from to ⌝ }
+{
+    let mut i = from;
+    let mut j = to;
+    while i + 1 < j {
+        j -= 1;
+        swap(t, i, j);
+        i += 1;
+    }
+}
+
+// n words at a place and the m words behind them change places: each part is turned, then both as one.
+pub fn swap_runs(t: &mut [u64], place: u64, n: u64, m: u64)
+    ensures { λ _. ⌜ now (t .exit) ≡ swapped (now (t .entry)) place n m ⌝ }
+{
+    let from = place_after(t, place, 0);
+    let middle = place_after(t, from, n);
+    let to = place_after(t, middle, m);
+    turn(t, from, middle);
+    turn(t, middle, to);
+    turn(t, from, to);
 }

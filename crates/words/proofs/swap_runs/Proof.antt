@@ -1,0 +1,45 @@
+-- `words::swap_runs` meets its contract. Assumes nothing.
+use borrow.Author.Needs.{needs}
+use Prim.Native.Nat.{_-_}
+use Rattle.words.proofs.Laws as laws
+use Rattle.words.proofs.swap_runs.Statement.{statement}
+use Rattle.words.proofs.swap_runs.Tie as tie
+
+place-after-requires : tie.Need-place-after-requires
+place-after-requires c κs = search needs
+
+place-after-requires-2 : tie.Need-place-after-requires-2
+place-after-requires-2 c κs = search needs
+
+place-after-requires-3 : tie.Need-place-after-requires-3
+place-after-requires-3 c κs = search needs
+
+turn-requires : tie.Need-turn-requires
+turn-requires c κs = search needs
+
+turn-requires-2 : tie.Need-turn-requires-2
+turn-requires-2 c κs = search needs
+
+turn-requires-3 : tie.Need-turn-requires-3
+turn-requires-3 c κs = search needs
+
+same-length : tie.Need-same-length
+same-length c = search needs
+
+returns : tie.Need-returns
+returns c =
+    let a = c .before .before .before .before .before .before .before .before .before .before .before .before .before .before .before .before .before .before .before .args in
+    laws.runs-swapped (a .t .now) (a .place) (a .n) (a .m) _ _ _ _ _ _ (c .before .before .before .before .before .before .before .before .before .before .before .before .before .before .before .before .place-after .ensures) (c .before .before .before .before .before .before .before .before .before .before .before .before .before .before .place-after2 .ensures) (c .before .before .before .before .before .before .before .before .before .before .before .before .place-after3 .ensures) (c .before .before .before .before .before .before .before .before .before .before .turn .ensures) (c .before .before .before .before .before .before .turn2 .ensures) (c .before .before .turn3 .ensures)
+
+pub swap-runs-spec : {M : Type 1} → statement M
+swap-runs-spec =
+    tie.close
+    (tie.spec
+    place-after-requires
+    place-after-requires-2
+    place-after-requires-3
+    turn-requires
+    turn-requires-2
+    turn-requires-3
+    same-length
+    returns)
