@@ -1,17 +1,19 @@
 -- What the words mean where they are the table of entries that fit. Assumes nothing.
 use mathlib.Core.Bool.{Bool, true, false, cond, not, _||_}
 use mathlib.Core.List.{List, [], _∷_, _++_, append-assoc}
-use mathlib.Core.Path.{_≡_, refl, sym, ap, _∙_}
-use Prim.Native.Nat.{ℕ, suc, _+_, _-_, _*_, _≤_}
+use mathlib.Core.Path.{_≡_, refl, sym, ap, ap₂, _∙_}
+use Prim.Native.Nat.{ℕ, suc, _+_, _-_, _*_, _≤_, _<_}
 use native.Mathlib.Omega.{arith}
-use lib.Dec.{eqb}
-use lib.ListN.{length, getD, length-append}
-use lib.Seq.{getD-at}
-use borrow.Author.Tests.{eq-eqb, ne-eqb, eqb-true}
+use lib.Dec.{eqb, ltb}
+use lib.ListN.{length, getD, set, length-append}
+use lib.Seq.{getD-at, getD-append-add, sets}
+use borrow.Author.Tests.{eq-eqb, ne-eqb, eqb-true, ltb-true}
 use Rattle.laws.specs.Bools.{false≢true, or-false}
-use Rattle.words.specs.Words.{zeros}
+use Rattle.words.specs.Words.{zeros, padded, closed}
+use Rattle.words.proofs.Laws.{set-append-add}
+use Rattle.words.proofs.Padded.{length-padded, set-padded, sets-padded, closed-padded}
 use Rattle.overlays.specs.declared.OverlayPage.{OverlayPage}
-use Rattle.overlays.specs.Overlays.{knows, wordsOf, flat, tableOf, used, placeFrom, placeOf, isOverlay}
+use Rattle.overlays.specs.Overlays.{knows, entryOf, changed, dropFirst, withPrevious, withCount, wordsOf, flat, tableOf, used, placeFrom, placeOf, isOverlay, entryAt, addCode, addWords, previousWords, countWords, removeWords}
 
 pub length-flat : (es : List OverlayPage) → length (flat es) ≡ 5 * length es
 unfolding flat
@@ -27,12 +29,14 @@ flat-append (x ∷ xs) ys = ap (λ (r : List ℕ). wordsOf x ++ r) (flat-append 
 abbrev left : List OverlayPage → ℕ
 left es = 641 - suc (length (flat es))
 
--- the table, cut before one of its entries
-cut : (pre rest : List OverlayPage) → tableOf (pre ++ rest) ≡ (length (pre ++ rest) ∷ flat pre) ++ (flat rest ++ zeros (left (pre ++ rest)))
+-- from its parts
+form : (es : List OverlayPage) (n : ℕ) (s : List ℕ) → n ≡ length es → s ≡ flat es → padded 641 (n ∷ s) ≡ tableOf es
 unfolding tableOf
-cut pre rest =
-    ap (λ (s : List ℕ). (length (pre ++ rest) ∷ s) ++ zeros (left (pre ++ rest))) (flat-append pre rest)
-    ∙ append-assoc (length (pre ++ rest) ∷ flat pre) (flat rest) (zeros (left (pre ++ rest)))
+form es n s e f = ap₂ (λ (k : ℕ) (r : List ℕ). padded 641 (k ∷ r)) e f
+
+pub table-length : (es : List OverlayPage) → length es ≤ 128 → length (tableOf es) ≡ 641
+unfolding tableOf
+table-length es h = length-padded 641 (length es ∷ flat es) (omega (arith, length-flat es))
 
 pub table-used : (es : List OverlayPage) → length es ≤ 128 → used (tableOf es) ≡ length es
 unfolding tableOf
@@ -126,3 +130,137 @@ module _ (es : List OverlayPage) (fits : length es ≤ 128) (p : ℕ) where
       go : (b : Bool) → knows es p ≡ b → isOverlay (tableOf es) p ≡ b
       go false k = ap not (eq-eqb (placeOf (tableOf es) p) 0 (no-place k))
       go true k = let d = first-place (first es p k) in ap not (ne-eqb (placeOf (tableOf es) p) 0 (λ e. omega (arith, d, e)))
+
+-- ---- an entry at its place, read, changed and taken out
+module _ (pre : List OverlayPage) (e : OverlayPage) (post : List OverlayPage) (fits : length (pre ++ (e ∷ post)) ≤ 128) where
+  abbrev all : List OverlayPage
+  all = pre ++ (e ∷ post)
+
+  abbrev head : List ℕ
+  head = length all ∷ flat pre
+
+  abbrev at : ℕ
+  at = 1 + 5 * length pre
+
+  head-length : length head ≡ at
+  head-length = omega (arith, length-flat pre)
+
+  at-entry : tableOf all ≡ padded 641 (head ++ (wordsOf e ++ flat post))
+  unfolding tableOf flat
+  at-entry = ap (λ (s : List ℕ). padded 641 (length all ∷ s)) (flat-append pre (e ∷ post))
+
+  read : (k : ℕ) → getD (tableOf all) (at + k) 0 ≡ getD (wordsOf e ++ (flat post ++ zeros (641 - length (head ++ (wordsOf e ++ flat post))))) k 0
+  read k =
+      let z : List ℕ = zeros (641 - length (head ++ (wordsOf e ++ flat post))) in
+      ap₂ (λ (r : List ℕ) (n : ℕ). getD r (n + k) 0) (at-entry ∙ append-assoc head (wordsOf e ++ flat post) z) (sym head-length) ∙ getD-append-add head (wordsOf e ++ (flat post ++ z)) k 0
+
+  pub entry-here : entryAt (tableOf all) at ≡ e
+  entry-here = let d : at ≡ at + 0 = omega arith in rw (ap (λ (k : ℕ). getD (tableOf all) k 0) d ∙ read 0, read 1, read 2, read 3, read 4) refl
+
+  same-count : (x : OverlayPage) → length all ≡ length (pre ++ (x ∷ post))
+  same-count x = length-append pre (e ∷ post) ∙ sym (length-append pre (x ∷ post))
+
+  -- one word of it written
+  written : (k v : ℕ) (x : OverlayPage) → k < 5 → set (wordsOf e ++ flat post) k v ≡ wordsOf x ++ flat post → set (tableOf all) (at + k) v ≡ tableOf (pre ++ (x ∷ post))
+  unfolding flat
+  written k v x h w =
+      let s : List ℕ = wordsOf e ++ flat post in
+      let inside : at + k < length (head ++ s) = omega (arith, length-append head s, head-length) in
+      ap (λ (r : List ℕ). set r (at + k) v) at-entry ∙ set-padded 641 (head ++ s) (at + k) v inside
+      ∙ ap (padded 641) (ap (λ (n : ℕ). set (head ++ s) (n + k) v) (sym head-length) ∙ set-append-add head s k v ∙ ap (λ (r : List ℕ). head ++ r) w)
+      ∙ form (pre ++ (x ∷ post)) (length all) (flat pre ++ (wordsOf x ++ flat post)) (same-count x) (sym (flat-append pre (x ∷ post)))
+
+  pub previous-here : (v : ℕ) → previousWords (tableOf all) at v ≡ tableOf (pre ++ (withPrevious v e ∷ post))
+  previous-here v = written 1 v (withPrevious v e) (omega arith) refl
+
+  pub count-here : (n : ℕ) → countWords (tableOf all) at n ≡ tableOf (pre ++ (withCount n e ∷ post))
+  count-here n = written 3 n (withCount n e) (omega arith) refl
+
+  pub remove-here : removeWords (tableOf all) at ≡ tableOf (pre ++ post)
+  remove-here =
+      let s : List ℕ = wordsOf e ++ flat post in
+      let short : length (head ++ s) ≤ 641 = omega (arith, length-append head s, head-length, length-flat post, length-append pre (e ∷ post)) in
+      let count : used (tableOf all) - 1 ≡ length (pre ++ post) = omega (arith, table-used all fits, length-append pre (e ∷ post), length-append pre post) in
+      ap (λ (r : List ℕ). set (closed r at 5) 0 (used (tableOf all) - 1)) at-entry
+      ∙ ap (λ (r : List ℕ). set r 0 (used (tableOf all) - 1)) (closed-padded 641 head (wordsOf e) (flat post) at 5 head-length refl short)
+      ∙ form (pre ++ post) (used (tableOf all) - 1) (flat pre ++ flat post) count (sym (flat-append pre post))
+
+-- ---- the first entry of a page, read, changed or gone
+
+module _ (g : OverlayPage → OverlayPage) (p : ℕ) where
+  first-is : (pre : List OverlayPage) (e : OverlayPage) (post : List OverlayPage) → knows pre p ≡ false → p ≡ e .gpn
+      → (entryOf (pre ++ (e ∷ post)) p ≡ e) × (changed g (pre ++ (e ∷ post)) p ≡ pre ++ (g e ∷ post)) × (dropFirst (pre ++ (e ∷ post)) p ≡ pre ++ post)
+  unfolding entryOf changed dropFirst
+  first-is [] e post k q = let b = eq-eqb p (e .gpn) q in (rw b refl, rw b refl, rw b refl)
+  first-is (x ∷ pre) e post k q =
+      let d = knows-not x pre p k in
+      let m = first-is pre e post (d .1) q in
+      let more : List OverlayPage → List OverlayPage = λ (r : List OverlayPage). x ∷ r in
+      (rw (d .0) (m .0), rw (d .0) (ap more (m .1)), rw (d .0) (ap more (m .2)))
+
+  pub changed-length : (es : List OverlayPage) → length (changed g es p) ≡ length es
+  unfolding changed
+  changed-length [] = refl
+  changed-length (e ∷ es) = go (eqb p (e .gpn)) (changed-length es)
+    where
+      go : (b : Bool) → length (changed g es p) ≡ length es → length (cond b (g e ∷ es) (e ∷ changed g es p)) ≡ suc (length es)
+      go true m = refl
+      go false m = ap suc m
+
+pub drop-length : (es : List OverlayPage) (p : ℕ) → length (dropFirst es p) ≤ length es
+unfolding dropFirst
+drop-length [] p = omega arith
+drop-length (e ∷ es) p = go (eqb p (e .gpn)) (drop-length es p)
+  where
+    go : (b : Bool) → length (dropFirst es p) ≤ length es → length (cond b es (e ∷ dropFirst es p)) ≤ suc (length es)
+    go true m = omega arith
+    go false m = omega arith
+
+module _ (es : List OverlayPage) (fits : length es ≤ 128) (p : ℕ) (f : First es p) where
+  abbrev parts : List OverlayPage
+  parts = f .pre ++ (f .entry ∷ f .post)
+
+  room : length parts ≤ 128
+  room = omega (arith, ap (length {A = OverlayPage}) (f .here))
+
+  -- a table read or written at a page's first entry is read or written at its place
+  at-first : {X : Type 0} (g : List ℕ → ℕ → X) → g (tableOf es) (placeOf (tableOf es) p) ≡ g (tableOf parts) (1 + 5 * length (f .pre))
+  at-first g = ap₂ g (ap tableOf (f .here)) (first-place es fits p f)
+
+  is : (g : OverlayPage → OverlayPage) → (entryOf es p ≡ f .entry) × (changed g es p ≡ f .pre ++ (g (f .entry) ∷ f .post)) × (dropFirst es p ≡ f .pre ++ f .post)
+  is g =
+      let m = first-is g p (f .pre) (f .entry) (f .post) (f .none) (f .page) in
+      (ap (λ (r : List OverlayPage). entryOf r p) (f .here) ∙ m .0, ap (λ (r : List OverlayPage). changed g r p) (f .here) ∙ m .1, ap (λ (r : List OverlayPage). dropFirst r p) (f .here) ∙ m .2)
+
+  pub table-entry : entryAt (tableOf es) (placeOf (tableOf es) p) ≡ entryOf es p
+  table-entry = at-first entryAt ∙ entry-here (f .pre) (f .entry) (f .post) room ∙ sym (is (λ e. e) .0)
+
+  pub table-previous : (v : ℕ) → previousWords (tableOf es) (placeOf (tableOf es) p) v ≡ tableOf (changed (withPrevious v) es p)
+  table-previous v = at-first (λ t o. previousWords t o v) ∙ previous-here (f .pre) (f .entry) (f .post) room v ∙ ap tableOf (sym (is (withPrevious v) .1))
+
+  pub table-count : (n : ℕ) → countWords (tableOf es) (placeOf (tableOf es) p) n ≡ tableOf (changed (withCount n) es p)
+  table-count n = at-first (λ t o. countWords t o n) ∙ count-here (f .pre) (f .entry) (f .post) room n ∙ ap tableOf (sym (is (withCount n) .1))
+
+  pub table-remove : removeWords (tableOf es) (placeOf (tableOf es) p) ≡ tableOf (dropFirst es p)
+  table-remove = at-first removeWords ∙ remove-here (f .pre) (f .entry) (f .post) room ∙ ap tableOf (sym (is (λ e. e) .2))
+
+-- ---- one entry more
+module _ (es : List OverlayPage) (fits : length es ≤ 128) where
+  pub table-add-code : addCode (tableOf es) ≡ cond (ltb (length es) 128) 0 17
+  table-add-code = ap (λ (n : ℕ). cond (ltb n 128) 0 17) (table-used es fits)
+
+  added : (e : OverlayPage) → length es < 128 → set (sets (tableOf es) (1 + 5 * length es) (wordsOf e)) 0 (length es + 1) ≡ tableOf (es ++ (e ∷ []))
+  unfolding tableOf flat
+  added e h =
+      let len : length (length es ∷ flat es) ≡ 1 + 5 * length es = omega (arith, length-flat es) in
+      let count : length es + 1 ≡ length (es ++ (e ∷ [])) = sym (length-append es (e ∷ [])) in
+      ap (λ (r : List ℕ). set r 0 (length es + 1)) (sets-padded 641 (length es ∷ flat es) (wordsOf e) (1 + 5 * length es) len (omega arith))
+      ∙ form (es ++ (e ∷ [])) (length es + 1) (flat es ++ wordsOf e) count (sym (flat-append es (e ∷ [])))
+
+  pub table-add : (e : OverlayPage) → addWords (tableOf es) e ≡ cond (ltb (length es) 128) (tableOf (es ++ (e ∷ []))) (tableOf es)
+  table-add e =
+      ap (λ (n : ℕ). cond (ltb n 128) (set (sets (tableOf es) (1 + 5 * n) (wordsOf e)) 0 (n + 1)) (tableOf es)) (table-used es fits) ∙ go (ltb (length es) 128) refl
+    where
+      go : (b : Bool) → ltb (length es) 128 ≡ b → cond b (set (sets (tableOf es) (1 + 5 * length es) (wordsOf e)) 0 (length es + 1)) (tableOf es) ≡ cond b (tableOf (es ++ (e ∷ []))) (tableOf es)
+      go true b = added e (ltb-true (length es) 128 b)
+      go false b = refl

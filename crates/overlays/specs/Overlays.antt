@@ -1,10 +1,11 @@
 -- The overlay entries of one VTL (01, "Overlays and locks"), in a run of 641 words.
 use mathlib.Core.Bool.{Bool, false, cond, not, _||_}
 use mathlib.Core.List.{List, [], _∷_, _++_}
-use Prim.Native.Nat.{ℕ, zero, suc, _+_, min}
-use lib.Dec.{eqb}
-use lib.ListN.{length, getD}
-use Rattle.words.specs.Words.{padded}
+use Prim.Native.Nat.{ℕ, zero, suc, _+_, _-_, _*_, min}
+use lib.Dec.{eqb, ltb}
+use lib.ListN.{length, getD, set}
+use lib.Seq.{sets}
+use Rattle.words.specs.Words.{padded, closed}
 use Rattle.overlays.specs.declared.OverlayPage.{OverlayPage}
 
 -- ---- entries, in order of registration
@@ -12,6 +13,29 @@ use Rattle.overlays.specs.declared.OverlayPage.{OverlayPage}
 unfoldable pub knows : List OverlayPage → ℕ → Bool
 knows [] p = false
 knows (e ∷ es) p = eqb p (e .gpn) || knows es p
+
+abbrev pub entry : ℕ → ℕ → ℕ → ℕ → ℕ → OverlayPage
+entry p previous own n source = record { gpn = p; «previous_permissions» = previous; «overlay_permissions» = own; «ref_count» = n; «gpn_source» = source }
+
+-- the first entry of a page: zeros where there is none
+unfoldable pub entryOf : List OverlayPage → ℕ → OverlayPage
+entryOf [] p = entry 0 0 0 0 0
+entryOf (e ∷ es) p = cond (eqb p (e .gpn)) e (entryOf es p)
+
+-- it is changed, or gone
+unfoldable pub changed : (OverlayPage → OverlayPage) → List OverlayPage → ℕ → List OverlayPage
+changed f [] p = []
+changed f (e ∷ es) p = cond (eqb p (e .gpn)) (f e ∷ es) (e ∷ changed f es p)
+
+unfoldable pub dropFirst : List OverlayPage → ℕ → List OverlayPage
+dropFirst [] p = []
+dropFirst (e ∷ es) p = cond (eqb p (e .gpn)) es (e ∷ dropFirst es p)
+
+abbrev pub withPrevious : ℕ → OverlayPage → OverlayPage
+withPrevious v e = entry (e .gpn) v (e .«overlay_permissions») (e .«ref_count») (e .«gpn_source»)
+
+abbrev pub withCount : ℕ → OverlayPage → OverlayPage
+withCount n e = entry (e .gpn) (e .«previous_permissions») (e .«overlay_permissions») n (e .«gpn_source»)
 
 -- ---- their words: how many, then five for each
 
@@ -40,3 +64,23 @@ placeOf t p = placeFrom t (used t) 1 p
 
 abbrev pub isOverlay : List ℕ → ℕ → Bool
 isOverlay t p = not (eqb (placeOf t p) 0)
+
+abbrev pub entryAt : List ℕ → ℕ → OverlayPage
+entryAt t o = entry (getD t o 0) (getD t (o + 1) 0) (getD t (o + 2) 0) (getD t (o + 3) 0) (getD t (o + 4) 0)
+
+-- 17 where 128 are there
+abbrev pub addCode : List ℕ → ℕ
+addCode t = cond (ltb (used t) 128) 0 17
+
+abbrev pub addWords : List ℕ → OverlayPage → List ℕ
+addWords t e = cond (ltb (used t) 128) (set (sets t (1 + 5 * used t) (wordsOf e)) 0 (used t + 1)) t
+
+abbrev pub previousWords : List ℕ → ℕ → ℕ → List ℕ
+previousWords t o v = set t (o + 1) v
+
+abbrev pub countWords : List ℕ → ℕ → ℕ → List ℕ
+countWords t o n = set t (o + 3) n
+
+-- the gap closes
+abbrev pub removeWords : List ℕ → ℕ → List ℕ
+removeWords t o = set (closed t o 5) 0 (used t - 1)

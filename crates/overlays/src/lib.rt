@@ -1,6 +1,6 @@
 // The overlay pages of one VTL in a lent run of words: how many, then five words for each in order of registration.
 ghost use mathlib.Core.Path.{_≡_};
-ghost use Rattle.overlays.specs.Overlays.{used, placeOf, isOverlay};
+ghost use Rattle.overlays.specs.Overlays.{used, placeOf, isOverlay, entryAt, addCode, addWords, previousWords, countWords, removeWords};
 
 // Permissions are flag bits. gpn_source: 0 guest memory, 1 Dma.
 pub struct OverlayPage {
@@ -11,7 +11,7 @@ pub struct OverlayPage {
     pub gpn_source: u64,
 }
 
-fn count(t: &[u64]) -> u64
+fn entry_count(t: &[u64]) -> u64
     ensures { λ r. ⌜ r ≡ used (now (t .entry)) ⌝ }
 {
     numbers::least(128, numbers::word_at(t, 0))
@@ -21,7 +21,7 @@ fn count(t: &[u64]) -> u64
 pub fn find(t: &[u64], gpn: u64) -> u64
     ensures { λ r. ⌜ r ≡ placeOf (now (t .entry)) gpn ⌝ }
 {
-    let mut left = count(t);
+    let mut left = entry_count(t);
     let mut place: u64 = 1;
     while 0 < left {
         let p = numbers::word_at(t, place);
@@ -38,4 +38,60 @@ pub fn is_overlay(t: &[u64], gpn: u64) -> bool
     ensures { λ r. ⌜ r ≡ isOverlay (now (t .entry)) gpn ⌝ }
 {
     find(t, gpn) != 0
+}
+
+pub fn entry_at(t: &[u64], place: u64) -> OverlayPage
+    ensures { λ r. ⌜ r ≡ entryAt (now (t .entry)) place ⌝ }
+{
+    let page = numbers::word_at(t, place);
+    let previous = words::word_after(t, place, 1);
+    let own = words::word_after(t, place, 2);
+    let count = words::word_after(t, place, 3);
+    let source = words::word_after(t, place, 4);
+    OverlayPage {
+        gpn: page,
+        previous_permissions: previous,
+        overlay_permissions: own,
+        ref_count: count,
+        gpn_source: source,
+    }
+}
+
+// One entry more: 0, or 17 where 128 are there.
+pub fn add(t: &mut [u64], e: OverlayPage) -> u64
+    ensures { λ r. ⌜ (r ≡ addCode (now (t .entry))) × (now (t .exit) ≡ addWords (now (t .entry)) e) ⌝ }
+{
+    let n = entry_count(t);
+    if 128 <= n {
+        return 17;
+    }
+    let place = 1 + 5 * n;
+    words::put(t, place, e.gpn);
+    words::put(t, place + 1, e.previous_permissions);
+    words::put(t, place + 2, e.overlay_permissions);
+    words::put(t, place + 3, e.ref_count);
+    words::put(t, place + 4, e.gpn_source);
+    words::put(t, 0, n + 1);
+    0
+}
+
+pub fn set_previous(t: &mut [u64], place: u64, bits: u64)
+    ensures { λ _. ⌜ now (t .exit) ≡ previousWords (now (t .entry)) place bits ⌝ }
+{
+    words::put_after(t, place, 1, bits);
+}
+
+pub fn set_count(t: &mut [u64], place: u64, count: u64)
+    ensures { λ _. ⌜ now (t .exit) ≡ countWords (now (t .entry)) place count ⌝ }
+{
+    words::put_after(t, place, 3, count);
+}
+
+// The entry at a place goes: those after it move down.
+pub fn remove(t: &mut [u64], place: u64)
+    ensures { λ _. ⌜ now (t .exit) ≡ removeWords (now (t .entry)) place ⌝ }
+{
+    let n = entry_count(t);
+    words::close_gap(t, place, 5);
+    words::put(t, 0, numbers::minus(n, 1));
 }

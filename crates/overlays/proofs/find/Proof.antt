@@ -14,11 +14,11 @@ Inv-loop t gpn left₀ place₀ left place = (place + 5 * left ≤ 641) × (plac
 abbrev μ-loop : tie.MeasureT-loop
 μ-loop t gpn left₀ place₀ left place = left
 
-count-requires : tie.Need-count-requires Inv-loop μ-loop
-count-requires c κs = search needs
+entry-count-requires : tie.Need-entry-count-requires Inv-loop μ-loop
+entry-count-requires c κs = search needs
 
 loop-holds : tie.Need-loop-holds Inv-loop μ-loop
-loop-holds c = (omega (arith, c .count .ensures), ap (λ (k : ℕ). placeFrom (c .before .before .args .t .now) k 1 (c .before .before .args .gpn)) (c .count .ensures))
+loop-holds c = (omega (arith, c .entry-count .ensures), ap (λ (k : ℕ). placeFrom (c .before .before .args .t .now) k 1 (c .before .before .args .gpn)) (c .entry-count .ensures))
 
 word-at-requires : tie.Need-word-at-requires Inv-loop μ-loop
 word-at-requires c κs = search needs
@@ -56,7 +56,7 @@ find-spec =
     (tie.spec
     Inv-loop
     μ-loop
-    count-requires
+    entry-count-requires
     loop-holds
     word-at-requires
     returns
