@@ -1,7 +1,13 @@
 // The locked page lists of one VTL in a lent run of words: how many, then each list's length and its pages.
 ghost use mathlib.Core.Path.{_≡_};
-ghost use Rattle.pages.specs.Pages.{among};
-ghost use Rattle.locks.specs.Locks.{used, part, nextAt, listsOf, held};
+ghost use mathlib.Core.Bool.{_&&_};
+ghost use Prim.Native.Nat.{_+_, _-_, _≤_};
+ghost use lib.Dec.{ltb, leb};
+ghost use lib.ListN.{length};
+ghost use lib.Seq.{sets};
+ghost use Rattle.pages.specs.Pages.{among, pagesOf};
+ghost use Rattle.pages.specs.Runs.{part};
+ghost use Rattle.locks.specs.Locks.{held, total, same, used, nextAt, listsFrom, endFrom, listsOf, lockCode, lockWords, placeFrom, unlockCode, unlockWords};
 
 fn count(t: &[u64]) -> u64
     ensures { λ r. ⌜ r ≡ used (now (t .entry)) ⌝ }
@@ -14,19 +20,26 @@ fn next(t: &[u64], place: u64) -> u64
     ensures { λ r. ⌜ r ≡ nextAt (now (t .entry)) place ⌝ }
 {
     let n = numbers::word_at(t, place);
-    let end = t.len() as u64;
-    if end <= place {
-        return end;
+    let first = words::place_after(t, place, 1);
+    words::place_after(t, first, n)
+}
+
+// The place after the first n lists.
+fn end_of(t: &[u64], n: u64) -> u64
+    ensures { λ r. ⌜ r ≡ endFrom (now (t .entry)) n 1 ⌝ }
+{
+    let mut left = n;
+    let mut place: u64 = 1;
+    while 0 < left {
+        place = next(t, place);
+        left -= 1;
     }
-    if end - place <= n {
-        return end;
-    }
-    place + 1 + n
+    place
 }
 
 // Whether a page stands at the places from `from` to before `to`.
 fn is_among(t: &[u64], from: u64, to: u64, gpn: u64) -> bool
-    ensures { λ r. ⌜ r ≡ among (part from to (now (t .entry))) gpn ⌝ }
+    ensures { λ r. ⌜ r ≡ among (part (now (t .entry)) to from) gpn ⌝ }
 {
     let end = numbers::least(to, t.len() as u64);
     let mut i = from;
@@ -55,4 +68,133 @@ pub fn holds(t: &[u64], gpn: u64) -> bool
         left -= 1;
     }
     false
+}
+
+// How many pages a list has, by its place and the place after it.
+fn pages_between(place: u64, end: u64) -> u64
+    ensures { λ r. ⌜ r ≡ end - (place + 1) ⌝ }
+{
+    numbers::minus(numbers::minus(end, place), 1)
+}
+
+// How many pages the first n lists have.
+fn total_of(t: &[u64], n: u64) -> u64
+    ensures { λ r. ⌜ r ≡ total (listsFrom (now (t .entry)) n 1) ⌝ }
+{
+    let mut left = n;
+    let mut place: u64 = 1;
+    let mut sum: u64 = 0;
+    while 0 < left {
+        let end = next(t, place);
+        sum += pages_between(place, end);
+        place = end;
+        left -= 1;
+    }
+    sum
+}
+
+// Whether n pages have room beside c lists with `sum` pages.
+fn has_room(c: u64, sum: u64, n: u64) -> bool
+    ensures { λ r. ⌜ r ≡ (ltb c 64 && leb (sum + n) 1024) ⌝ }
+{
+    if 64 <= c {
+        return false;
+    }
+    if 1024 < sum {
+        return false;
+    }
+    n <= 1024 - sum
+}
+
+// The pages of a list, written after a place.
+fn put_pages(t: &mut [u64], place: u64, list: &[u8])
+    ensures { λ _. ⌜ now (t .exit) ≡ sets (now (t .entry)) (place + 1) (pagesOf (now (list .entry))) ⌝ }
+{
+    let n = pages::page_count(list);
+    let mut i: u64 = 0;
+    while i < n {
+        let p = pages::page_at(list, i);
+        i += 1;
+        words::put_after(t, place, i, p);
+    }
+}
+
+// A list is kept: 0, or 17 where there is no room.
+pub fn lock(t: &mut [u64], list: &[u8]) -> u64
+    ensures { λ r. ⌜ (r ≡ lockCode (now (t .entry)) (pagesOf (now (list .entry)))) × (now (t .exit) ≡ lockWords (now (t .entry)) (pagesOf (now (list .entry)))) ⌝ }
+{
+    let n = pages::page_count(list);
+    let c = count(t);
+    let sum = total_of(t, c);
+    if !has_room(c, sum, n) {
+        return 17;
+    }
+    let place = end_of(t, c);
+    words::put(t, place, n);
+    put_pages(t, place, list);
+    words::put(t, 0, c + 1);
+    0
+}
+
+// Whether the list from a place to before `to` has the same pages.
+fn is_same(t: &[u64], place: u64, to: u64, list: &[u8]) -> bool
+    requires { ⌜ to ≤ length (now t) ⌝ }
+    ensures { λ r. ⌜ r ≡ same (part (now (t .entry)) to (place + 1)) (pagesOf (now (list .entry))) ⌝ }
+{
+    let n = pages::page_count(list);
+    if pages_between(place, to) != n {
+        return false;
+    }
+    let mut i: u64 = 0;
+    while i < n {
+        let p = pages::page_at(list, i);
+        i += 1;
+        let w = words::word_after(t, place, i);
+        if w != p {
+            return false;
+        }
+    }
+    true
+}
+
+// Where the first of n lists with the same pages starts: 0 where there is none.
+fn find(t: &[u64], n: u64, list: &[u8]) -> u64
+    ensures { λ r. ⌜ r ≡ placeFrom (now (t .entry)) n 1 (pagesOf (now (list .entry))) ⌝ }
+{
+    let mut left = n;
+    let mut place: u64 = 1;
+    while 0 < left {
+        let end = next(t, place);
+        if is_same(t, place, end, list) {
+            return place;
+        }
+        place = end;
+        left -= 1;
+    }
+    0
+}
+
+// The first list with the same pages goes, and the last takes its place: 0, or 18 where there is none.
+pub fn unlock(t: &mut [u64], list: &[u8]) -> u64
+    ensures { λ r. ⌜ (r ≡ unlockCode (now (t .entry)) (pagesOf (now (list .entry)))) × (now (t .exit) ≡ unlockWords (now (t .entry)) (pagesOf (now (list .entry)))) ⌝ }
+{
+    let c = count(t);
+    let place = find(t, c, list);
+    if place == 0 {
+        return 18;
+    }
+    let less = numbers::minus(c, 1);
+    let end = next(t, place);
+    let last = end_of(t, less);
+    let middle = numbers::greatest(end, last);
+    let to = next(t, last);
+    words::swap_runs(
+        t,
+        end,
+        numbers::minus(middle, end),
+        numbers::minus(to, middle),
+    );
+    words::close_gap(t, place, numbers::minus(end, place));
+    words::put(t, 0, less);
+    0
 }

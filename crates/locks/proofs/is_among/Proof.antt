@@ -4,13 +4,13 @@ use native.Mathlib.Omega.{arith}
 use mathlib.Core.Path.{_≡_, refl, sym, _∙_}
 use Prim.Native.Nat.{_-_}
 use Rattle.pages.specs.Pages.{among}
-use Rattle.locks.specs.Locks.{part}
+use Rattle.pages.specs.Runs.{part}
 use Rattle.locks.proofs.Laws as laws
 use Rattle.locks.proofs.is_among.Statement.{statement}
 use Rattle.locks.proofs.is_among.Tie as tie
 
 abbrev Inv-loop : tie.InvT-loop
-Inv-loop t from to gpn end i₀ i = among (part i to t) gpn ≡ among (part from to t) gpn
+Inv-loop t from to gpn end i₀ i = among (part t to i) gpn ≡ among (part t to from) gpn
 
 abbrev μ-loop : tie.MeasureT-loop
 μ-loop t from to gpn end i₀ i = end - i

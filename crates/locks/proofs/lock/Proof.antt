@@ -1,0 +1,70 @@
+-- `locks::lock` meets its contract. Assumes nothing.
+use borrow.Author.Needs.{needs}
+use Prim.Native.Nat.{_-_}
+use borrow.Author.Tests.{not-true, not-false}
+use Rattle.pages.specs.Pages.{pagesOf}
+use Rattle.locks.proofs.Laws as laws
+use Rattle.locks.proofs.lock.Statement.{statement}
+use Rattle.locks.proofs.lock.Tie as tie
+
+page-count-requires : tie.Need-page-count-requires
+page-count-requires c κs = search needs
+
+count-requires : tie.Need-count-requires
+count-requires c κs = search needs
+
+total-of-requires : tie.Need-total-of-requires
+total-of-requires c κs = search needs
+
+has-room-requires : tie.Need-has-room-requires
+has-room-requires c κs = search needs
+
+same-length : tie.Need-same-length
+same-length c = search needs
+
+returns : tie.Need-returns
+returns c =
+    let a = c .before .before .before .before .before .before .before .before .before .args in
+    laws.lock-full (a .t .now) (pagesOf (a .list .now)) _ _ _ _ (c .before .before .before .before .before .before .page-count .ensures) (c .before .before .before .before .count .ensures) (c .before .before .total-of .ensures) (c .before .has-room .ensures) (not-true (c .before .has-room .result) (c .if1 .taken))
+
+end-of-requires : tie.Need-end-of-requires
+end-of-requires c κs = search needs
+
+put-requires : tie.Need-put-requires
+put-requires c κs = search needs
+
+put-pages-requires : tie.Need-put-pages-requires
+put-pages-requires c κs = search needs
+
+add-put : tie.Need-add-put
+add-put c = search needs
+
+put-requires-2 : tie.Need-put-requires-2
+put-requires-2 c κs = search needs
+
+same-length-2 : tie.Need-same-length-2
+same-length-2 c = search needs
+
+returns-2 : tie.Need-returns-2
+returns-2 c =
+    let a = c .before .before .before .before .before .before .before .before .before .before .before .before .before .before .before .before .before .before .before .before .before .before .before .args in
+    laws.lock-made (a .t .now) (pagesOf (a .list .now)) _ _ _ _ (c .before .before .before .before .before .before .before .before .before .before .before .before .before .before .before .before .before .before .before .before .page-count .ensures) (c .before .before .before .before .before .before .before .before .before .before .before .before .before .before .before .before .before .before .count .ensures) (c .before .before .before .before .before .before .before .before .before .before .before .before .before .before .before .before .total-of .ensures) (c .before .before .before .before .before .before .before .before .before .before .before .before .before .before .before .has-room .ensures)
+    (not-false (c .before .before .before .before .before .before .before .before .before .before .before .before .before .before .before .has-room .result) (c .before .before .before .before .before .before .before .before .before .before .before .before .before .before .if1 .left)) _ _ _ _ (c .before .before .before .before .before .before .before .before .before .before .before .before .end-of .ensures) (c .before .before .before .before .before .before .before .before .before .before .put .ensures) (c .before .before .before .before .before .before .put-pages .ensures) (c .before .before .put2 .ensures)
+
+pub lock-spec : {M : Type 1} → statement M
+lock-spec =
+    tie.close
+    (tie.spec
+    page-count-requires
+    count-requires
+    total-of-requires
+    has-room-requires
+    same-length
+    returns
+    end-of-requires
+    put-requires
+    put-pages-requires
+    add-put
+    put-requires-2
+    same-length-2
+    returns-2)

@@ -1,0 +1,86 @@
+-- `locks::unlock` meets its contract. Assumes nothing.
+use borrow.Author.Needs.{needs}
+use Prim.Native.Nat.{_-_}
+use Rattle.pages.specs.Pages.{pagesOf}
+use Rattle.locks.proofs.Laws as laws
+use Rattle.locks.proofs.unlock.Statement.{statement}
+use Rattle.locks.proofs.unlock.Tie as tie
+
+count-requires : tie.Need-count-requires
+count-requires c κs = search needs
+
+find-requires : tie.Need-find-requires
+find-requires c κs = search needs
+
+same-length : tie.Need-same-length
+same-length c = search needs
+
+returns : tie.Need-returns
+returns c =
+    let a = c .before .before .before .before .before .before .before .args in
+    laws.unlock-none (a .t .now) (pagesOf (a .list .now)) _ _ (c .before .before .before .count .ensures) (c .before .find .ensures) (c .if1 .taken)
+
+minus-requires : tie.Need-minus-requires
+minus-requires c κs = search needs
+
+next-requires : tie.Need-next-requires
+next-requires c κs = search needs
+
+end-of-requires : tie.Need-end-of-requires
+end-of-requires c κs = search needs
+
+greatest-requires : tie.Need-greatest-requires
+greatest-requires c κs = search needs
+
+next-requires-2 : tie.Need-next-requires-2
+next-requires-2 c κs = search needs
+
+minus-requires-2 : tie.Need-minus-requires-2
+minus-requires-2 c κs = search needs
+
+minus-requires-3 : tie.Need-minus-requires-3
+minus-requires-3 c κs = search needs
+
+swap-runs-requires : tie.Need-swap-runs-requires
+swap-runs-requires c κs = search needs
+
+minus-requires-4 : tie.Need-minus-requires-4
+minus-requires-4 c κs = search needs
+
+close-gap-requires : tie.Need-close-gap-requires
+close-gap-requires c κs = search needs
+
+put-requires : tie.Need-put-requires
+put-requires c κs = search needs
+
+same-length-2 : tie.Need-same-length-2
+same-length-2 c = search needs
+
+returns-2 : tie.Need-returns-2
+returns-2 c =
+    let a = c .before .before .before .before .before .before .before .before .before .before .before .before .before .before .before .before .before .before .before .before .before .before .before .before .before .before .before .before .before .before .args in
+    laws.unlock-made (a .t .now) (pagesOf (a .list .now)) _ _ (c .before .before .before .before .before .before .before .before .before .before .before .before .before .before .before .before .before .before .before .before .before .before .before .before .before .before .count .ensures) (c .before .before .before .before .before .before .before .before .before .before .before .before .before .before .before .before .before .before .before .before .before .before .before .before .find .ensures) (c .before .before .before .before .before .before .before .before .before .before .before .before .before .before .before .before .before .before .before .before .before .before .before .if1 .left) _ _ _ _ _ _ _ _ (c .before .before .before .before .before .before .before .before .before .before .before .before .before .before .before .before .before .before .before .before .before .before .minus .ensures)
+    (c .before .before .before .before .before .before .before .before .before .before .before .before .before .before .before .before .before .before .before .before .next .ensures) (c .before .before .before .before .before .before .before .before .before .before .before .before .before .before .before .before .before .before .end-of .ensures) (c .before .before .before .before .before .before .before .before .before .before .before .before .before .before .before .before .before .greatest .ensures) (c .before .before .before .before .before .before .before .before .before .before .before .before .before .before .before .next2 .ensures) (c .before .before .before .before .before .before .before .before .before .before .before .before .before .minus2 .ensures) (c .before .before .before .before .before .before .before .before .before .before .before .before .minus3 .ensures) (c .before .before .before .before .before .before .before .minus4 .ensures)
+    _ _ _ (c .before .before .before .before .before .before .before .before .before .before .before .swap-runs .ensures) (c .before .before .before .before .before .before .close-gap .ensures) (c .before .before .put .ensures)
+
+pub unlock-spec : {M : Type 1} → statement M
+unlock-spec =
+    tie.close
+    (tie.spec
+    count-requires
+    find-requires
+    same-length
+    returns
+    minus-requires
+    next-requires
+    end-of-requires
+    greatest-requires
+    next-requires-2
+    minus-requires-2
+    minus-requires-3
+    swap-runs-requires
+    minus-requires-4
+    close-gap-requires
+    put-requires
+    same-length-2
+    returns-2)
