@@ -63,6 +63,18 @@ module _ (w : ℕ) (P : ℕ → Bool) (s : Bool) where
       (λ j l. word-is w (λ k. cond (P (j * w + k)) s (bit (getD m j 0) k)) (getD m j 0) (getD m j 0) refl
       (λ k d. ap (λ (b : Bool). cond b s (bit (getD m j 0) k)) (sym (h j k l d))))
 
+  -- and so it is where each page that P picks is s already
+  pub already : (m : List ℕ) → ((j k : ℕ) → j < length m → k < w → P (j * w + k) ≡ true → bit (getD m j 0) k ≡ s) → m ≡ written w P s m
+  unfolding at
+  already m h =
+      is-written m m refl
+      (λ j l. word-is w (λ k. cond (P (j * w + k)) s (bit (getD m j 0) k)) (getD m j 0) (getD m j 0) refl
+      (λ k d. is-so (P (j * w + k)) (bit (getD m j 0) k) (h j k l d)))
+    where
+      is-so : (p b : Bool) → (p ≡ true → b ≡ s) → b ≡ cond p s b
+      is-so true b e = e refl
+      is-so false b e = refl
+
   -- a store of one word: its bits are those that P says, and P picks no page of another word
   pub stored : (m : List ℕ) (i y : ℕ) → i < length m → y / 2 ^ w ≡ getD m i 0 / 2 ^ w
       → ((k : ℕ) → k < w → bit y k ≡ cond (P (i * w + k)) s (bit (getD m i 0) k))

@@ -12,8 +12,8 @@ use lib.ListN.{length, getD, drop}
 use borrow.Author.Tests.{eqb-true, eqb-false, eq-eqb, ne-eqb, lt-ltb, le-ltb, le-leb, lt-leb}
 use Rattle.laws.specs.Bools.{digit, and-left, and-right}
 use Rattle.laws.specs.Ranges.{between, between-same, between-false, between-join}
-use Rattle.bitmap.specs.Pages.{bit, written, one, words}
-use Rattle.bitmap.proofs.Bit.{mask, bit-of-zero, full-bit}
+use Rattle.bitmap.specs.Pages.{bit, bitAt, written, one, words}
+use Rattle.bitmap.proofs.Bit.{mask, bit-of-zero, full-bit, ones-bit}
 use Rattle.bitmap.proofs.Map.{both, none, alike as same-chunks}
 use Rattle.bitmap.proofs.Runs.{one-between}
 use Rattle.layout.specs.declared.MemoryRange.{MemoryRange}
@@ -218,15 +218,13 @@ module _ (registered failed : List ℕ) (s : Bool) (c e : ℕ) where
       let r : Bool = eqb (getD registered (c / 64) 0) (digit s * (2 ^ 64 - 1)) in
       word-ahead m l (eqb-true _ _ (and-left f r t)) (eqb-true _ _ (and-right f r t))
 
-  pub alike-one : c < e → alike registered failed s c ≡ true → Ahead (alike registered failed s) c e 1
-  alike-one h t =
-      record { within = omega arith; holds = λ q a b. ap (alike registered failed s) (same-number q a b) ∙ t; stops = λ z. absurd (omega arith) }
-    where
-      same-number : (q : ℕ) → c ≤ q → q < c + 1 → q ≡ c
-      same-number q a b = omega arith
-
-  pub alike-none : c < e → alike registered failed s c ≡ false → Ahead (alike registered failed s) c e 0
-  alike-none h t = record { within = omega arith; holds = λ q a b. absurd (omega arith); stops = λ z. t }
+pub set-word : (m : List ℕ) (c e : ℕ) → c % 64 ≡ 0 → 64 ≤ e - c → getD m (c / 64) 0 ≡ 2 ^ 64 - 1 → Ahead (bitAt 64 m) c e 64
+set-word m c e h l r = record { within = omega arith; holds = one-of; stops = λ z. absurd (omega arith) }
+  where
+    one-of : (q : ℕ) → c ≤ q → q < c + 64 → bitAt 64 m q ≡ true
+    one-of q a b =
+        let w : q / 64 ≡ c / 64 = omega arith in
+        rw (w, r) (ones-bit 64 (q % 64) (omega arith))
 
 pub not-empty : (r : MemoryRange) → ltb (r .start) (r .end) ≡ not (empty r)
 not-empty r = elim (decLt (r .start) (r .end)) [

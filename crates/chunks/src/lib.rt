@@ -6,7 +6,7 @@ ghost use lib.Dec.{eqb, ltb};
 ghost use lib.ListN.{getD};
 ghost use Rattle.laws.specs.Bools.{digit};
 ghost use Rattle.laws.specs.Ranges.{between};
-ghost use Rattle.bitmap.specs.Pages.{written, words};
+ghost use Rattle.bitmap.specs.Pages.{bitAt, written, words};
 ghost use Rattle.layout.specs.Layout.{entriesOf, spans};
 ghost use Rattle.chunks.specs.Chunks.{up, chunkCount, mapWords, firstChunk, endChunk, isPower, pieces, firstOf, alike, firstNot, alignedPart, edgeOf, entryWith};
 ghost use Rattle.chunks.specs.Scan.{Ahead};
@@ -169,6 +169,36 @@ pub fn run_end(registered: &[u64], failed: &[u64], set: bool, from: u64, to: u64
     let mut c = from;
     while c < to {
         let n = alike_here(registered, failed, set, c, to);
+        if n == 0 {
+            return c;
+        }
+        c += n;
+    }
+    c
+}
+
+// How many chunks from c on are set, of those before `to`: a whole word, one, or none.
+fn set_here(map: &[u64], c: u64, to: u64) -> u64
+    requires { ⌜ c < to ⌝ }
+    ensures { λ r. ⌜ Ahead (bitAt 64 (now (map .entry))) c to r ⌝ }
+{
+    if c % 64 == 0 {
+        if 64 <= to - c {
+            if numbers::word_at(map, c / 64) == 0xffff_ffff_ffff_ffff {
+                return 64;
+            }
+        }
+    }
+    if bitmap::get(map, c) { 1 } else { 0 }
+}
+
+// The first chunk from `from` to before `to` that is not set.
+pub fn first_clear(map: &[u64], from: u64, to: u64) -> u64
+    ensures { λ r. ⌜ r ≡ firstNot (bitAt 64 (now (map .entry))) from to ⌝ }
+{
+    let mut c = from;
+    while c < to {
+        let n = set_here(map, c, to);
         if n == 0 {
             return c;
         }

@@ -2,7 +2,7 @@
 use native.Mathlib.Omega.{arith}
 use native.Mathlib.Numerals.{add-one}
 use mathlib.Core.Path.{_≡_, sym, ap, ap₂, _∙_}
-use mathlib.Core.Bool.{not, _&&_}
+use mathlib.Core.Bool.{true, not, _&&_}
 use mathlib.Core.List.{List, [], _∷_, _++_, append-assoc, append-nil}
 use Prim.Native.Nat.{ℕ, suc, _+_, _-_, _%_, _^_, _≤_, _<_}
 use lib.Dec.{eqb, leb, ltb}
@@ -18,7 +18,8 @@ use Rattle.registrar_steps.specs.declared.Answer.the-variants.{Done, Registrati
 use Rattle.registrar_steps.specs.declared.Plan.{Plan}
 use Rattle.registrar_steps.specs.Steps.{idle}
 use Rattle.registrar_state.specs.declared.Reply.{Reply}
-use Rattle.registrar_state.specs.World.{World, world, Outcome, outcome, requestOf, withRequest, builtState, flatOf, decided, buildRefusal, registerRefusal, allRefusal, marked, carriedOut, answerRefusal, takenTo, afterTaken}
+use Rattle.registrar_state.specs.World.{World, world, Outcome, outcome, requestOf, withRequest, builtState, flatOf, decided, buildRefusal, registerRefusal, allRefusal, marked, carriedOut, registerPlan, isKnown, answerRefusal, takenTo, afterTaken}
+use Rattle.registrar_state.specs.Laws.{known-kept}
 
 -- ---- a call refused, and one carried out
 
@@ -34,6 +35,13 @@ module _ (w : World) (n x : ℕ) (e : n ≡ x) where
 
   pub call-answered : (taken : Outcome) (o : Outcome) → n ≡ 0 → o ≡ taken → o ≡ decided w x taken
   call-answered taken o h q = answered n x e taken o (λ k. record { world = w; reply = flatOf (Refused k) }) h q
+
+-- a request that finds its chunks registered
+pub call-known : (w : World) (n address len : ℕ) (r : Reply) → n ≡ registerRefusal w address len → n ≡ 0 → length (w .state) ≡ 108
+    → isKnown (w .state) (w .registered) address len ≡ true → r ≡ flatOf (Done 0)
+    → outcome (w .state) (w .registered) (w .failed) r ≡ decided w (registerRefusal w address len) (carriedOut w (registerPlan w address len))
+call-known w n address len r e z h k hr =
+    call-answered w n (registerRefusal w address len) e _ _ z (ap (outcome (w .state) (w .registered) (w .failed)) hr ∙ known-kept w address len h k)
 
 -- ---- the state block of a call that is not refused has its length
 

@@ -67,6 +67,9 @@ pub extern "C" fn registrar_register(
     if n != 0 {
         return registrar_state::flatten(Answer::Refused(n));
     }
+    if registrar_state::is_known(state, registered, address, len) {
+        return registrar_state::flatten(Answer::Done(0));
+    }
     let p = registrar_state::register_plan(state, registered, failed, address, len);
     chunks::set_chunks(registered, p.from, p.to);
     registrar_state::save(state, p.request);

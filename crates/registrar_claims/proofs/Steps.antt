@@ -28,6 +28,7 @@ use Rattle.registrar_state.specs.World.{World, world, Outcome, outcome, request
 use Rattle.registrar_claims.specs.Runs.{Told, before, follow}
 use Rattle.registrar_claims.specs.Whole.{Stand, Ok, FailedAt, Whole, ended, offered, asking, offer, wholeChunks, wholeRegister, Says, Words, Match}
 use Rattle.registrar_claims.proofs.Spans.{Ascend, spans-ascend, piece-some, pieces-rest}
+use Rattle.registrar_state.specs.Laws.{split-state}
 use Rattle.registrar.specs.Laws.{register-long}
 use Rattle.registrar_steps.specs.Laws.{register-done}
 
@@ -267,19 +268,6 @@ module _ (tail f : List ℕ) (last : ℕ) where
             (λ k q bs. more k q (marked c (c + 1) r) bs (marked-length c (c + 1) r ∙ l) (marked-words c (c + 1) r w)) ps k p bs (pieces-rest (c * g) ((c + 1) * g) 0 rs p ps asc hp))
 
 -- ---- from the call on
-
--- a state block of its length is its request's words and the rest
-pub split-state : (s : List ℕ) → 9 ≤ length s → s ≡ requestWords (requestOf s) ++ drop 9 s
-split-state [] h = absurd (omega arith)
-split-state (x0 ∷ []) h = absurd (omega arith)
-split-state (x0 ∷ x1 ∷ []) h = absurd (omega arith)
-split-state (x0 ∷ x1 ∷ x2 ∷ []) h = absurd (omega arith)
-split-state (x0 ∷ x1 ∷ x2 ∷ x3 ∷ []) h = absurd (omega arith)
-split-state (x0 ∷ x1 ∷ x2 ∷ x3 ∷ x4 ∷ []) h = absurd (omega arith)
-split-state (x0 ∷ x1 ∷ x2 ∷ x3 ∷ x4 ∷ x5 ∷ []) h = absurd (omega arith)
-split-state (x0 ∷ x1 ∷ x2 ∷ x3 ∷ x4 ∷ x5 ∷ x6 ∷ []) h = absurd (omega arith)
-split-state (x0 ∷ x1 ∷ x2 ∷ x3 ∷ x4 ∷ x5 ∷ x6 ∷ x7 ∷ []) h = absurd (omega arith)
-split-state (x0 ∷ x1 ∷ x2 ∷ x3 ∷ x4 ∷ x5 ∷ x6 ∷ x7 ∷ x8 ∷ s) h = refl
 
 -- an empty request, wherever it lies
 nothing-touched : (tail f r : List ℕ) (q : Request) (first last : ℕ) (bs : List Bool) → last ≤ first

@@ -28,7 +28,8 @@ use Rattle.registrar_steps.specs.Steps.{seen, idle, askedOf, more, stretchIn, l
 use Rattle.registrar_state.specs.World.{World, world, Outcome, outcome, requestOf, requestWords, entriesIn, flatOf, lengthsFit, allRefusal, marked, carriedOut, allOf, answerRefusal, failedOf, doneOf}
 use Rattle.registrar_claims.specs.Runs.{follow}
 use Rattle.registrar_claims.specs.Whole.{FailedAt, UnalignedAt, offerStretch, wholeSpan, wholeSpans, wholeAll, Whole, ended, Match}
-use Rattle.registrar_claims.proofs.Steps.{marked-length, marked-none, follow-ended, match-ask, match-told, split-state}
+use Rattle.registrar_claims.proofs.Steps.{marked-length, marked-none, follow-ended, match-ask, match-told}
+use Rattle.registrar_state.specs.Laws.{split-state}
 use Rattle.registrar_claims.proofs.Spans.{Ascend, spans-ascend}
 use Rattle.registrar.specs.Laws.{all-long}
 

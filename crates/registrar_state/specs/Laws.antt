@@ -3,22 +3,29 @@ use native.Mathlib.Omega.{arith}
 use native.Mathlib.Decide.{decLt}
 use mathlib.Core.Path.{_≡_, refl, sym, ap, ap₂, _∙_}
 use mathlib.Core.Bool.{Bool, true, false, not, cond, _&&_}
-use mathlib.Core.List.{List, [], _∷_}
-use Prim.Native.Nat.{ℕ, _+_, _-_, _*_, _%_, _^_, _≤_, _<_, min}
+use mathlib.Core.List.{List, [], _∷_, _++_}
+use Prim.Native.Nat.{ℕ, _+_, _-_, _*_, _/_, _%_, _^_, _≤_, _<_, min, max}
 use lib.Dec.{eqb, leb, ltb}
 use lib.ListN.{length, getD, drop, take, set, length-drop}
 use lib.Seq.{take-all}
-use borrow.Author.Tests.{eqb-true, eq-eqb, ne-eqb, lt-ltb, le-ltb, le-leb, lt-leb}
+use borrow.Author.Tests.{eqb-true, eq-eqb, ne-eqb, lt-ltb, le-ltb, le-leb, lt-leb, leb-true}
+use Rattle.laws.specs.Bools.{and-left, and-right, and-ends, both-true, or-left}
+use Rattle.laws.specs.Ranges.{between, between-from, between-to}
 use Rattle.laws.specs.Refusal.{unless}
+use Rattle.bitmap.specs.Pages.{bit, bitAt}
+use Rattle.bitmap.proofs.Map.{already}
 use Rattle.layout.specs.declared.MemoryRange.{MemoryRange}
 use Rattle.layout.specs.declared.MemoryRangeWithNode.{MemoryRangeWithNode}
 use Rattle.layout.specs.Layout.{entriesOf, refusalOf, lastEnd, spans}
-use Rattle.chunks.specs.Chunks.{chunkCount, mapWords, firstChunk, endChunk, isPower, empty, pieces, firstOf}
+use Rattle.chunks.specs.Chunks.{chunkCount, mapWords, firstChunk, endChunk, isPower, empty, pieces, firstOf, firstNot}
+use Rattle.chunks.specs.Scan.{first-holds, first-all}
 use Rattle.chunks.specs.Laws.{not-empty}
 use Rattle.registrar_steps.specs.declared.Request.{Request}
+use Rattle.registrar_steps.specs.declared.Answer.the-variants.{Done}
 use Rattle.registrar_steps.specs.declared.Plan.{Plan}
-use Rattle.registrar_steps.specs.Steps.{Seen, seen, asks, ramFrom, pieceOf, registerFrom, allFrom}
-use Rattle.registrar_state.specs.World.{World, requestOf, offsetOf, granularityOf, ramOf, entriesIn, lengthsFit, buildRefusal, callRefusal, chunksFit, registerPlan, allPlan, restOf, hasRest, takenTo, donePlan}
+use Rattle.registrar_steps.specs.Steps.{Seen, seen, idle, isIdle, asks, ends, ramFrom, passes, pieceOf, registerFrom, allFrom}
+use Rattle.registrar_steps.specs.Laws.{register-done}
+use Rattle.registrar_state.specs.World.{World, outcome, requestOf, requestWords, withRequest, offsetOf, granularityOf, ramOf, entriesIn, seenIn, flatOf, lengthsFit, buildRefusal, callRefusal, chunksFit, marked, carriedOut, registerPlan, allPlan, isKnown, restOf, hasRest, takenTo, donePlan}
 
 -- ---- the request's words
 
@@ -34,6 +41,19 @@ module _ (a0 a1 a2 a3 a4 a5 a6 a7 a8 : ℕ) where
   saved (x0 ∷ x1 ∷ x2 ∷ x3 ∷ x4 ∷ x5 ∷ x6 ∷ []) h = absurd (omega arith)
   saved (x0 ∷ x1 ∷ x2 ∷ x3 ∷ x4 ∷ x5 ∷ x6 ∷ x7 ∷ []) h = absurd (omega arith)
   saved (x0 ∷ x1 ∷ x2 ∷ x3 ∷ x4 ∷ x5 ∷ x6 ∷ x7 ∷ x8 ∷ s) h = refl
+
+-- a state block of its length is its request's words and the rest
+pub split-state : (s : List ℕ) → 9 ≤ length s → s ≡ requestWords (requestOf s) ++ drop 9 s
+split-state [] h = absurd (omega arith)
+split-state (x0 ∷ []) h = absurd (omega arith)
+split-state (x0 ∷ x1 ∷ []) h = absurd (omega arith)
+split-state (x0 ∷ x1 ∷ x2 ∷ []) h = absurd (omega arith)
+split-state (x0 ∷ x1 ∷ x2 ∷ x3 ∷ []) h = absurd (omega arith)
+split-state (x0 ∷ x1 ∷ x2 ∷ x3 ∷ x4 ∷ []) h = absurd (omega arith)
+split-state (x0 ∷ x1 ∷ x2 ∷ x3 ∷ x4 ∷ x5 ∷ []) h = absurd (omega arith)
+split-state (x0 ∷ x1 ∷ x2 ∷ x3 ∷ x4 ∷ x5 ∷ x6 ∷ []) h = absurd (omega arith)
+split-state (x0 ∷ x1 ∷ x2 ∷ x3 ∷ x4 ∷ x5 ∷ x6 ∷ x7 ∷ []) h = absurd (omega arith)
+split-state (x0 ∷ x1 ∷ x2 ∷ x3 ∷ x4 ∷ x5 ∷ x6 ∷ x7 ∷ x8 ∷ s) h = refl
 
 -- ---- the layout's words
 
@@ -207,3 +227,73 @@ module _ (w : World) (q : Request) (p : Plan) (e : q ≡ requestOf (w .state)) (
         → p ≡ donePlan w
     unfolding on
     done-all d hp = hp ∙ sym (rw (ne-eqb (q .kind) 1 d)) ∙ goes-on
+
+-- ---- a request that finds its chunks registered
+
+module _ (s registered : List ℕ) (address len : ℕ) (q : Request) (t : Bool) (e : q ≡ requestOf s) (h : t ≡ isIdle q) where
+  pub known-not : t ≡ false → false ≡ isKnown s registered address len
+  known-not k = and-ends (isIdle (requestOf s)) _ (sym (ap isIdle e) ∙ sym h ∙ k)
+
+  pub known-is : (f l c : ℕ) → t ≡ true → f ≡ firstChunk (granularityOf s) address → l ≡ endChunk (granularityOf s) address len → c ≡ firstNot (bitAt 64 registered) f l
+      → leb l c ≡ isKnown s registered address len
+  known-is f l c k hf hl hc =
+      ap (leb l) hc ∙ ap₂ (λ (f l : ℕ). leb l (firstNot (bitAt 64 registered) f l)) hf hl ∙ sym (rw (sym (ap isIdle e) ∙ sym h ∙ k))
+
+zeros : (a b c d e f g h i : ℕ) → a ≡ 0 → b ≡ 0 → c ≡ 0 → d ≡ 0 → e ≡ 0 → f ≡ 0 → g ≡ 0 → h ≡ 0 → i ≡ 0
+    → record { kind = a; count = b; from = c; to = d; start = e; end = f; last = g; alignment = h; ignore = i } ≡ idle
+zeros a b c d e f g h i ha hb hc hd he hf hg hh hi = cc
+
+idle-is : (q : Request) → isIdle q ≡ true → q ≡ idle
+idle-is q h =
+    let a = both-true (eqb (q .kind) 0) _ h in
+    let b = both-true (eqb (q .count) 0) _ (a .1) in
+    let c = both-true (eqb (q .from) 0) _ (b .1) in
+    let d = both-true (eqb (q .to) 0) _ (c .1) in
+    let e = both-true (eqb (q .start) 0) _ (d .1) in
+    let f = both-true (eqb (q .end) 0) _ (e .1) in
+    let g = both-true (eqb (q .last) 0) _ (f .1) in
+    let i = both-true (eqb (q .alignment) 0) _ (g .1) in
+    zeros _ _ _ _ _ _ _ _ _ (eqb-true _ _ (a .0)) (eqb-true _ _ (b .0)) (eqb-true _ _ (c .0)) (eqb-true _ _ (d .0)) (eqb-true _ _ (e .0)) (eqb-true _ _ (f .0)) (eqb-true _ _ (g .0)) (eqb-true _ _ (i .0)) (eqb-true _ _ (i .1))
+
+module _ (w : World) (address len : ℕ) (h : length (w .state) ≡ 108) (k : isKnown (w .state) (w .registered) address len ≡ true) where
+  abbrev first : ℕ
+  first = firstChunk (granularityOf (w .state)) address
+
+  abbrev end : ℕ
+  end = endChunk (granularityOf (w .state)) address len
+
+  abbrev to : ℕ
+  to = min end (chunkCount (granularityOf (w .state)) (entriesIn (w .state)))
+
+  abbrev stop : ℕ
+  stop = firstNot (passes (seenIn w)) first to
+
+  known-at : (q : ℕ) → first ≤ q → q < end → bitAt 64 (w .registered) q ≡ true
+  known-at q a b =
+      first-holds (bitAt 64 (w .registered)) first end q a
+      (omega (arith, leb-true end (firstNot (bitAt 64 (w .registered)) first end) (and-right (isIdle (requestOf (w .state))) _ k)))
+
+  known-stop : stop ≡ max first to
+  known-stop = first-all (passes (seenIn w)) first to (λ q a b. or-left (bitAt 64 (w .registered) q) _ (known-at q a (omega arith)))
+
+  known-marks : w .registered ≡ marked first stop (w .registered)
+  known-marks =
+      already 64 (between first stop) true (w .registered)
+      (λ j c l b p.
+      let at-word : (j * 64 + c) / 64 ≡ j = omega arith in
+      let at-bit : (j * 64 + c) % 64 ≡ c = omega arith in
+      sym (ap₂ (λ (x y : ℕ). bit (getD (w .registered) x 0) y) at-word at-bit)
+      ∙ known-at (j * 64 + c) (between-from first stop (j * 64 + c) p) (omega (arith, known-stop, between-from first stop (j * 64 + c) p, between-to first stop (j * 64 + c) p)))
+
+  known-plan : ends first stop (Done 0) ≡ registerPlan w address len
+  known-plan = register-done (seenIn w) (offsetOf (w .state)) 0 first end to stop (ends first stop (Done 0)) refl refl (omega (arith, known-stop)) refl
+
+  known-state : w .state ≡ withRequest idle (w .state)
+  known-state =
+      split-state (w .state) (omega arith)
+      ∙ ap (λ (q : Request). withRequest q (w .state)) (idle-is (requestOf (w .state)) (and-left (isIdle (requestOf (w .state))) _ k))
+
+  -- no word changes
+  pub known-kept : record { world = w; reply = flatOf (Done 0) } ≡ carriedOut w (registerPlan w address len)
+  known-kept =
+      ap₂ (λ (s m : List ℕ). outcome s m (w .failed) (flatOf (Done 0))) known-state known-marks ∙ ap (carriedOut w) known-plan

@@ -6,17 +6,17 @@ use lib.Dec.{eqb, leb, ltb}
 use lib.ListN.{length, getD, drop, take, replicate}
 use Rattle.laws.specs.Refusal.{unless}
 use Rattle.laws.specs.Ranges.{between}
-use Rattle.bitmap.specs.Pages.{written}
+use Rattle.bitmap.specs.Pages.{bitAt, written}
 use Rattle.layout.specs.declared.MemoryRange.{MemoryRange}
 use Rattle.layout.specs.declared.MemoryRangeWithNode.{MemoryRangeWithNode}
 use Rattle.layout.specs.Layout.{entriesOf, refusalOf, lastEnd, spans}
-use Rattle.chunks.specs.Chunks.{chunkCount, mapWords, firstChunk, endChunk, isPower, empty}
+use Rattle.chunks.specs.Chunks.{chunkCount, mapWords, firstChunk, endChunk, isPower, empty, firstNot}
 use Rattle.registrar_steps.specs.declared.Request.{Request}
 use Rattle.registrar_steps.specs.declared.Unaligned.{Unaligned}
 use Rattle.registrar_steps.specs.declared.Answer.{Answer}
 use Rattle.registrar_steps.specs.declared.Answer.the-variants.{Done, Register, RegistrationFailed, UnalignedMemory, Refused}
 use Rattle.registrar_steps.specs.declared.Plan.{Plan}
-use Rattle.registrar_steps.specs.Steps.{Seen, seen, idle, asks, ramFrom, pieceOf, registerFrom, allFrom}
+use Rattle.registrar_steps.specs.Steps.{Seen, seen, idle, isIdle, asks, ramFrom, pieceOf, registerFrom, allFrom}
 use Rattle.registrar_state.specs.declared.Reply.{Reply}
 
 -- what is lent: the state block of 108 words, and the two bitmaps
@@ -164,6 +164,12 @@ registerPlan w address len =
 
 abbrev pub allPlan : World → ℕ → ℕ → Plan
 allPlan w al ignore = allFrom (seenIn w) (offsetOf (w .state)) 0 al ignore 0 (spans (entriesIn (w .state)))
+
+-- nothing is left of an earlier request, and every chunk that this one touches is registered
+abbrev pub isKnown : List ℕ → List ℕ → ℕ → ℕ → Bool
+isKnown s registered address len =
+    let g : ℕ = granularityOf s in
+    isIdle (requestOf s) && leb (endChunk g address len) (firstNot (bitAt 64 registered) (firstChunk g address) (endChunk g address len))
 
 unfoldable pub registerOf : World → ℕ → ℕ → Outcome
 registerOf w address len = decided w (registerRefusal w address len) (carriedOut w (registerPlan w address len))

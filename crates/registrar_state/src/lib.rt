@@ -7,7 +7,7 @@ ghost use lib.Dec.{leb};
 ghost use lib.ListN.{length, getD, replicate};
 ghost use Rattle.layout.specs.Layout.{entriesOf};
 ghost use Rattle.chunks.specs.Chunks.{isPower};
-ghost use Rattle.registrar_state.specs.World.{world, simple, flatUnaligned, outcome, requestOf, withRequest, ramOf, builtState, flatOf, lengthsFit, buildRefusal, buildOf, callRefusal, chunksFit, registerRefusal, allRefusal, registerPlan, allPlan, registerOf, allOf, answerRefusal, failedOf, restOf, hasRest, takenTo, donePlan, doneOf};
+ghost use Rattle.registrar_state.specs.World.{world, simple, flatUnaligned, outcome, requestOf, withRequest, ramOf, builtState, flatOf, lengthsFit, buildRefusal, buildOf, callRefusal, chunksFit, registerRefusal, allRefusal, isKnown, registerPlan, allPlan, registerOf, allOf, answerRefusal, failedOf, restOf, hasRest, takenTo, donePlan, doneOf};
 use layout::MemoryRange;
 use registrar_steps::Answer;
 use registrar_steps::Plan;
@@ -283,6 +283,19 @@ pub fn build_refusal(
     } else {
         4
     }
+}
+
+// Whether a request finds its chunks registered, and the state as a finished call leaves it.
+pub fn is_known(state: &[u64], registered: &[u64], address: u64, len: u64) -> bool
+    requires { ⌜ length (now state) ≡ 108 ⌝ }
+    ensures { λ r. ⌜ r ≡ isKnown (now (state .entry)) (now (registered .entry)) address len ⌝ }
+{
+    if !registrar_steps::is_idle(load(state)) {
+        return false;
+    }
+    let g = state[10];
+    let end = chunks::end_chunk(g, address, len);
+    end <= chunks::first_clear(registered, chunks::first_chunk(g, address), end)
 }
 
 pub fn register_plan(

@@ -30,6 +30,10 @@ seen g es r f = record { granularity = g; entries = es; registered = r; failed =
 abbrev pub idle : Request
 idle = record { kind = 0; count = 0; from = 0; to = 0; start = 0; end = 0; last = 0; alignment = 0; ignore = 0 }
 
+abbrev pub isIdle : Request → Bool
+isIdle q =
+    eqb (q .kind) 0 && (eqb (q .count) 0 && (eqb (q .from) 0 && (eqb (q .to) 0 && (eqb (q .start) 0 && (eqb (q .end) 0 && (eqb (q .last) 0 && (eqb (q .alignment) 0 && eqb (q .ignore) 0)))))))
+
 -- the operation that a request asks for, at offset + address in 64 bits
 abbrev pub askedOf : ℕ → Request → Answer
 askedOf offset q = Register (range ((offset + q .start) % 2 ^ 64) ((offset + q .end) % 2 ^ 64))

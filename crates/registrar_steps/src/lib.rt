@@ -6,7 +6,7 @@ ghost use lib.Dec.{eqb, ltb};
 ghost use Rattle.bitmap.specs.Pages.{bitAt};
 ghost use Rattle.layout.specs.Layout.{entriesOf, spans};
 ghost use Rattle.chunks.specs.Chunks.{empty, firstNot};
-ghost use Rattle.registrar_steps.specs.Steps.{seen, idle, askedOf, asks, ends, passes, pieceOf, registerFrom, stretchIn, lookAt, unalignedAt, stretchOf, isNothing, found, allFrom};
+ghost use Rattle.registrar_steps.specs.Steps.{seen, idle, isIdle, askedOf, asks, ends, passes, pieceOf, registerFrom, stretchIn, lookAt, unalignedAt, stretchOf, isNothing, found, allFrom};
 use layout::MemoryRange;
 
 // The request under way. kind: 0 nothing asked, 1 register, else register_all_aligned. The chunks from `from` to before
@@ -128,6 +128,36 @@ pub fn idle() -> Request
         alignment: 0,
         ignore: 0,
     }
+}
+
+pub fn is_idle(q: Request) -> bool
+    ensures { λ r. ⌜ r ≡ isIdle q ⌝ }
+{
+    if q.kind != 0 {
+        return false;
+    }
+    if q.count != 0 {
+        return false;
+    }
+    if q.from != 0 {
+        return false;
+    }
+    if q.to != 0 {
+        return false;
+    }
+    if q.start != 0 {
+        return false;
+    }
+    if q.end != 0 {
+        return false;
+    }
+    if q.last != 0 {
+        return false;
+    }
+    if q.alignment != 0 {
+        return false;
+    }
+    q.ignore == 0
 }
 
 fn end(from: u64, to: u64, answer: Answer) -> Plan

@@ -2,6 +2,8 @@
 use native.Mathlib.Omega.{arith}
 use borrow.Author.Needs.{needs}
 use mathlib.Core.Path.{sym, _∙_}
+use Rattle.chunks.specs.Chunks.{alike}
+use Rattle.chunks.specs.Scan as scan
 use Rattle.chunks.specs.Laws as laws
 use Rattle.chunks.proofs.alike_here.Statement.{statement}
 use Rattle.chunks.proofs.alike_here.Tie as tie
@@ -19,10 +21,10 @@ is-alike-requires : tie.Need-is-alike-requires
 is-alike-requires c κs = search needs
 
 returns-2 : tie.Need-returns-2
-returns-2 c = laws.alike-one (c .before .before .before .before .before .args .registered .now) (c .before .before .before .before .before .args .failed .now) (c .before .before .before .before .before .args .set) (c .before .before .before .before .before .args .c) (c .before .before .before .before .before .args .to) (c .before .before .before .before .before .pre) (sym (c .before .is-alike .ensures) ∙ c .if4 .taken)
+returns-2 c = scan.ahead-one (alike (c .before .before .before .before .before .args .registered .now) (c .before .before .before .before .before .args .failed .now) (c .before .before .before .before .before .args .set)) (c .before .before .before .before .before .args .c) (c .before .before .before .before .before .args .to) (c .before .before .before .before .before .pre) (sym (c .before .is-alike .ensures) ∙ c .if4 .taken)
 
 returns-3 : tie.Need-returns-3
-returns-3 c = laws.alike-none (c .before .before .before .before .before .args .registered .now) (c .before .before .before .before .before .args .failed .now) (c .before .before .before .before .before .args .set) (c .before .before .before .before .before .args .c) (c .before .before .before .before .before .args .to) (c .before .before .before .before .before .pre) (sym (c .before .is-alike .ensures) ∙ c .if4 .left)
+returns-3 c = scan.ahead-none (alike (c .before .before .before .before .before .args .registered .now) (c .before .before .before .before .before .args .failed .now) (c .before .before .before .before .before .args .set)) (c .before .before .before .before .before .args .c) (c .before .before .before .before .before .args .to) (c .before .before .before .before .before .pre) (sym (c .before .is-alike .ensures) ∙ c .if4 .left)
 
 pub alike-here-spec : {M : Type 1} → statement M
 alike-here-spec =
