@@ -4,29 +4,35 @@ use mathlib.Core.Path.{_≡_, refl, sym, ap, ap₂, _∙_}
 use mathlib.Core.Logic.{⊎-elim}
 use mathlib.Core.Bool.{Bool, true, false, not, cond}
 use mathlib.Core.List.{List, [], _∷_}
-use Prim.Native.Nat.{ℕ, _+_, _-_, _*_, _%_, _^_, _≤_, _<_}
+use Prim.Native.Nat.{ℕ, _+_, _-_, _*_, _%_, _^_, _≤_, _<_, max}
 use lib.Dec.{eqb, ltb}
 use lib.ListN.{length, getD, drop, take, replicate, length-replicate, getD-replicate, List·getD-eq-default}
 use lib.Seq.{drop-drop, take-at, getD-drop}
-use borrow.Author.Tests.{eqb-true, eq-eqb}
-use Rattle.laws.specs.Bools.{lt-or-le}
+use borrow.Author.Tests.{eqb-true, eq-eqb, le-leb}
+use Rattle.laws.specs.Bools.{and-true, lt-or-le}
 use Rattle.laws.specs.Refusal.{passed}
 use Rattle.layout.specs.declared.MemoryRangeWithNode.{MemoryRangeWithNode}
 use Rattle.layout.specs.Layout.{entriesOf, ordered, refusalOf, lastEnd}
 use Rattle.layout.proofs.Laws.{fit, Fit, entries-count}
+use Rattle.bitmap.specs.Pages.{bitAt}
+use Rattle.chunks.specs.Chunks.{firstChunk, endChunk, firstNot}
+use Rattle.chunks.specs.Scan.{first-all}
 use Rattle.registrar_steps.specs.declared.Request.{Request}
 use Rattle.registrar_steps.specs.declared.Answer.the-variants.{Done, Refused}
 use Rattle.registrar_steps.specs.declared.Plan.{Plan}
-use Rattle.registrar_steps.specs.Steps.{idle}
-use Rattle.registrar_state.specs.World.{World, world, Outcome, outcome, requestOf, withRequest, entriesIn, builtState, flatOf, decided, buildRefusal, buildOf, registerRefusal, allRefusal, carriedOut, registerPlan, allPlan, registerOf, allOf, answerRefusal, failedOf, takenTo, donePlan, afterTaken, doneOf}
-use Rattle.registrar_claims.specs.Runs.{Call, Build, RegisterRange, RegisterAll, AnswerDone, AnswerFailed, give, follow}
+use Rattle.registrar_steps.specs.Steps.{idle, isIdle}
+use Rattle.registrar_state.specs.World.{World, world, Outcome, outcome, requestOf, withRequest, granularityOf, entriesIn, builtState, flatOf, decided, buildRefusal, buildOf, registerRefusal, allRefusal, carriedOut, registerPlan, allPlan, isKnown, registerOf, allOf, answerRefusal, failedOf, takenTo, donePlan, afterTaken, doneOf}
+use Rattle.registrar_state.specs.Laws.{known-kept}
+use Rattle.registrar_claims.specs.Runs.{Call, Build, RegisterRange, RegisterAll, AnswerDone, AnswerFailed, give, after, follow}
 use Rattle.registrar_claims.specs.Whole.{wholeAll, wholeRegister, Words, Match}
 use Rattle.registrar_claims.proofs.Steps.{marked-words, register-is-whole}
 use Rattle.registrar_claims.proofs.Stretches.{all-is-whole}
+use Rattle.registrar_claims.proofs.Requests.{Fits, idle-fits, register-asks, all-asks, done-asks}
 
 pub record Sound (w : World) : Type 0 where
   pub in-order : ordered 0 (entriesIn (w .state)) ≡ true
   pub words : Words (w .registered)
+  pub request : Fits (requestOf (w .state))
 
 -- ---- the layout stands in the words that no request uses
 
@@ -66,7 +72,7 @@ built-sound w ram o g z =
     let e = passed (eqb (refusalOf ram) 0) 1 _ (d .1) in
     let k : Fit ram = fit ram (eqb-true (refusalOf ram) 0 (e .0)) in
     rw (eq-eqb (buildRefusal w ram o g) 0 z)
-    (record { in-order = ap (ordered 0) (entries-built ram o g k) ∙ k .in-order; words = zeros-words (length (w .registered)) })
+    (record { in-order = ap (ordered 0) (entries-built ram o g k) ∙ k .in-order; words = zeros-words (length (w .registered)); request = idle-fits })
 
 build-sound : (w : World) (ram : List ℕ) (o g : ℕ) → Sound w → Sound (buildOf w ram o g .world)
 unfolding buildOf
@@ -86,27 +92,23 @@ decided-sound w n o h k = go (eqb n 0)
     go true = k
     go false = h
 
-carried-sound : (w : World) (p : Plan) → Sound w → Sound (carriedOut w p .world)
-carried-sound w p h =
-    record { in-order = kept-order (w .state) (withRequest (p .request) (w .state)) refl (h .in-order); words = marked-words (p .from) (p .to) (w .registered) (h .words) }
+carried-sound : (w : World) (p : Plan) → Sound w → Fits (p .request) → Sound (carriedOut w p .world)
+carried-sound w p h f =
+    record { in-order = kept-order (w .state) (withRequest (p .request) (w .state)) refl (h .in-order); words = marked-words (p .from) (p .to) (w .registered) (h .words); request = f }
 
 pub call-sound : (w : World) (x : Call) → Sound w → Sound (give w x .world)
 unfolding give registerOf allOf doneOf failedOf
 call-sound w (Build ram o g) h = build-sound w ram o g h
-call-sound w (RegisterRange a l) h = decided-sound w (registerRefusal w a l) (carriedOut w (registerPlan w a l)) h (carried-sound w (registerPlan w a l) h)
-call-sound w (RegisterAll al ig) h = decided-sound w (allRefusal w al ig) (carriedOut w (allPlan w al ig)) h (carried-sound w (allPlan w al ig) h)
+call-sound w (RegisterRange a l) h = decided-sound w (registerRefusal w a l) (carriedOut w (registerPlan w a l)) h (carried-sound w (registerPlan w a l) h (register-asks w (h .in-order) 0 (firstChunk (granularityOf (w .state)) a) (endChunk (granularityOf (w .state)) a l)))
+call-sound w (RegisterAll al ig) h = decided-sound w (allRefusal w al ig) (carriedOut w (allPlan w al ig)) h (carried-sound w (allPlan w al ig) h (all-asks w (h .in-order) 0 al ig 0))
 call-sound w AnswerDone h =
     let q : Request = requestOf (w .state) in
-    let v : Sound (afterTaken w) = record { in-order = h .in-order; words = marked-words (q .from) (takenTo (w .state)) (w .registered) (h .words) } in
-    decided-sound w (answerRefusal w) (carriedOut (afterTaken w) (donePlan (afterTaken w))) h (carried-sound (afterTaken w) (donePlan (afterTaken w)) v)
+    let v : Sound (afterTaken w) = record { in-order = h .in-order; words = marked-words (q .from) (takenTo (w .state)) (w .registered) (h .words); request = h .request } in
+    decided-sound w (answerRefusal w) (carriedOut (afterTaken w) (donePlan (afterTaken w))) h (carried-sound (afterTaken w) (donePlan (afterTaken w)) v (done-asks (afterTaken w) (h .in-order) (h .request)))
 call-sound w AnswerFailed h =
-    decided-sound w (answerRefusal w) _ h (record { in-order = kept-order (w .state) (withRequest idle (w .state)) refl (h .in-order); words = h .words })
+    decided-sound w (answerRefusal w) _ h (record { in-order = kept-order (w .state) (withRequest idle (w .state)) refl (h .in-order); words = h .words; request = idle-fits })
 
 -- any list of calls and answers
-unfoldable pub after : World → List Call → World
-after w [] = w
-after w (x ∷ xs) = after (give w x .world) xs
-
 pub always-sound : (xs : List Call) (w : World) → Sound w → Sound (after w xs)
 unfolding after
 always-sound [] w h = h
@@ -124,3 +126,23 @@ pub all-always-whole : (w : World) (ram : List ℕ) (o g : ℕ) (xs : List Call)
 all-always-whole w ram o g xs al ig bs z n =
     let s = always-sound xs (buildOf w ram o g .world) (built-sound w ram o g z) in
     all-is-whole (after (buildOf w ram o g .world) xs) al ig bs n (s .in-order)
+
+-- THE CLAIM of a request whose chunks are all registered: it is Ok, asks for nothing and changes no word
+registered-kept : (w : World) (address len : ℕ) → let g : ℕ = granularityOf (w .state) in Sound w → registerRefusal w address len ≡ 0
+    → ((c : ℕ) → firstChunk g address ≤ c → c < endChunk g address len → bitAt 64 (w .registered) c ≡ true) → registerOf w address len ≡ record { world = w; reply = flatOf (Done 0) }
+unfolding registerOf registerRefusal
+registered-kept w address len s z h =
+    let g : ℕ = granularityOf (w .state) in
+    let a = passed (eqb (length (w .state)) 108) 3 _ z in
+    let b = passed (eqb (requestOf (w .state) .kind) 0) 18 _ (a .1) in
+    let i : isIdle (requestOf (w .state)) ≡ true = ap isIdle (s .request .rests (eqb-true _ _ (b .0))) in
+    let f : firstNot (bitAt 64 (w .registered)) (firstChunk g address) (endChunk g address len) ≡ max (firstChunk g address) (endChunk g address len) = first-all (bitAt 64 (w .registered)) (firstChunk g address) (endChunk g address len) h in
+    let k : isKnown (w .state) (w .registered) address len ≡ true = and-true (isIdle (requestOf (w .state))) _ i (le-leb (endChunk g address len) _ (omega (arith, f))) in
+    rw (eq-eqb (registerRefusal w address len) 0 z) (sym (known-kept w address len (eqb-true _ _ (a .0)) k))
+
+pub registered-always-kept : (w : World) (ram : List ℕ) (o g : ℕ) (xs : List Call) (address len : ℕ) → let v : World = after (buildOf w ram o g .world) xs in
+    let k : ℕ = granularityOf (v .state) in
+    buildRefusal w ram o g ≡ 0 → registerRefusal v address len ≡ 0
+    → ((c : ℕ) → firstChunk k address ≤ c → c < endChunk k address len → bitAt 64 (v .registered) c ≡ true) → registerOf v address len ≡ record { world = v; reply = flatOf (Done 0) }
+registered-always-kept w ram o g xs address len z n h =
+    registered-kept (after (buildOf w ram o g .world) xs) address len (always-sound xs (buildOf w ram o g .world) (built-sound w ram o g z)) n h

@@ -4,5 +4,6 @@ pub mod Counts
 pub mod Spans
 pub mod Steps
 pub mod Stretches
+pub mod Requests
 pub mod Built
 pub mod Examples

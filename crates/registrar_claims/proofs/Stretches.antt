@@ -165,7 +165,7 @@ alike-ext r r′ f q h t = and-true (not (bitAt 64 f q)) (bitAt 64 r′ q) (and-
 
 -- ---- the aligned part lies in its span
 
-part-end : (al : ℕ) (s : MemoryRange) → alignedPart al s .end ≤ s .end
+pub part-end : (al : ℕ) (s : MemoryRange) → alignedPart al s .end ≤ s .end
 part-end al s = go (ltb (up (s .start) al) (s .end / al))
   where
     go : (t : Bool) → cond t (range (up (s .start) al * al) (s .end / al * al)) (range 0 0) .end ≤ s .end

@@ -34,6 +34,12 @@ leftOf q = cond (eqb (q .kind) 0) 0 (suc ((2 ^ 64 - q .to) * 2 ^ 65 + (2 ^ 64 - 
 abbrev pub left : World → ℕ
 left w = leftOf (requestOf (w .state))
 
+-- ---- the world after a list of calls
+
+unfoldable pub after : World → List Call → World
+after w [] = w
+after w (x ∷ xs) = after (give w x .world) xs
+
 -- ---- a whole call under a list of answers, done or not: the ranges that it asks for, and what it gives last
 
 pub record Told : Type 0 where
