@@ -89,7 +89,7 @@ plan-counted k n w p e h = (λ q. h .0 q ∙ ap more e ∙ once k, λ q t. h .1 
     once : (k : ℕ) → more (k % 2 ^ 64) ≡ (k + 1) % 2 ^ 64
     once k = omega arith
 
-answer-refusal-taken : (w : World) → taken (answerRefusal w) ≡ true → answerRefusal w ≡ 0
+pub answer-refusal-taken : (w : World) → taken (answerRefusal w) ≡ true → answerRefusal w ≡ 0
 unfolding answerRefusal
 answer-refusal-taken w =
     go (eqb (length (w .state)) 108) (lengthsFit (granularityOf (w .state)) (entriesIn (w .state)) (w .registered) (w .failed)) (not (eqb (requestOf (w .state) .kind) 0))

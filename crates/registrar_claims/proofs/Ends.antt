@@ -1,28 +1,31 @@
 -- Every request ends: each answer that is taken lowers the number `left`, and nothing refused changes it. Assumes nothing.
 use native.Mathlib.Omega.{arith}
-use mathlib.Core.Path.{_≡_, refl, sym}
+use mathlib.Core.Path.{_≡_, refl, sym, ap}
 use mathlib.Core.Logic.{_⊎_, inl, inr, ⊎-elim}
-use mathlib.Core.Bool.{Bool, true, false, not, cond, _&&_}
+use mathlib.Core.Bool.{Bool, true, false, not, cond, _||_, _&&_}
 use mathlib.Core.List.{List, [], _∷_}
 use Prim.Native.Nat.{ℕ, zero, suc, _+_, _-_, _*_, _/_, _^_, _≤_, _<_, min, max}
 use native.Mathlib.Nat.{mul-le-mul-right, suc-mul}
-use lib.Dec.{eqb, ltb}
+use lib.Dec.{eqb, leb, ltb}
 use lib.ListN.{length}
-use borrow.Author.Tests.{eqb-false, eq-eqb, ne-eqb, ltb-true, leb-false, not-true}
-use Rattle.laws.specs.Bools.{and-right, false≢true}
-use Rattle.laws.specs.Refusal.{passed}
+use borrow.Author.Tests.{eqb-true, eqb-false, eq-eqb, ne-eqb, ltb-true, leb-false, not-true}
+use Rattle.laws.specs.Bools.{digit, and-right, both-true, false≢true}
+use Rattle.laws.specs.Refusal.{unless, passed}
 use Rattle.bitmap.specs.Pages.{bitAt}
 use Rattle.layout.specs.declared.MemoryRange.{MemoryRange}
 use Rattle.layout.specs.Layout.{spans}
-use Rattle.chunks.specs.Chunks.{chunkCount, empty, part, pieces, firstOf, firstNotOf, firstNot, alike, alignedPart, edgeOf}
+use Rattle.chunks.specs.Chunks.{chunkCount, isPower, empty, part, pieces, firstOf, firstNotOf, firstNot, alike, alignedPart, edgeOf}
 use Rattle.chunks.specs.Scan.{first-step, first-from}
 use Rattle.registrar_steps.specs.declared.Request.{Request}
-use Rattle.registrar_steps.specs.declared.Answer.the-variants.{Done, RegistrationFailed}
+use Rattle.registrar_steps.specs.declared.Answer.the-variants.{Done, RegistrationFailed, Refused}
 use Rattle.registrar_steps.specs.declared.Look.{Look}
 use Rattle.registrar_steps.specs.declared.Look.the-variants.{Nothing, Edge, FailedBefore, Stretch}
-use Rattle.registrar_steps.specs.Steps.{Seen, asks, ends, more, ramFrom, passes, pieceOf, registerFrom, stretchIn, lookAt, found, allFrom}
-use Rattle.registrar_state.specs.World.{World, requestOf, offsetOf, granularityOf, entriesIn, seenIn, lengthsFit, answerRefusal, failedOf, restOf, hasRest, donePlan, afterTaken, doneOf}
-use Rattle.registrar_claims.specs.Runs.{leftOf, left}
+use Rattle.registrar_steps.specs.Steps.{Seen, idle, asks, ends, more, ramFrom, passes, pieceOf, registerFrom, stretchIn, lookAt, found, allFrom}
+use Rattle.registrar_state.specs.World.{World, Outcome, outcome, requestOf, withRequest, offsetOf, granularityOf, entriesIn, seenIn, flatOf, decided, buildRefusal, buildOf, lengthsFit, callRefusal, chunksFit, registerRefusal, allRefusal, marked, carriedOut, registerPlan, allPlan, registerOf, allOf, answerRefusal, failedOf, restOf, hasRest, donePlan, afterTaken, doneOf}
+use Rattle.registrar_claims.specs.Runs.{Call, Build, RegisterRange, RegisterAll, AnswerDone, AnswerFailed, give, taken, leftOf, left, after, takenIn, isAnswer, onlyAnswers}
+use Rattle.registrar_claims.proofs.Refusals.{refused-keeps}
+use Rattle.registrar_claims.proofs.Counts.{answer-refusal-taken}
+use Rattle.registrar_claims.proofs.Built.{Sound, built-sound, call-sound, always-sound}
 
 module _ (P : ℕ → Bool) where
   first-of-not : (n c : ℕ) → firstNotOf P c n < c + n → P (firstNotOf P c n) ≡ false
@@ -187,3 +190,78 @@ failed-lowers w h = rw (eq-eqb (answerRefusal w) 0 h) (rw (ne-eqb (requestOf (w 
 pub done-lowers : (w : World) → answerRefusal w ≡ 0 → requestOf (w .state) .to < 2 ^ 64 → requestOf (w .state) .end < 2 ^ 64 → left (doneOf w .world) < left w
 unfolding doneOf
 done-lowers w h bt be = rw (eq-eqb (answerRefusal w) 0 h) (plan-lowers (afterTaken w) (asked-kind w h) bt be)
+
+-- ---- a list of calls
+
+-- an answer that is taken is not refused
+not-refused : (w : World) (o : Outcome) → taken (decided w (answerRefusal w) o .reply .number) ≡ true → answerRefusal w ≡ 0
+not-refused w o = go (eqb (answerRefusal w) 0) refl
+  where
+    go : (t : Bool) → eqb (answerRefusal w) 0 ≡ t → taken (cond t o (record { world = w; reply = flatOf (Refused (answerRefusal w)) }) .reply .number) ≡ true → answerRefusal w ≡ 0
+    go true e h = eqb-true _ _ e
+    go false e h = answer-refusal-taken w h
+
+done-taken : (w : World) → taken (doneOf w .reply .number) ≡ true → answerRefusal w ≡ 0
+unfolding doneOf
+done-taken w h = not-refused w (carriedOut (afterTaken w) (donePlan (afterTaken w))) h
+
+failed-taken : (w : World) → taken (failedOf w .reply .number) ≡ true → answerRefusal w ≡ 0
+unfolding failedOf
+failed-taken w h =
+    let q : Request = requestOf (w .state) in
+    not-refused w (outcome (withRequest idle (w .state)) (w .registered) (marked (q .from) (q .to) (w .failed)) (flatOf (RegistrationFailed (q .start) (q .count)))) h
+
+answer-lowers : (w : World) (x : Call) → Sound w → isAnswer x ≡ true → taken (give w x .reply .number) ≡ true → left (give w x .world) < left w
+unfolding give
+answer-lowers w (Build ram o g) s i h = false≢true i
+answer-lowers w (RegisterRange a l) s i h = false≢true i
+answer-lowers w (RegisterAll al ig) s i h = false≢true i
+answer-lowers w AnswerDone s i h = done-lowers w (done-taken w h) (s .request .to-fits) (s .request .end-fits)
+answer-lowers w AnswerFailed s i h = failed-lowers w (failed-taken w h)
+
+-- all answers that are taken, together
+answers-lower : (xs : List Call) (w : World) → Sound w → onlyAnswers w xs ≡ true → takenIn w xs + left (after w xs) ≤ left w
+unfolding takenIn after onlyAnswers
+answers-lower [] w s o = omega arith
+answers-lower (x ∷ xs) w s o =
+    let a = both-true (isAnswer x || not (taken (give w x .reply .number))) _ o in
+    go (taken (give w x .reply .number)) refl (isAnswer x) refl (a .0) (answers-lower xs (give w x .world) (call-sound w x s) (a .1))
+  where
+    go : (t : Bool) → taken (give w x .reply .number) ≡ t → (b : Bool) → isAnswer x ≡ b → (b || not t) ≡ true
+        → takenIn (give w x .world) xs + left (after (give w x .world) xs) ≤ left (give w x .world)
+        → digit t + takenIn (give w x .world) xs + left (after (give w x .world) xs) ≤ left w
+    go true e true i k more = omega (arith, answer-lowers w x s i e, more)
+    go true e false i k more = false≢true k
+    go false e b i k more = omega (arith, ap left (refused-keeps w x e), more)
+
+none-left : (q : Request) → leftOf q ≤ 0 → q .kind ≡ 0
+none-left q = go (eqb (q .kind) 0) refl
+  where
+    go : (t : Bool) → eqb (q .kind) 0 ≡ t → cond t 0 (suc ((2 ^ 64 - q .to) * 2 ^ 65 + (2 ^ 64 - q .end))) ≤ 0 → q .kind ≡ 0
+    go true e h = eqb-true _ _ e
+    go false e h = absurd (omega arith)
+
+-- THE CLAIM: whatever calls a registrar has had since its build, a request that is under way ends once `left` answers are taken, done or failed in any
+-- order, with any refused calls between them
+pub every-request-ends : (w : World) (ram : List ℕ) (o g : ℕ) (xs ys : List Call) → let v : World = after (buildOf w ram o g .world) xs in
+    buildRefusal w ram o g ≡ 0 → onlyAnswers v ys ≡ true → left v ≤ takenIn v ys → requestOf (after v ys .state) .kind ≡ 0
+every-request-ends w ram o g xs ys z a l =
+    let v : World = after (buildOf w ram o g .world) xs in
+    none-left (requestOf (after v ys .state)) (omega (arith, answers-lower ys v (always-sound xs (buildOf w ram o g .world) (built-sound w ram o g z)) a))
+
+-- and until then register and register_all_aligned are refused
+busy-refused : (w : World) (rest : ℕ) (o : Outcome) → (requestOf (w .state) .kind ≡ 0 → ⊥) → taken (decided w (callRefusal w rest) o .reply .number) ≡ false
+busy-refused w rest o k = rw (ne-eqb (requestOf (w .state) .kind) 0 k) (go (eqb (length (w .state)) 108))
+  where
+    go : (t : Bool) → taken (decided w (unless t 4 19) o .reply .number) ≡ false
+    go true = refl
+    go false = refl
+
+pub busy-register : (w : World) (address len : ℕ) → (requestOf (w .state) .kind ≡ 0 → ⊥) → taken (registerOf w address len .reply .number) ≡ false
+unfolding registerOf registerRefusal
+busy-register w address len k = busy-refused w (unless (chunksFit (w .state) address len) 9 0) (carriedOut w (registerPlan w address len)) k
+
+pub busy-all : (w : World) (al ignore : ℕ) → (requestOf (w .state) .kind ≡ 0 → ⊥) → taken (allOf w al ignore .reply .number) ≡ false
+unfolding allOf allRefusal
+busy-all w al ignore k =
+    busy-refused w (unless (leb ignore 1) 8 (unless (leb (granularityOf (w .state)) al && isPower al) 9 0)) (carriedOut w (allPlan w al ignore)) k

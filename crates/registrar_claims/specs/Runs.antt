@@ -1,8 +1,9 @@
 -- Calls and their answers as a history: document 01, "The request under way".
-use mathlib.Core.Bool.{Bool, cond, _||_}
+use mathlib.Core.Bool.{Bool, true, false, not, cond, _||_, _&&_}
 use mathlib.Core.List.{List, [], _∷_}
 use Prim.Native.Nat.{ℕ, suc, _+_, _-_, _*_, _^_}
 use lib.Dec.{eqb}
+use Rattle.laws.specs.Bools.{digit}
 use Rattle.layout.specs.declared.MemoryRange.{MemoryRange}
 use Rattle.layout.specs.Layout.{range}
 use Rattle.registrar_steps.specs.declared.Request.{Request}
@@ -34,11 +35,27 @@ leftOf q = cond (eqb (q .kind) 0) 0 (suc ((2 ^ 64 - q .to) * 2 ^ 65 + (2 ^ 64 - 
 abbrev pub left : World → ℕ
 left w = leftOf (requestOf (w .state))
 
--- ---- the world after a list of calls
+-- ---- a list of calls: the world after them, and how many of them are taken
 
 unfoldable pub after : World → List Call → World
 after w [] = w
 after w (x ∷ xs) = after (give w x .world) xs
+
+unfoldable pub takenIn : World → List Call → ℕ
+takenIn w [] = 0
+takenIn w (x ∷ xs) = digit (taken (give w x .reply .number)) + takenIn (give w x .world) xs
+
+abbrev pub isAnswer : Call → Bool
+isAnswer (Build ram offset g) = false
+isAnswer (RegisterRange address len) = false
+isAnswer (RegisterAll al ignore) = false
+isAnswer AnswerDone = true
+isAnswer AnswerFailed = true
+
+-- whether no other call than an answer is taken
+unfoldable pub onlyAnswers : World → List Call → Bool
+onlyAnswers w [] = true
+onlyAnswers w (x ∷ xs) = (isAnswer x || not (taken (give w x .reply .number))) && onlyAnswers (give w x .world) xs
 
 -- ---- a whole call under a list of answers, done or not: the ranges that it asks for, and what it gives last
 
