@@ -1,25 +1,24 @@
 -- The count that a finished call reports is the number of the operations that it asked for, in 64 bits. Assumes nothing.
 use native.Mathlib.Omega.{arith}
 use mathlib.Core.Path.{_≡_, refl, sym, ap, _∙_}
-use mathlib.Core.Bool.{Bool, true, false, not, cond, _&&_}
+use mathlib.Core.Bool.{Bool, true, false, cond}
 use mathlib.Core.List.{List, [], _∷_}
 use Prim.Native.Nat.{ℕ, _+_, _*_, _%_, _^_, min}
-use lib.Dec.{eqb, leb, ltb}
+use lib.Dec.{eqb, ltb}
 use lib.ListN.{length}
 use borrow.Author.Tests.{eqb-true, eqb-false}
-use Rattle.laws.specs.Bools.{false≢true}
-use Rattle.laws.specs.Refusal.{unless}
 use Rattle.bitmap.specs.Pages.{bitAt}
 use Rattle.layout.specs.declared.MemoryRange.{MemoryRange}
 use Rattle.layout.specs.Layout.{spans}
-use Rattle.chunks.specs.Chunks.{chunkCount, firstChunk, endChunk, isPower, firstNot}
+use Rattle.chunks.specs.Chunks.{chunkCount, firstChunk, endChunk, firstNot}
 use Rattle.registrar_steps.specs.declared.Request.{Request}
 use Rattle.registrar_steps.specs.declared.Answer.the-variants.{Done, RegistrationFailed, Refused}
 use Rattle.registrar_steps.specs.declared.Look.{Look}
 use Rattle.registrar_steps.specs.declared.Look.the-variants.{Nothing, Edge, FailedBefore, Stretch}
 use Rattle.registrar_steps.specs.declared.Plan.{Plan}
 use Rattle.registrar_steps.specs.Steps.{Seen, asks, ends, more, ramFrom, passes, pieceOf, registerFrom, lookAt, found, allFrom}
-use Rattle.registrar_state.specs.World.{World, world, Outcome, requestOf, offsetOf, granularityOf, entriesIn, seenIn, flatOf, decided, lengthsFit, callRefusal, chunksFit, registerRefusal, allRefusal, carriedOut, registerPlan, allPlan, registerOf, allOf, answerRefusal, failedOf, restOf, hasRest, donePlan, afterTaken, doneOf}
+use Rattle.registrar_state.specs.World.{World, world, Outcome, requestOf, offsetOf, granularityOf, entriesIn, seenIn, flatOf, decided, registerRefusal, allRefusal, carriedOut, registerPlan, allPlan, registerOf, allOf, answerRefusal, failedOf, restOf, hasRest, donePlan, afterTaken, doneOf}
+use Rattle.registrar_claims.proofs.Refusals.{register-taken, all-taken, answer-taken}
 use Rattle.registrar_claims.specs.Runs.{taken, Told, answerOf, before, asksFor, follow}
 
 -- a plan of a call that has asked n times: asking once more, or reporting n
@@ -89,55 +88,25 @@ plan-counted k n w p e h = (λ q. h .0 q ∙ ap more e ∙ once k, λ q t. h .1 
     once : (k : ℕ) → more (k % 2 ^ 64) ≡ (k + 1) % 2 ^ 64
     once k = omega arith
 
-pub answer-refusal-taken : (w : World) → taken (answerRefusal w) ≡ true → answerRefusal w ≡ 0
-unfolding answerRefusal
-answer-refusal-taken w =
-    go (eqb (length (w .state)) 108) (lengthsFit (granularityOf (w .state)) (entriesIn (w .state)) (w .registered) (w .failed)) (not (eqb (requestOf (w .state) .kind) 0))
-  where
-    go : (a b d : Bool) → taken (unless a 4 (unless b 4 (unless d 21 0))) ≡ true → unless a 4 (unless b 4 (unless d 21 0)) ≡ 0
-    go false b d h = false≢true h
-    go true false d h = false≢true h
-    go true true false h = false≢true h
-    go true true true h = refl
-
-call-refusal-taken : (w : World) (rest : ℕ) → (taken rest ≡ true → rest ≡ 0) → taken (callRefusal w rest) ≡ true → callRefusal w rest ≡ 0
-call-refusal-taken w rest z =
-    go (eqb (length (w .state)) 108) (eqb (requestOf (w .state) .kind) 0) (lengthsFit (granularityOf (w .state)) (entriesIn (w .state)) (w .registered) (w .failed))
-  where
-    go : (a b d : Bool) → taken (unless a 4 (unless b 19 (unless d 4 rest))) ≡ true → unless a 4 (unless b 19 (unless d 4 rest)) ≡ 0
-    go false b d h = false≢true h
-    go true false d h = false≢true h
-    go true true false h = false≢true h
-    go true true true h = z h
-
 register-counted : (w : World) (a l : ℕ) → Counted 0 (registerOf w a l)
-unfolding registerOf registerRefusal
+unfolding registerOf
 register-counted w a l =
-    decided-counted 0 (registerRefusal w a l) w (carriedOut w (registerPlan w a l)) (call-refusal-taken w (unless (chunksFit (w .state) a l) 9 0) (last-test (chunksFit (w .state) a l)))
+    decided-counted 0 (registerRefusal w a l) w (carriedOut w (registerPlan w a l)) (register-taken w a l)
     (plan-counted 0 0 w (registerPlan w a l) refl (register-counts (seenIn w) (offsetOf (w .state)) 0 (firstChunk (granularityOf (w .state)) a) (endChunk (granularityOf (w .state)) a l)))
-  where
-    last-test : (t : Bool) → taken (unless t 9 0) ≡ true → unless t 9 0 ≡ 0
-    last-test true h = refl
-    last-test false h = false≢true h
 
 all-counted : (w : World) (al ignore : ℕ) → Counted 0 (allOf w al ignore)
-unfolding allOf allRefusal
+unfolding allOf
 all-counted w al ignore =
     decided-counted 0 (allRefusal w al ignore) w (carriedOut w (allPlan w al ignore))
-    (call-refusal-taken w (unless (leb ignore 1) 8 (unless (leb (granularityOf (w .state)) al && isPower al) 9 0)) (last-tests (leb ignore 1) (leb (granularityOf (w .state)) al && isPower al)))
+    (all-taken w al ignore)
     (plan-counted 0 0 w (allPlan w al ignore) refl (all-counts (seenIn w) (offsetOf (w .state)) 0 al ignore 0 (spans (entriesIn (w .state)))))
-  where
-    last-tests : (s t : Bool) → taken (unless s 8 (unless t 9 0)) ≡ true → unless s 8 (unless t 9 0) ≡ 0
-    last-tests false t h = false≢true h
-    last-tests true true h = refl
-    last-tests true false h = false≢true h
 
 answer-counted : (b : Bool) (k : ℕ) (w : World) → requestOf (w .state) .count ≡ k % 2 ^ 64 → Counted k (answerOf b w)
 unfolding doneOf failedOf
 answer-counted true k w e =
-    decided-counted k (answerRefusal w) w (carriedOut (afterTaken w) (donePlan (afterTaken w))) (answer-refusal-taken w)
+    decided-counted k (answerRefusal w) w (carriedOut (afterTaken w) (donePlan (afterTaken w))) (answer-taken w)
     (plan-counted k (requestOf (w .state) .count) (afterTaken w) (donePlan (afterTaken w)) e (done-counts (afterTaken w)))
-answer-counted false k w e = decided-counted k (answerRefusal w) w _ (answer-refusal-taken w) (λ q. no-one q, λ q t. e)
+answer-counted false k w e = decided-counted k (answerRefusal w) w _ (answer-taken w) (λ q. no-one q, λ q t. e)
 
 follow-counts : (bs : List Bool) (k : ℕ) (o : Outcome) → Counted k o → follow o bs .last .reply .asked ≡ 0 → taken (follow o bs .last .reply .number) ≡ true
     → follow o bs .last .reply .count ≡ (k + length (follow o bs .asked)) % 2 ^ 64

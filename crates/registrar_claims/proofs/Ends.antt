@@ -23,8 +23,7 @@ use Rattle.registrar_steps.specs.declared.Look.the-variants.{Nothing, Edge, Fai
 use Rattle.registrar_steps.specs.Steps.{Seen, idle, asks, ends, more, ramFrom, passes, pieceOf, registerFrom, stretchIn, lookAt, found, allFrom}
 use Rattle.registrar_state.specs.World.{World, Outcome, outcome, requestOf, withRequest, offsetOf, granularityOf, entriesIn, seenIn, flatOf, decided, buildRefusal, buildOf, lengthsFit, callRefusal, chunksFit, registerRefusal, allRefusal, marked, carriedOut, registerPlan, allPlan, registerOf, allOf, answerRefusal, failedOf, restOf, hasRest, donePlan, afterTaken, doneOf}
 use Rattle.registrar_claims.specs.Runs.{Call, Build, RegisterRange, RegisterAll, AnswerDone, AnswerFailed, give, taken, leftOf, left, after, takenIn, isAnswer, onlyAnswers}
-use Rattle.registrar_claims.proofs.Refusals.{refused-keeps}
-use Rattle.registrar_claims.proofs.Counts.{answer-refusal-taken}
+use Rattle.registrar_claims.proofs.Refusals.{answer-taken, refused-keeps}
 use Rattle.registrar_claims.proofs.Built.{Sound, built-sound, call-sound, always-sound}
 
 module _ (P : ℕ → Bool) where
@@ -199,7 +198,7 @@ not-refused w o = go (eqb (answerRefusal w) 0) refl
   where
     go : (t : Bool) → eqb (answerRefusal w) 0 ≡ t → taken (cond t o (record { world = w; reply = flatOf (Refused (answerRefusal w)) }) .reply .number) ≡ true → answerRefusal w ≡ 0
     go true e h = eqb-true _ _ e
-    go false e h = answer-refusal-taken w h
+    go false e h = answer-taken w h
 
 done-taken : (w : World) → taken (doneOf w .reply .number) ≡ true → answerRefusal w ≡ 0
 unfolding doneOf

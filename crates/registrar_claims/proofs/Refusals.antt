@@ -1,22 +1,31 @@
--- A refusal leaves every lent word as given; 22 and 23 alone end a call that has changed something. Assumes nothing.
-use mathlib.Core.Path.{_≡_, refl, sym, _∙_}
-use mathlib.Core.Bool.{Bool, true, false, cond}
+-- A refusal leaves every lent word as given, save what 22 and 23 name. Assumes nothing.
+use native.Mathlib.Omega.{arith}
+use mathlib.Core.Path.{_≡_, refl, sym, ap, _∙_}
+use mathlib.Core.Bool.{Bool, true, false, not, cond, _&&_}
 use mathlib.Core.List.{List, [], _∷_}
-use Prim.Native.Nat.{ℕ, _+_, _*_, min}
-use lib.Dec.{eqb, ltb}
+use Prim.Native.Nat.{ℕ, _+_, _*_, _/_, _%_, _^_, _≤_, _<_, min}
+use lib.Dec.{eqb, leb, ltb}
+use lib.ListN.{length}
 use Rattle.laws.specs.Bools.{false≢true}
+use Rattle.laws.specs.Refusal.{unless}
+use Rattle.laws.specs.Ranges.{between}
 use Rattle.bitmap.specs.Pages.{bitAt}
+use Rattle.bitmap.proofs.Map.{page-law}
 use Rattle.layout.specs.declared.MemoryRange.{MemoryRange}
-use Rattle.layout.specs.Layout.{spans}
-use Rattle.chunks.specs.Chunks.{chunkCount, firstChunk, endChunk, firstNot}
+use Rattle.layout.specs.Layout.{entriesOf, refusalOf, lastEnd, spans}
+use Rattle.chunks.specs.Chunks.{chunkCount, firstChunk, endChunk, isPower, firstNot}
+use Rattle.chunks.specs.Scan.{first-holds}
 use Rattle.registrar_steps.specs.declared.Request.{Request}
 use Rattle.registrar_steps.specs.declared.Answer.{Answer}
 use Rattle.registrar_steps.specs.declared.Answer.the-variants.{Done, Register, RegistrationFailed, UnalignedMemory, Refused}
 use Rattle.registrar_steps.specs.declared.Look.{Look}
 use Rattle.registrar_steps.specs.declared.Look.the-variants.{Nothing, Edge, FailedBefore, Stretch}
-use Rattle.registrar_steps.specs.Steps.{Seen, asks, ends, ramFrom, passes, pieceOf, registerFrom, lookAt, found, allFrom}
-use Rattle.registrar_state.specs.World.{World, world, Outcome, requestOf, offsetOf, granularityOf, entriesIn, seenIn, flatOf, decided, buildRefusal, buildOf, registerRefusal, allRefusal, carriedOut, registerPlan, allPlan, registerOf, allOf, answerRefusal, failedOf, restOf, hasRest, donePlan, afterTaken, doneOf}
-use Rattle.registrar_claims.specs.Runs.{Call, Build, RegisterRange, RegisterAll, AnswerDone, AnswerFailed, give, taken}
+use Rattle.registrar_steps.specs.declared.Plan.{Plan}
+use Rattle.registrar_steps.specs.Steps.{Seen, idle, asks, ends, ramFrom, passes, pieceOf, registerFrom, lookAt, found, allFrom}
+use Rattle.registrar_state.specs.World.{World, world, Outcome, requestOf, withRequest, offsetOf, granularityOf, entriesIn, seenIn, flatOf, decided, lengthsFit, buildRefusal, buildOf, callRefusal, chunksFit, registerRefusal, allRefusal, marked, carriedOut, registerPlan, allPlan, registerOf, allOf, answerRefusal, failedOf, restOf, hasRest, takenTo, donePlan, afterTaken, doneOf}
+use Rattle.registrar_claims.specs.Runs.{Call, Build, RegisterRange, RegisterAll, AnswerDone, AnswerFailed, give, taken, isBuild}
+use Rattle.registrar_claims.specs.Changes.{withTaken, withFailed, Kept}
+use Rattle.registrar_claims.proofs.Steps.{marked-none}
 
 plain : Answer → Bool
 plain (Done n) = true
@@ -74,22 +83,203 @@ done-plain w =
     go false true h k = h
     go false false h k = k
 
--- what is decided is taken, or leaves the world as it was
-decided-kept : (w : World) (n : ℕ) (o : Outcome) → taken (o .reply .number) ≡ true → taken (decided w n o .reply .number) ≡ false → decided w n o .world ≡ w
-decided-kept w n o h = go (eqb n 0)
-  where
-    go : (t : Bool) → taken (cond t o (record { world = w; reply = flatOf (Refused n) }) .reply .number) ≡ false → cond t o (record { world = w; reply = flatOf (Refused n) }) .world ≡ w
-    go true k = false≢true (sym k ∙ h)
-    go false k = refl
+-- ---- how a plan ends
 
--- THE CLAIM, of all five entries
-pub refused-keeps : (w : World) (x : Call) → taken (give w x .reply .number) ≡ false → give w x .world ≡ w
+-- with 22 it marks nothing, with 22 and 23 nothing is asked any more, and what it marks asks for nothing
+pub record Ending (s : Seen) (p : Plan) : Type 0 where
+  pub ends-22 : flatOf (p .answer) .number ≡ 22 → (p .request ≡ idle) × (p .from ≡ p .to)
+  pub ends-23 : flatOf (p .answer) .number ≡ 23 → p .request ≡ idle
+  pub marks : (c : ℕ) → p .from ≤ c → c < p .to → passes s c ≡ true
+
+register-ending : (s : Seen) (o n c last : ℕ) → Ending s (registerFrom s o n c last)
+unfolding registerFrom
+register-ending s o n c last =
+    let e : ℕ = min last (chunkCount (s .granularity) (s .entries)) in
+    let t : ℕ = firstNot (passes s) c e in
+    go t (λ q a b. first-holds (passes s) c e q a b) (ltb t e) (bitAt 64 (s .failed) t)
+  where
+    go : (t : ℕ) → ((q : ℕ) → c ≤ q → q < t → passes s q ≡ true) → (x y : Bool)
+        → Ending s (cond x (cond y (ends c t (RegistrationFailed (t * s .granularity) n)) (asks o c t (pieceOf n t (t + 1) last (ramFrom (s .granularity) (s .entries) t (t * s .granularity))))) (ends c t (Done n)))
+    go t h false y = record { ends-22 = λ z. absurd (omega (arith, z)); ends-23 = λ z. absurd (omega (arith, z)); marks = h }
+    go t h true true = record { ends-22 = λ z. absurd (omega (arith, z)); ends-23 = λ z. refl; marks = h }
+    go t h true false = record { ends-22 = λ z. absurd (omega (arith, z)); ends-23 = λ z. absurd (omega (arith, z)); marks = h }
+
+all-ending : (s : Seen) (o n al ignore c : ℕ) (rs : List MemoryRange) → Ending s (allFrom s o n al ignore c rs)
+unfolding allFrom
+all-ending s o n al ignore c [] = record { ends-22 = λ z. absurd (omega (arith, z)); ends-23 = λ z. absurd (omega (arith, z)); marks = λ q a b. absurd (omega arith) }
+all-ending s o n al ignore c (r ∷ rs) = go (lookAt (s .granularity) (s .registered) (s .failed) al ignore c r) (all-ending s o n al ignore c rs)
+  where
+    go : (l : Look) → Ending s (allFrom s o n al ignore c rs) → Ending s (found (s .entries) o n al ignore r l (allFrom s o n al ignore c rs))
+    go Nothing h = h
+    go (Edge e) h = record { ends-22 = λ z. (refl, refl); ends-23 = λ z. absurd (omega (arith, z)); marks = λ q a b. absurd (omega arith) }
+    go (FailedBefore x) h = record { ends-22 = λ z. absurd (omega (arith, z)); ends-23 = λ z. refl; marks = λ q a b. absurd (omega arith) }
+    go (Stretch a b x y) h = record { ends-22 = λ z. absurd (omega (arith, z)); ends-23 = λ z. absurd (omega (arith, z)); marks = λ q a b. absurd (omega arith) }
+
+done-ending : (w : World) → Ending (seenIn w) (donePlan w)
+done-ending w =
+    let q : Request = requestOf (w .state) in
+    go (hasRest (w .state)) (eqb (q .kind) 1) _ _ (register-ending (seenIn w) (offsetOf (w .state)) (q .count) (q .to) (q .last))
+    (all-ending (seenIn w) (offsetOf (w .state)) (q .count) (q .alignment) (q .ignore) (q .to) (spans (entriesIn (w .state))))
+  where
+    go : (x y : Bool) (a b : Plan) → Ending (seenIn w) a → Ending (seenIn w) b
+        → Ending (seenIn w) (cond x (asks (offsetOf (w .state)) 0 0 (pieceOf (requestOf (w .state) .count) (requestOf (w .state) .from) (requestOf (w .state) .to) (requestOf (w .state) .last) (restOf (w .state)))) (cond y a b))
+    go true y a b h k = record { ends-22 = λ z. absurd (omega (arith, z)); ends-23 = λ z. absurd (omega (arith, z)); marks = λ q a b. absurd (omega arith) }
+    go false true a b h k = h
+    go false false a b h k = k
+
+-- ---- a number that refuses a call is neither 22 nor 23
+
+build-taken : (w : World) (ram : List ℕ) (o g : ℕ) → taken (buildRefusal w ram o g) ≡ true → buildRefusal w ram o g ≡ 0
+unfolding buildRefusal
+build-taken w ram o g =
+    go (not (eqb (refusalOf ram) 1)) (eqb (o % 4096) 0) (ltb (o + lastEnd (entriesOf ram)) (2 ^ 64)) (eqb (refusalOf ram) 0) (leb 4096 g && isPower g) (eqb (length (w .state)) 108)
+    (lengthsFit g (entriesOf ram) (w .registered) (w .failed))
+  where
+    go : (a b c d e f i : Bool) → taken (unless a 1 (unless b 1 (unless c 1 (unless d 2 (unless e 9 (unless f 4 (unless i 4 0))))))) ≡ true → unless a 1 (unless b 1 (unless c 1 (unless d 2 (unless e 9 (unless f 4 (unless i 4 0)))))) ≡ 0
+    go false b c d e f i h = false≢true h
+    go true false c d e f i h = false≢true h
+    go true true false d e f i h = false≢true h
+    go true true true false e f i h = false≢true h
+    go true true true true false f i h = false≢true h
+    go true true true true true false i h = false≢true h
+    go true true true true true true false h = false≢true h
+    go true true true true true true true h = refl
+
+call-taken : (w : World) (rest : ℕ) → (taken rest ≡ true → rest ≡ 0) → taken (callRefusal w rest) ≡ true → callRefusal w rest ≡ 0
+call-taken w rest z =
+    go (eqb (length (w .state)) 108) (eqb (requestOf (w .state) .kind) 0) (lengthsFit (granularityOf (w .state)) (entriesIn (w .state)) (w .registered) (w .failed))
+  where
+    go : (a b c : Bool) → taken (unless a 4 (unless b 19 (unless c 4 rest))) ≡ true → unless a 4 (unless b 19 (unless c 4 rest)) ≡ 0
+    go false b c h = false≢true h
+    go true false c h = false≢true h
+    go true true false h = false≢true h
+    go true true true h = z h
+
+pub register-taken : (w : World) (address len : ℕ) → taken (registerRefusal w address len) ≡ true → registerRefusal w address len ≡ 0
+unfolding registerRefusal
+register-taken w address len = call-taken w (unless (chunksFit (w .state) address len) 9 0) (go (chunksFit (w .state) address len))
+  where
+    go : (a : Bool) → taken (unless a 9 0) ≡ true → unless a 9 0 ≡ 0
+    go false h = false≢true h
+    go true h = refl
+
+pub all-taken : (w : World) (al ignore : ℕ) → taken (allRefusal w al ignore) ≡ true → allRefusal w al ignore ≡ 0
+unfolding allRefusal
+all-taken w al ignore =
+    call-taken w (unless (leb ignore 1) 8 (unless (leb (granularityOf (w .state)) al && isPower al) 9 0)) (go (leb ignore 1) (leb (granularityOf (w .state)) al && isPower al))
+  where
+    go : (a b : Bool) → taken (unless a 8 (unless b 9 0)) ≡ true → unless a 8 (unless b 9 0) ≡ 0
+    go false b h = false≢true h
+    go true false h = false≢true h
+    go true true h = refl
+
+pub answer-taken : (w : World) → taken (answerRefusal w) ≡ true → answerRefusal w ≡ 0
+unfolding answerRefusal
+answer-taken w =
+    go (eqb (length (w .state)) 108) (lengthsFit (granularityOf (w .state)) (entriesIn (w .state)) (w .registered) (w .failed)) (not (eqb (requestOf (w .state) .kind) 0))
+  where
+    go : (a b c : Bool) → taken (unless a 4 (unless b 4 (unless c 21 0))) ≡ true → unless a 4 (unless b 4 (unless c 21 0)) ≡ 0
+    go false b c h = false≢true h
+    go true false c h = false≢true h
+    go true true false h = false≢true h
+    go true true true h = refl
+
+-- ---- what a call changes
+
+decided-keeps : (w : World) (r f : List ℕ) (n : ℕ) (o : Outcome) → (taken n ≡ true → n ≡ 0) → Kept w r f o → Kept w r f (decided w n o)
+decided-keeps w r f n o t k = go (eqb n 0)
+  where
+    none : (m : ℕ) → taken m ≡ true → (m ≡ 0 → ⊥) → n ≡ m → ⊥
+    none m h z e = z (sym e ∙ t (ap taken e ∙ h))
+
+    go : (b : Bool) → Kept w r f (cond b o (record { world = w; reply = flatOf (Refused n) }))
+    go true = k
+    go false =
+        record { refused = λ z. refl; unaligned = λ z. absurd (none 22 refl (λ e. omega (arith, e)) z); failed = λ z. absurd (none 23 refl (λ e. omega (arith, e)) z) }
+
+plan-keeps : (w : World) (r : List ℕ) (p : Plan) → let v : World = world (w .state) r (w .failed) in
+    plain (p .answer) ≡ true → Ending (seenIn v) p → Kept w r (w .failed) (carriedOut v p)
+plan-keeps w r p l h =
+    record {
+      refused = λ z. false≢true (sym z ∙ plain-taken (p .answer) l);
+      unaligned =
+          λ z.
+          record {
+            same-state = ap (λ (q : Request). withRequest q (w .state)) (h .ends-22 z .0);
+            same-registered = ap (λ (b : ℕ). marked (p .from) b r) (sym (h .ends-22 z .1)) ∙ marked-none (p .from) r;
+            same-failed = refl;
+          };
+      failed =
+          λ z.
+          record { from = p .from; to = p .to; same-state = ap (λ (q : Request). withRequest q (w .state)) (h .ends-23 z); same-registered = refl; passed = h .marks; same-failed = refl };
+    }
+
+-- THE CLAIM, one law for all five entries: a refusal leaves every lent word as given, save what 22 and 23 name
+pub refusals-keep : (w : World) (x : Call) → Kept w (withTaken w x) (withFailed w x) (give w x)
 unfolding give buildOf registerOf allOf doneOf failedOf
-refused-keeps w (Build ram o g) h = decided-kept w (buildRefusal w ram o g) _ refl h
-refused-keeps w (RegisterRange a l) h =
-    decided-kept w (registerRefusal w a l) (carriedOut w (registerPlan w a l)) (plain-taken _ (register-plain (seenIn w) (offsetOf (w .state)) 0 (firstChunk (granularityOf (w .state)) a) (endChunk (granularityOf (w .state)) a l))) h
-refused-keeps w (RegisterAll al ignore) h =
-    decided-kept w (allRefusal w al ignore) (carriedOut w (allPlan w al ignore)) (plain-taken _ (all-plain (seenIn w) (offsetOf (w .state)) 0 al ignore 0 (spans (entriesIn (w .state))))) h
-refused-keeps w AnswerDone h =
-    decided-kept w (answerRefusal w) (carriedOut (afterTaken w) (donePlan (afterTaken w))) (plain-taken _ (done-plain (afterTaken w))) h
-refused-keeps w AnswerFailed h = decided-kept w (answerRefusal w) _ refl h
+refusals-keep w (Build ram o g) =
+    decided-keeps w (w .registered) (w .failed) (buildRefusal w ram o g) _ (build-taken w ram o g)
+    (record { refused = λ z. false≢true (sym z); unaligned = λ z. absurd (omega (arith, z)); failed = λ z. absurd (omega (arith, z)) })
+refusals-keep w (RegisterRange a l) =
+    let f : ℕ = firstChunk (granularityOf (w .state)) a in
+    let e : ℕ = endChunk (granularityOf (w .state)) a l in
+    decided-keeps w (w .registered) (w .failed) (registerRefusal w a l) (carriedOut w (registerPlan w a l)) (register-taken w a l)
+    (plan-keeps w (w .registered) (registerPlan w a l) (register-plain (seenIn w) (offsetOf (w .state)) 0 f e) (register-ending (seenIn w) (offsetOf (w .state)) 0 f e))
+refusals-keep w (RegisterAll al ignore) =
+    let rs : List MemoryRange = spans (entriesIn (w .state)) in
+    decided-keeps w (w .registered) (w .failed) (allRefusal w al ignore) (carriedOut w (allPlan w al ignore)) (all-taken w al ignore)
+    (plan-keeps w (w .registered) (allPlan w al ignore) (all-plain (seenIn w) (offsetOf (w .state)) 0 al ignore 0 rs) (all-ending (seenIn w) (offsetOf (w .state)) 0 al ignore 0 rs))
+refusals-keep w AnswerDone =
+    let v : World = afterTaken w in
+    decided-keeps w (v .registered) (w .failed) (answerRefusal w) (carriedOut v (donePlan v)) (answer-taken w)
+    (plan-keeps w (v .registered) (donePlan v) (done-plain v) (done-ending v))
+refusals-keep w AnswerFailed =
+    let q : Request = requestOf (w .state) in
+    decided-keeps w (w .registered) (marked (q .from) (q .to) (w .failed)) (answerRefusal w) _ (answer-taken w)
+    (record {
+      refused = λ z. false≢true (sym z);
+      unaligned = λ z. absurd (omega (arith, z));
+      failed = λ z. record { from = 0; to = 0; same-state = refl; same-registered = sym (marked-none 0 (w .registered)); passed = λ c a b. absurd (omega arith); same-failed = refl };
+    })
+
+pub refused-keeps : (w : World) (x : Call) → taken (give w x .reply .number) ≡ false → give w x .world ≡ w
+refused-keeps w x = refusals-keep w x .refused
+
+-- ---- what is marked stays marked, until a build
+
+marked-stays : (a b : ℕ) (m : List ℕ) (c : ℕ) → bitAt 64 m c ≡ true → bitAt 64 (marked a b m) c ≡ true
+marked-stays a b m c h = page-law 64 (between a b) true m c (omega arith) ∙ go (between a b c && ltb (c / 64) (length m))
+  where
+    go : (t : Bool) → cond t true (bitAt 64 m c) ≡ true
+    go true = refl
+    go false = h
+
+abbrev pub Stays : World → ℕ → Outcome → Type 0
+Stays w c o =
+    (bitAt 64 (w .registered) c ≡ true → bitAt 64 (o .world .registered) c ≡ true) × (bitAt 64 (w .failed) c ≡ true → bitAt 64 (o .world .failed) c ≡ true)
+
+decided-stays : (w : World) (c n : ℕ) (o : Outcome) → Stays w c o → Stays w c (decided w n o)
+decided-stays w c n o h = go (eqb n 0)
+  where
+    go : (t : Bool) → Stays w c (cond t o (record { world = w; reply = flatOf (Refused n) }))
+    go true = h
+    go false = (λ e. e, λ e. e)
+
+pub marks-stay : (w : World) (x : Call) (c : ℕ) → isBuild x ≡ false → Stays w c (give w x)
+unfolding give registerOf allOf doneOf failedOf
+marks-stay w (Build ram o g) c b = false≢true (sym b)
+marks-stay w (RegisterRange a l) c b =
+    let p : Plan = registerPlan w a l in
+    decided-stays w c (registerRefusal w a l) (carriedOut w p) (λ e. marked-stays (p .from) (p .to) (w .registered) c e, λ e. e)
+marks-stay w (RegisterAll al ignore) c b =
+    let p : Plan = allPlan w al ignore in
+    decided-stays w c (allRefusal w al ignore) (carriedOut w p) (λ e. marked-stays (p .from) (p .to) (w .registered) c e, λ e. e)
+marks-stay w AnswerDone c b =
+    let v : World = afterTaken w in
+    let q : Request = requestOf (w .state) in
+    let p : Plan = donePlan v in
+    decided-stays w c (answerRefusal w) (carriedOut v p)
+    (λ e. marked-stays (p .from) (p .to) (v .registered) c (marked-stays (q .from) (takenTo (w .state)) (w .registered) c e), λ e. e)
+marks-stay w AnswerFailed c b =
+    let q : Request = requestOf (w .state) in
+    decided-stays w c (answerRefusal w) _ (λ e. e, λ e. marked-stays (q .from) (q .to) (w .failed) c e)

@@ -24,6 +24,13 @@ give w (RegisterAll al ignore) = allOf w al ignore
 give w AnswerDone = doneOf w
 give w AnswerFailed = failedOf w
 
+abbrev pub isBuild : Call → Bool
+isBuild (Build ram offset g) = true
+isBuild (RegisterRange address len) = false
+isBuild (RegisterAll al ignore) = false
+isBuild AnswerDone = false
+isBuild AnswerFailed = false
+
 -- Ok or an operation asked for, 22, 23: every other number is a refusal that changes nothing
 abbrev pub taken : ℕ → Bool
 taken n = eqb n 0 || (eqb n 22 || eqb n 23)
