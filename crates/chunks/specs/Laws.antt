@@ -4,7 +4,7 @@ use native.Mathlib.Numerals.{add-one}
 use native.Mathlib.Decide.{decLt}
 use mathlib.Core.Path.{_≡_, refl, sym, ap, _∙_}
 use mathlib.Core.Bool.{Bool, true, false, not, cond, _||_, _&&_}
-use mathlib.Core.List.{List, _∷_}
+use mathlib.Core.List.{List, [], _∷_}
 use Prim.Native.Nat.{ℕ, suc, _+_, _-_, _*_, _/_, _%_, _^_, _≤_, _<_, min, max}
 use native.Mathlib.Nat.{div-zero, mod-zero, mul-zero, div-add-mod', mul-le-mul-left, mul-le-mul-right, div-mul-le-self, div-le-self, le-div-iff-mul-le, div-lt-iff-lt-mul}
 use lib.Dec.{eqb, ltb}
@@ -35,24 +35,25 @@ quotient-fits n g q e = omega (arith, ap (λ (k : ℕ). k * g) e, div-mul-le-sel
 pub div-none : (n g : ℕ) → g ≡ 0 → 0 ≡ n / g
 div-none n g h = sym (ap (λ (k : ℕ). n / k) h ∙ div-zero n)
 
+pub div-some : (n g m : ℕ) → m ≡ max g 1 → (g ≡ 0 → ⊥) → n / m ≡ n / g
+div-some n g m e h = ap (λ (k : ℕ). n / k) (omega arith)
+
 module _ (n g : ℕ) where
-  up-is : up n 0 ≡ cond (eqb n 0) 0 1
-  up-is = rw (mod-zero n, div-zero n)
+  pub up-whole : (q : ℕ) → q ≡ n / g → q * g ≡ n → q ≡ up n g
+  up-whole q e h = e ∙ rw (eq-eqb (n % g) 0 (omega (arith, ap (λ (k : ℕ). k * g) e, div-add-mod' n g)))
 
-  pub up-none : g ≡ 0 → n ≡ 0 → 0 ≡ up n g
-  up-none h k = sym (ap (up n) h ∙ up-is ∙ ap (λ (m : ℕ). cond (eqb m 0) 0 1) k)
+  module _ (q : ℕ) (e : q ≡ n / g) (h : q * g ≡ n → ⊥) where
+    over : n % g ≡ 0 → ⊥
+    over z = h (omega (arith, ap (λ (k : ℕ). k * g) e, div-add-mod' n g))
 
-  pub up-one : g ≡ 0 → (n ≡ 0 → ⊥) → 1 ≡ up n g
-  up-one h k = sym (ap (up n) h ∙ up-is ∙ rw (ne-eqb n 0 k))
+    pub up-over : q + 1 ≡ up n g
+    up-over = ap (λ (k : ℕ). k + 1) e ∙ rw (ne-eqb (n % g) 0 over)
 
-  pub up-whole : n % g ≡ 0 → n / g ≡ up n g
-  up-whole h = rw (eq-eqb _ _ h)
-
-  pub up-over : (n % g ≡ 0 → ⊥) → n / g + 1 ≡ up n g
-  up-over h = rw (ne-eqb _ _ h)
-
-  pub up-fits : (g ≡ 0 → ⊥) → (n % g ≡ 0 → ⊥) → n / g + 1 ≤ n
-  up-fits h k = omega (arith, div-add-mod' n g, mul-le-mul-left {m = 1} {n = g} (n / g) (omega arith))
+    pub up-fits : q + 1 ≤ n
+    up-fits = elim (decLt 0 g) [
+      | yes d ↦ omega (arith, over, div-add-mod' n g, mul-le-mul-left {m = 1} {n = g} (n / g) d)
+      | no d ↦ let z : g ≡ 0 = omega arith in omega (arith, h, ap (λ (k : ℕ). n / k) z ∙ div-zero n, ap (λ (k : ℕ). q * k) z ∙ mul-zero q)
+    ]
 
   -- the start of a chunk lies within n bytes
   pub below-up : (c : ℕ) → c < up n g → c * g ≤ n
@@ -108,6 +109,16 @@ module _ (c g end : ℕ) where
     pub end-last : c < end / g → (c + 1) * g ≡ min ((c + 1) * g) end
     end-last h = let l = chunk-fits h in omega arith
 
+pub chunk-before : (c g x : ℕ) → c < x / g → (c + 1) * g ≤ x
+chunk-before c g x h = elim (decLt 0 g) [
+  | yes d ↦ chunk-fits c g x (λ z. omega arith) h
+  | no d ↦ let z : g ≡ 0 = omega arith in absurd (omega (arith, ap (λ (k : ℕ). x / k) z ∙ div-zero x))
+]
+
+-- a 64-bit number lies before the chunk's end or before the last 64-bit number alike
+pub end-within : (y m e b : ℕ) → m ≡ min y (2 ^ 64 - 1) → e < 2 ^ 64 → b ≡ min m e → b ≡ min y e
+end-within y m e b hm he hb = omega arith
+
 -- ---- the RAM of a chunk: a loop over spans
 
 pub span-step : (es : List MemoryRangeWithNode) (i : ℕ) (s : Span) → i < length es → s ≡ spanAt es i
@@ -124,6 +135,11 @@ module _ (es : List MemoryRangeWithNode) (x y i : ℕ) where
       pub pieces-miss : b ≤ a → pieces x y (spans (drop i es)) ≡ pieces x y (spans (drop (s .next) es))
       unfolding pieces
       pieces-miss l = rw (span-step es i s h q, ← e, ← f, le-leb b a l)
+
+  pub pieces-past : (rs : List MemoryRange) → y ≤ x → pieces x y rs ≡ []
+  unfolding pieces
+  pieces-past [] h = refl
+  pieces-past (r ∷ rs) h = rw (le-leb (min y (r .end)) (max x (r .start)) (omega arith)) (pieces-past rs h)
 
   pub pieces-end : length es ≤ i → firstOf (pieces x y (spans (drop i es))) ≡ range 0 0
   unfolding pieces

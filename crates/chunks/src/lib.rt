@@ -16,22 +16,15 @@ use layout::MemoryRangeWithNode;
 pub fn div(n: u64, g: u64) -> u64
     ensures { λ r. ⌜ r ≡ n / g ⌝ }
 {
-    if g == 0 { 0 } else { n / g }
+    let q = n / numbers::greatest(g, 1);
+    if g == 0 { 0 } else { q }
 }
 
 pub fn div_ceil(n: u64, g: u64) -> u64
     ensures { λ r. ⌜ r ≡ up n g ⌝ }
 {
-    if g == 0 {
-        if n == 0 {
-            return 0;
-        }
-        return 1;
-    }
-    if n % g == 0 {
-        return n / g;
-    }
-    n / g + 1
+    let q = div(n, g);
+    if q * g == n { q } else { q + 1 }
 }
 
 pub fn chunk_count(ram: &[u64], g: u64) -> u64
@@ -92,16 +85,20 @@ fn chunk_end(c: u64, g: u64, end: u64) -> u64
     (c + 1) * g
 }
 
-// The first RAM of chunk c from address x on: empty where there is none.
+// The first RAM of chunk c from address x on: empty where there is none. Past the chunk no span is looked at.
 pub fn next_ram(ram: &[u64], g: u64, c: u64, x: u64) -> MemoryRange
     ensures { λ r. ⌜ r ≡ firstOf (pieces x ((c + 1) * g) (spans (entriesOf (now (ram .entry))))) ⌝ }
 {
+    if c < div(x, g) {
+        return MemoryRange { start: 0, end: 0 };
+    }
+    let stop = chunk_end(c, g, 0xffff_ffff_ffff_ffff);
     let n = layout::entry_count(ram);
     let mut i: u64 = 0;
     while i < n {
         let span = layout::span_at(ram, i);
         let start = numbers::greatest(x, span.start);
-        let end = chunk_end(c, g, span.end);
+        let end = numbers::least(stop, span.end);
         if start < end {
             return MemoryRange {
                 start: start,

@@ -113,9 +113,10 @@ pub extern "C" fn registrar_answer_done(
         return registrar_state::flatten(Answer::Refused(n));
     }
     let q = registrar_state::load(state);
-    let to = registrar_state::taken_to(state);
+    let rest = registrar_state::rest_of(state);
+    let to = registrar_state::taken_to(state, rest);
     chunks::set_chunks(registered, q.from, to);
-    let p = registrar_state::done_plan(state, registered, failed);
+    let p = registrar_state::done_plan(state, registered, failed, rest);
     chunks::set_chunks(registered, p.from, p.to);
     registrar_state::save(state, p.request);
     let answer = p.answer;

@@ -185,18 +185,21 @@ module _ (s : List ℕ) (q : Request) (e : q ≡ requestOf s) where
   rest-is ram r h f =
       f ∙ ap₂ (λ (q : Request) (l : List ℕ). ramFrom (granularityOf s) (entriesOf l) (q .from) (q .end)) e h
 
-  module _ (t : Bool) (h : t ≡ hasRest s) where
+  module _ (r : MemoryRange) (t : Bool) (hr : r ≡ restOf s) (ht : t ≡ (eqb (q .kind) 1 && not (empty r))) where
+    pub has-is : t ≡ hasRest s
+    has-is = ht ∙ ap₂ (λ (q : Request) (r : MemoryRange). eqb (q .kind) 1 && not (empty r)) e hr
+
     pub taken-none : t ≡ true → q .from ≡ takenTo s
-    taken-none k = ap (λ (q : Request). q .from) e ∙ sym (rw (sym h ∙ k))
+    taken-none k = ap (λ (q : Request). q .from) e ∙ sym (rw (sym has-is ∙ k))
 
     pub taken-all : t ≡ false → q .to ≡ takenTo s
-    taken-all k = ap (λ (q : Request). q .to) e ∙ sym (rw (sym h ∙ k))
+    taken-all k = ap (λ (q : Request). q .to) e ∙ sym (rw (sym has-is ∙ k))
 
-pub rest-here : (s : List ℕ) (r : MemoryRange) → getD s 0 0 ≡ 1 → r ≡ restOf s → ltb (r .start) (r .end) ≡ hasRest s
-rest-here s r h e = not-empty r ∙ ap (λ (r : MemoryRange). not (empty r)) e ∙ sym (rw (eq-eqb (getD s 0 0) 1 h))
+pub rest-here : (kind : ℕ) (r : MemoryRange) → kind ≡ 1 → ltb (r .start) (r .end) ≡ (eqb kind 1 && not (empty r))
+rest-here kind r h = not-empty r ∙ sym (rw (eq-eqb kind 1 h))
 
-pub rest-nowhere : (s : List ℕ) → (getD s 0 0 ≡ 1 → ⊥) → false ≡ hasRest s
-rest-nowhere s h = rw (ne-eqb (getD s 0 0) 1 h)
+pub rest-nowhere : (kind : ℕ) (r : MemoryRange) → (kind ≡ 1 → ⊥) → false ≡ (eqb kind 1 && not (empty r))
+rest-nowhere kind r h = rw (ne-eqb kind 1 h)
 
 module _ (w : World) (q : Request) (p : Plan) (e : q ≡ requestOf (w .state)) (t : Bool) (h : t ≡ hasRest (w .state)) where
   on : Request → List ℕ → Plan

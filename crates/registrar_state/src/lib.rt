@@ -1,13 +1,13 @@
 // The state block of the registrar: what it holds, what refuses a call, and what a call plans.
 ghost use mathlib.Core.Path.{_≡_};
 ghost use Prim.Native.Nat.{_+_, _≤_, min};
-ghost use mathlib.Core.Bool.{_&&_};
+ghost use mathlib.Core.Bool.{not, _&&_};
 ghost use mathlib.Core.List.{List, []};
-ghost use lib.Dec.{leb};
+ghost use lib.Dec.{eqb, leb};
 ghost use lib.ListN.{length, getD, replicate};
 ghost use Rattle.layout.specs.Layout.{entriesOf};
-ghost use Rattle.chunks.specs.Chunks.{isPower};
-ghost use Rattle.registrar_state.specs.World.{world, simple, flatUnaligned, outcome, requestOf, withRequest, ramOf, builtState, flatOf, lengthsFit, buildRefusal, buildOf, callRefusal, chunksFit, registerRefusal, allRefusal, isKnown, registerPlan, allPlan, registerOf, allOf, answerRefusal, failedOf, restOf, hasRest, takenTo, donePlan, doneOf};
+ghost use Rattle.chunks.specs.Chunks.{isPower, empty};
+ghost use Rattle.registrar_state.specs.World.{world, simple, flatUnaligned, outcome, requestOf, withRequest, ramOf, builtState, flatOf, lengthsFit, buildRefusal, buildOf, callRefusal, chunksFit, registerRefusal, allRefusal, isKnown, registerPlan, allPlan, registerOf, allOf, answerRefusal, failedOf, restOf, takenTo, donePlan, doneOf};
 use layout::MemoryRange;
 use registrar_steps::Answer;
 use registrar_steps::Plan;
@@ -347,7 +347,7 @@ pub fn all_plan(
 }
 
 // Of a chunk of `register`, its RAM after what was taken.
-fn rest_of(state: &[u64]) -> MemoryRange
+pub fn rest_of(state: &[u64]) -> MemoryRange
     requires { ⌜ length (now state) ≡ 108 ⌝ }
     ensures { λ r. ⌜ r ≡ restOf (now (state .entry)) ⌝ }
 {
@@ -355,12 +355,10 @@ fn rest_of(state: &[u64]) -> MemoryRange
     chunks::next_ram(ram_of(state), state[10], q.from, q.end)
 }
 
-fn has_rest(state: &[u64]) -> bool
-    requires { ⌜ length (now state) ≡ 108 ⌝ }
-    ensures { λ r. ⌜ r ≡ hasRest (now (state .entry)) ⌝ }
+fn has_rest(kind: u64, rest: MemoryRange) -> bool
+    ensures { λ r. ⌜ r ≡ (eqb kind 1 && not (empty rest)) ⌝ }
 {
-    if state[0] == 1 {
-        let rest = rest_of(state);
+    if kind == 1 {
         rest.start < rest.end
     } else {
         false
@@ -368,28 +366,28 @@ fn has_rest(state: &[u64]) -> bool
 }
 
 // The chunks from `from` to before this become registered by an operation done.
-pub fn taken_to(state: &[u64]) -> u64
-    requires { ⌜ length (now state) ≡ 108 ⌝ }
+pub fn taken_to(state: &[u64], rest: MemoryRange) -> u64
+    requires { ⌜ (length (now state) ≡ 108) × (rest ≡ restOf (now state)) ⌝ }
     ensures { λ r. ⌜ r ≡ takenTo (now (state .entry)) ⌝ }
 {
     let q = load(state);
-    if has_rest(state) {
+    if has_rest(q.kind, rest) {
         return q.from;
     }
     q.to
 }
 
-pub fn done_plan(state: &[u64], registered: &[u64], failed: &[u64]) -> Plan
-    requires { ⌜ length (now state) ≡ 108 ⌝ }
+pub fn done_plan(state: &[u64], registered: &[u64], failed: &[u64], rest: MemoryRange) -> Plan
+    requires { ⌜ (length (now state) ≡ 108) × (rest ≡ restOf (now state)) ⌝ }
     ensures { λ r. ⌜ r ≡ donePlan (world (now (state .entry)) (now (registered .entry)) (now (failed .entry))) ⌝ }
 {
     let q = load(state);
     let ram = ram_of(state);
     let offset = state[9];
     let g = state[10];
-    if has_rest(state) {
-        let rest = registrar_steps::piece(q.count, q.from, q.to, q.last, rest_of(state));
-        return registrar_steps::ask(offset, 0, 0, rest);
+    if has_rest(q.kind, rest) {
+        let more = registrar_steps::piece(q.count, q.from, q.to, q.last, rest);
+        return registrar_steps::ask(offset, 0, 0, more);
     }
     if q.kind == 1 {
         return registrar_steps::register_from(

@@ -1,12 +1,12 @@
 // What the registrar does next. Nothing here writes.
 ghost use mathlib.Core.Path.{_≡_};
 ghost use Prim.Native.Nat.{ℕ, _*_, _<_, _^_};
-ghost use mathlib.Core.Bool.{not, _&&_};
+ghost use mathlib.Core.Bool.{false, not, _&&_};
 ghost use lib.Dec.{eqb, ltb};
 ghost use Rattle.bitmap.specs.Pages.{bitAt};
 ghost use Rattle.layout.specs.Layout.{entriesOf, spans};
 ghost use Rattle.chunks.specs.Chunks.{empty, firstNot};
-ghost use Rattle.registrar_steps.specs.Steps.{seen, idle, isIdle, askedOf, asks, ends, passes, pieceOf, registerFrom, stretchIn, lookAt, unalignedAt, stretchOf, isNothing, found, allFrom};
+ghost use Rattle.registrar_steps.specs.Steps.{seen, ramFrom, idle, isIdle, askedOf, asks, ends, passes, pieceOf, registerFrom, stretchIn, lookAt, unalignedAt, stretchOf, isNothing, found, allFrom};
 use layout::MemoryRange;
 
 // The request under way. kind: 0 nothing asked, 1 register, else register_all_aligned. The chunks from `from` to before
@@ -41,6 +41,18 @@ pub enum Answer {
     Refused(u64),
 }
 
+// What a chunk asks for: nothing, or its first RAM.
+struct Offer {
+    passed: bool,
+    ram: MemoryRange,
+}
+
+// Where a walk over chunks ends, and the first RAM of that chunk.
+struct Stop {
+    chunk: u64,
+    ram: MemoryRange,
+}
+
 // What is next in a span.
 pub enum Look {
     Nothing,
@@ -62,34 +74,54 @@ pub struct Plan {
     pub answer: Answer,
 }
 
-// Whether chunk c asks for nothing.
-fn is_passed(ram: &[u64], g: u64, registered: &[u64], failed: &[u64], c: u64) -> bool
+// What chunk c asks for: whether nothing, and its first RAM where it has not failed before.
+fn offer_of(ram: &[u64], g: u64, registered: &[u64], failed: &[u64], c: u64) -> Offer
     requires { ⌜ c * g < 2 ^ 64 ⌝ }
-    ensures { λ r. ⌜ r ≡ passes (seen g (entriesOf (now (ram .entry))) (now (registered .entry)) (now (failed .entry))) c ⌝ }
+    ensures { λ r. ⌜ (r .passed ≡ passes (seen g (entriesOf (now (ram .entry))) (now (registered .entry)) (now (failed .entry))) c) × (r .passed ≡ false → bitAt 64 (now (failed .entry)) c ≡ false → r .ram ≡ ramFrom g (entriesOf (now (ram .entry))) c (c * g)) ⌝ }
 {
+    let nothing = MemoryRange { start: 0, end: 0 };
     if bitmap::get(registered, c) {
-        return true;
+        return Offer {
+            passed: true,
+            ram: nothing,
+        };
     }
     if bitmap::get(failed, c) {
-        return false;
+        return Offer {
+            passed: false,
+            ram: nothing,
+        };
     }
-    let ask = chunks::next_ram(ram, g, c, c * g);
-    ask.end <= ask.start
+    let first = chunks::next_ram(ram, g, c, c * g);
+    let passed = first.end <= first.start;
+    Offer {
+        passed: passed,
+        ram: first,
+    }
 }
 
-// The first chunk from `from` to before `to` that asks for something.
-fn walk(ram: &[u64], g: u64, registered: &[u64], failed: &[u64], from: u64, to: u64) -> u64
+// The first chunk from `from` to before `to` that asks for something, and what it asks for.
+fn walk(ram: &[u64], g: u64, registered: &[u64], failed: &[u64], from: u64, to: u64) -> Stop
     requires { ⌜ ((c : ℕ) → c < to → c * g < 2 ^ 64) ⌝ }
-    ensures { λ r. ⌜ r ≡ firstNot (passes (seen g (entriesOf (now (ram .entry))) (now (registered .entry)) (now (failed .entry)))) from to ⌝ }
+    ensures { λ r. ⌜ (r .chunk ≡ firstNot (passes (seen g (entriesOf (now (ram .entry))) (now (registered .entry)) (now (failed .entry)))) from to) × (r .chunk < to → bitAt 64 (now (failed .entry)) (r .chunk) ≡ false → r .ram ≡ ramFrom g (entriesOf (now (ram .entry))) (r .chunk) (r .chunk * g)) ⌝ }
 {
+    let nothing = MemoryRange { start: 0, end: 0 };
     let mut c = from;
     while c < to {
-        if !is_passed(ram, g, registered, failed, c) {
-            return c;
+        let offer = offer_of(ram, g, registered, failed, c);
+        if !offer.passed {
+            let first = offer.ram;
+            return Stop {
+                chunk: c,
+                ram: first,
+            };
         }
         c += 1;
     }
-    c
+    Stop {
+        chunk: c,
+        ram: nothing,
+    }
 }
 
 // The operation that a request asks for.
@@ -185,7 +217,8 @@ pub fn register_from(
     ensures { λ r. ⌜ r ≡ registerFrom (seen g (entriesOf (now (ram .entry))) (now (registered .entry)) (now (failed .entry))) offset count from last ⌝ }
 {
     let to = numbers::least(last, chunks::chunk_count(ram, g));
-    let c = walk(ram, g, registered, failed, from, to);
+    let stop = walk(ram, g, registered, failed, from, to);
+    let c = stop.chunk;
     if to <= c {
         return end(from, c, Answer::Done(count));
     }
@@ -194,12 +227,8 @@ pub fn register_from(
     if failed_before {
         return end(from, c, Answer::RegistrationFailed { address, count });
     }
-    ask(
-        offset,
-        from,
-        c,
-        piece(count, c, c + 1, last, chunks::next_ram(ram, g, c, address)),
-    )
+    let first = stop.ram;
+    ask(offset, from, c, piece(count, c, c + 1, last, first))
 }
 
 // The request for a piece of RAM of the chunks from `from` to before `to`.

@@ -1,9 +1,8 @@
 -- `registrar::registrar_answer_done` meets its contract. Assumes nothing.
 use borrow.Author.Needs.{needs}
 use mathlib.Core.Path.{ap, _∙_}
-use Rattle.registrar_state.specs.World.{world, doneOf, decided, carriedOut, donePlan, answerRefusal}
+use Rattle.registrar_state.specs.World.{World, world, doneOf, decided, carriedOut, donePlan, answerRefusal}
 use Rattle.registrar.specs.Laws as laws
-use Rattle.registrar_state.specs.World.{World}
 use Rattle.registrar.proofs.registrar_answer_done.Statement.{statement}
 use Rattle.registrar.proofs.registrar_answer_done.Tie as tie
 
@@ -29,20 +28,23 @@ returns c = laws.call-refused (world (c .before .before .before .before .before 
 load-requires : tie.Need-load-requires
 load-requires c κs = laws.answer-long (world (c .before .before .before .before .before .before .before .before .before .args .state .now) (c .before .before .before .before .before .before .before .before .before .args .registered .now) (c .before .before .before .before .before .before .before .before .before .args .failed .now)) (c .before .before .answer-refusal .result) (c .before .if1 .left) (c .before .before .answer-refusal .ensures)
 
+rest-of-requires : tie.Need-rest-of-requires
+rest-of-requires c κs = laws.answer-long (world (c .before .before .before .before .before .before .before .before .before .before .before .args .state .now) (c .before .before .before .before .before .before .before .before .before .before .before .args .registered .now) (c .before .before .before .before .before .before .before .before .before .before .before .args .failed .now)) (c .before .before .before .before .answer-refusal .result) (c .before .before .before .if1 .left) (c .before .before .before .before .answer-refusal .ensures)
+
 taken-to-requires : tie.Need-taken-to-requires
-taken-to-requires c κs = laws.answer-long (world (c .before .before .before .before .before .before .before .before .before .before .before .args .state .now) (c .before .before .before .before .before .before .before .before .before .before .before .args .registered .now) (c .before .before .before .before .before .before .before .before .before .before .before .args .failed .now)) (c .before .before .before .before .answer-refusal .result) (c .before .before .before .if1 .left) (c .before .before .before .before .answer-refusal .ensures)
+taken-to-requires c κs = (laws.answer-long (world (c .before .before .before .before .before .before .before .before .before .before .before .before .before .args .state .now) (c .before .before .before .before .before .before .before .before .before .before .before .before .before .args .registered .now) (c .before .before .before .before .before .before .before .before .before .before .before .before .before .args .failed .now)) (c .before .before .before .before .before .before .answer-refusal .result) (c .before .before .before .before .before .if1 .left) (c .before .before .before .before .before .before .answer-refusal .ensures), c .before .rest-of .ensures)
 
 set-chunks-requires : tie.Need-set-chunks-requires
 set-chunks-requires c κs = search needs
 
 done-plan-requires : tie.Need-done-plan-requires
-done-plan-requires c κs = laws.answer-long (world (c .before .before .before .before .before .before .before .before .before .before .before .before .before .before .before .before .before .before .before .args .state .now) (c .before .before .before .before .before .before .before .before .before .before .before .before .before .before .before .before .before .before .before .args .registered .now) (c .before .before .before .before .before .before .before .before .before .before .before .before .before .before .before .before .before .before .before .args .failed .now)) (c .before .before .before .before .before .before .before .before .before .before .before .before .answer-refusal .result) (c .before .before .before .before .before .before .before .before .before .before .before .if1 .left) (c .before .before .before .before .before .before .before .before .before .before .before .before .answer-refusal .ensures)
+done-plan-requires c κs = (laws.answer-long (world (c .before .before .before .before .before .before .before .before .before .before .before .before .before .before .before .before .before .before .before .before .before .args .state .now) (c .before .before .before .before .before .before .before .before .before .before .before .before .before .before .before .before .before .before .before .before .before .args .registered .now) (c .before .before .before .before .before .before .before .before .before .before .before .before .before .before .before .before .before .before .before .before .before .args .failed .now)) (c .before .before .before .before .before .before .before .before .before .before .before .before .before .before .answer-refusal .result) (c .before .before .before .before .before .before .before .before .before .before .before .before .before .if1 .left) (c .before .before .before .before .before .before .before .before .before .before .before .before .before .before .answer-refusal .ensures), c .before .before .before .before .before .before .before .before .before .rest-of .ensures)
 
 set-chunks-requires-2 : tie.Need-set-chunks-requires-2
 set-chunks-requires-2 c κs = search needs
 
 save-requires : tie.Need-save-requires
-save-requires c κs = laws.answer-long (world (c .before .before .before .before .before .before .before .before .before .before .before .before .before .before .before .before .before .before .before .before .before .before .before .before .before .args .state .now) (c .before .before .before .before .before .before .before .before .before .before .before .before .before .before .before .before .before .before .before .before .before .before .before .before .before .args .registered .now) (c .before .before .before .before .before .before .before .before .before .before .before .before .before .before .before .before .before .before .before .before .before .before .before .before .before .args .failed .now)) (c .before .before .before .before .before .before .before .before .before .before .before .before .before .before .before .before .before .before .answer-refusal .result) (c .before .before .before .before .before .before .before .before .before .before .before .before .before .before .before .before .before .if1 .left) (c .before .before .before .before .before .before .before .before .before .before .before .before .before .before .before .before .before .before .answer-refusal .ensures)
+save-requires c κs = laws.answer-long (world (c .before .before .before .before .before .before .before .before .before .before .before .before .before .before .before .before .before .before .before .before .before .before .before .before .before .before .before .args .state .now) (c .before .before .before .before .before .before .before .before .before .before .before .before .before .before .before .before .before .before .before .before .before .before .before .before .before .before .before .args .registered .now) (c .before .before .before .before .before .before .before .before .before .before .before .before .before .before .before .before .before .before .before .before .before .before .before .before .before .before .before .args .failed .now)) (c .before .before .before .before .before .before .before .before .before .before .before .before .before .before .before .before .before .before .before .before .answer-refusal .result) (c .before .before .before .before .before .before .before .before .before .before .before .before .before .before .before .before .before .before .before .if1 .left) (c .before .before .before .before .before .before .before .before .before .before .before .before .before .before .before .before .before .before .before .before .answer-refusal .ensures)
 
 flatten-requires-2 : tie.Need-flatten-requires-2
 flatten-requires-2 c κs = search needs
@@ -59,14 +61,14 @@ same-length-6 c = search needs
 returns-2 : tie.Need-returns-2
 unfolding doneOf
 returns-2 c =
-    let w = world (c .before .before .before .before .before .before .before .before .before .before .before .before .before .before .before .before .before .before .before .before .before .before .before .before .before .before .before .before .before .args .state .now) (c .before .before .before .before .before .before .before .before .before .before .before .before .before .before .before .before .before .before .before .before .before .before .before .before .before .before .before .before .before .args .registered .now) (c .before .before .before .before .before .before .before .before .before .before .before .before .before .before .before .before .before .before .before .before .before .before .before .before .before .before .before .before .before .args .failed .now) in
-    let n = c .before .before .before .before .before .before .before .before .before .before .before .before .before .before .before .before .before .before .before .before .before .before .answer-refusal in
-    let q = c .before .before .before .before .before .before .before .before .before .before .before .before .before .before .before .before .before .before .before .load in
+    let w = (world (c .before .before .before .before .before .before .before .before .before .before .before .before .before .before .before .before .before .before .before .before .before .before .before .before .before .before .before .before .before .before .before .args .state .now) (c .before .before .before .before .before .before .before .before .before .before .before .before .before .before .before .before .before .before .before .before .before .before .before .before .before .before .before .before .before .before .before .args .registered .now) (c .before .before .before .before .before .before .before .before .before .before .before .before .before .before .before .before .before .before .before .before .before .before .before .before .before .before .before .before .before .before .before .args .failed .now)) in
+    let n = c .before .before .before .before .before .before .before .before .before .before .before .before .before .before .before .before .before .before .before .before .before .before .before .before .answer-refusal in
+    let q = c .before .before .before .before .before .before .before .before .before .before .before .before .before .before .before .before .before .before .before .before .before .load in
     let t = c .before .before .before .before .before .before .before .before .before .before .before .before .before .before .before .before .before .taken-to in
     let m = c .before .before .before .before .before .before .before .before .before .before .before .before .before .before .before .set-chunks in
-    let v = world (c .before .before .before .before .before .before .before .before .before .before .before .before .before .before .before .before .before .before .before .before .before .before .before .before .before .before .before .before .before .args .state .now) (m .last .0) (c .before .before .before .before .before .before .before .before .before .before .before .before .before .before .before .before .before .before .before .before .before .before .before .before .before .before .before .before .before .args .failed .now) in
+    let v = world (c .before .before .before .before .before .before .before .before .before .before .before .before .before .before .before .before .before .before .before .before .before .before .before .before .before .before .before .before .before .before .before .args .state .now) (m .last .0) (c .before .before .before .before .before .before .before .before .before .before .before .before .before .before .before .before .before .before .before .before .before .before .before .before .before .before .before .before .before .before .before .args .failed .now) in
     let p = c .before .before .before .before .before .before .before .before .before .done-plan in
-    laws.call-carried w (n .result) _ (n .ensures) v _ (p .result) _ _ (c .flatten2 .result) (c .before .before .before .before .before .before .before .before .before .before .before .before .before .before .before .before .before .before .before .before .before .if1 .left) (p .ensures) (c .before .before .before .save .ensures) (c .before .before .before .before .before .before .before .set-chunks2 .ensures) (c .flatten2 .ensures)
+    laws.call-carried w (n .result) _ (n .ensures) v _ (p .result) _ _ (c .flatten2 .result) (c .before .before .before .before .before .before .before .before .before .before .before .before .before .before .before .before .before .before .before .before .before .before .before .if1 .left) (p .ensures) (c .before .before .before .save .ensures) (c .before .before .before .before .before .before .before .set-chunks2 .ensures) (c .flatten2 .ensures)
     ∙ ap (λ (u : World). decided w (answerRefusal w) (carriedOut u (donePlan u))) (laws.after-is w (q .result) (t .result) _ (q .ensures) (t .ensures) (m .ensures))
 
 pub registrar-answer-done-spec : {M : Type 1} → statement M
@@ -80,6 +82,7 @@ registrar-answer-done-spec =
     same-length-3
     returns
     load-requires
+    rest-of-requires
     taken-to-requires
     set-chunks-requires
     done-plan-requires

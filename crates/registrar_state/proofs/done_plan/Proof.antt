@@ -20,9 +20,6 @@ shared-slice-read-g c = search needs
 has-rest-requires : tie.Need-has-rest-requires
 has-rest-requires c κs = search needs
 
-rest-of-requires : tie.Need-rest-of-requires
-rest-of-requires c κs = search needs
-
 piece-requires : tie.Need-piece-requires
 piece-requires c κs = search needs
 
@@ -30,19 +27,34 @@ ask-requires : tie.Need-ask-requires
 ask-requires c κs = search needs
 
 returns : tie.Need-returns
-returns c = laws.done-rest (world (c .before .before .before .before .before .before .before .before .before .before .before .before .args .state .now) (c .before .before .before .before .before .before .before .before .before .before .before .before .args .registered .now) (c .before .before .before .before .before .before .before .before .before .before .before .before .args .failed .now)) (c .before .before .before .before .before .before .before .before .load .result) (c .ask .result) (c .before .before .before .before .before .before .before .before .load .ensures) (c .before .before .before .before .has-rest .result) (c .before .before .before .before .has-rest .ensures) (c .before .piece .result) (c .before .before .rest-of .result) (c .before .before .before .if1 .taken) (c .before .before .rest-of .ensures) (c .before .piece .ensures) (c .ask .ensures)
+returns c =
+    let a = c .before .before .before .before .before .before .before .before .before .before .before .args in
+    let q = c .before .before .before .before .before .before .before .load in
+    let t = c .before .before .before .has-rest in
+    let has = laws.has-is (a .state .now) (q .result) (q .ensures) (a .rest) (t .result) (c .before .before .before .before .before .before .before .before .before .before .before .pre .1) (t .ensures) in
+    laws.done-rest (world (a .state .now) (a .registered .now) (a .failed .now)) (q .result) (c .ask .result) (q .ensures) (t .result) has (c .before .piece .result) (a .rest) (c .before .before .if1 .taken) (c .before .before .before .before .before .before .before .before .before .before .before .pre .1) (c .before .piece .ensures) (c .ask .ensures)
 
 register-from-requires : tie.Need-register-from-requires
 register-from-requires c κs = search needs
 
 returns-2 : tie.Need-returns-2
-returns-2 c = laws.done-register (world (c .before .before .before .before .before .before .before .before .before .before .before .before .args .state .now) (c .before .before .before .before .before .before .before .before .before .before .before .before .args .registered .now) (c .before .before .before .before .before .before .before .before .before .before .before .before .args .failed .now)) (c .before .before .before .before .before .before .before .before .load .result) (c .register-from .result) (c .before .before .before .before .before .before .before .before .load .ensures) (c .before .before .before .before .has-rest .result) (c .before .before .before .before .has-rest .ensures) (c .before .before .before .before .before .before .before .ram-of .result .now) (c .before .before .before .if1 .left) (c .before .before .before .before .before .before .before .ram-of .ensures) (c .before .if2 .taken) (c .register-from .ensures)
+returns-2 c =
+    let a = c .before .before .before .before .before .before .before .before .before .before .before .before .args in
+    let q = c .before .before .before .before .before .before .before .before .load in
+    let t = c .before .before .before .before .has-rest in
+    let has = laws.has-is (a .state .now) (q .result) (q .ensures) (a .rest) (t .result) (c .before .before .before .before .before .before .before .before .before .before .before .before .pre .1) (t .ensures) in
+    laws.done-register (world (a .state .now) (a .registered .now) (a .failed .now)) (q .result) (c .register-from .result) (q .ensures) (t .result) has (c .before .before .before .before .before .before .before .ram-of .result .now) (c .before .before .before .if1 .left) (c .before .before .before .before .before .before .before .ram-of .ensures) (c .before .if2 .taken) (c .register-from .ensures)
 
 all-from-requires : tie.Need-all-from-requires
 all-from-requires c κs = search needs
 
 returns-3 : tie.Need-returns-3
-returns-3 c = laws.done-all (world (c .before .before .before .before .before .before .before .before .before .before .before .before .args .state .now) (c .before .before .before .before .before .before .before .before .before .before .before .before .args .registered .now) (c .before .before .before .before .before .before .before .before .before .before .before .before .args .failed .now)) (c .before .before .before .before .before .before .before .before .load .result) (c .all-from .result) (c .before .before .before .before .before .before .before .before .load .ensures) (c .before .before .before .before .has-rest .result) (c .before .before .before .before .has-rest .ensures) (c .before .before .before .before .before .before .before .ram-of .result .now) (c .before .before .before .if1 .left) (c .before .before .before .before .before .before .before .ram-of .ensures) (c .before .if2 .left) (c .all-from .ensures)
+returns-3 c =
+    let a = c .before .before .before .before .before .before .before .before .before .before .before .before .args in
+    let q = c .before .before .before .before .before .before .before .before .load in
+    let t = c .before .before .before .before .has-rest in
+    let has = laws.has-is (a .state .now) (q .result) (q .ensures) (a .rest) (t .result) (c .before .before .before .before .before .before .before .before .before .before .before .before .pre .1) (t .ensures) in
+    laws.done-all (world (a .state .now) (a .registered .now) (a .failed .now)) (q .result) (c .all-from .result) (q .ensures) (t .result) has (c .before .before .before .before .before .before .before .ram-of .result .now) (c .before .before .before .if1 .left) (c .before .before .before .before .before .before .before .ram-of .ensures) (c .before .if2 .left) (c .all-from .ensures)
 
 pub done-plan-spec : {M : Type 1} → statement M
 done-plan-spec =
@@ -53,7 +65,6 @@ done-plan-spec =
     shared-slice-read-offset
     shared-slice-read-g
     has-rest-requires
-    rest-of-requires
     piece-requires
     ask-requires
     returns
