@@ -154,11 +154,13 @@ pub fn build(ram: &[u64], offset: u64, granularity: u64, lent: Lent<'_>) -> Repl
     )
 }
 
+#[inline]
 pub fn register(lent: Lent<'_>, address: u64, len: u64) -> Reply {
     call!(registrar_register, [], lent, [address, len])
 }
 
 /// `ignore_unaligned_ranges` is 0 or 1.
+#[inline]
 pub fn register_all_aligned(lent: Lent<'_>, alignment: u64, ignore_unaligned_ranges: u64) -> Reply {
     call!(
         registrar_register_all_aligned,
@@ -169,11 +171,13 @@ pub fn register_all_aligned(lent: Lent<'_>, alignment: u64, ignore_unaligned_ran
 }
 
 /// The operation asked for is done.
+#[inline]
 pub fn answer_done(lent: Lent<'_>) -> Reply {
     call!(registrar_answer_done, [], lent, [])
 }
 
 /// The operation asked for failed.
+#[inline]
 pub fn answer_failed(lent: Lent<'_>) -> Reply {
     call!(registrar_answer_failed, [], lent, [])
 }

@@ -215,6 +215,7 @@ impl MemoryRegistrar {
         }
     }
 
+    #[inline]
     fn lent(&mut self) -> Lent<'_> {
         Lent {
             state: &mut self.state[..],
@@ -269,11 +270,13 @@ impl MemoryRegistrar {
     }
 
     /// Begins [`register`](Self::register).
+    #[inline]
     pub fn start_register(&mut self, address: u64, len: u64) -> Result<Step, RegisterError> {
         step(raw::register(self.lent(), address, len))
     }
 
     /// Begins [`register_all_aligned`](Self::register_all_aligned).
+    #[inline]
     pub fn start_register_all_aligned(
         &mut self,
         alignment: u64,
@@ -294,12 +297,14 @@ impl MemoryRegistrar {
     }
 
     /// The range asked for is registered.
+    #[inline]
     pub fn answer_done(&mut self) -> Result<Step, RegisterError> {
         step(raw::answer_done(self.lent()))
     }
 
     /// The range asked for could not be registered. This ends the call, by
     /// [`RegisterError::Failed`].
+    #[inline]
     pub fn answer_failed(&mut self) -> Result<Step, RegisterError> {
         step(raw::answer_failed(self.lent()))
     }
@@ -334,6 +339,7 @@ fn refused(number: u64) -> Refusal {
 }
 
 /// A reply in Rust's types.
+#[inline]
 fn step(reply: Reply) -> Result<Step, RegisterError> {
     let range = |start, end| MemoryRange { start, end };
     match reply {
