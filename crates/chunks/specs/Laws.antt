@@ -35,8 +35,8 @@ quotient-fits n g q e = omega (arith, ap (λ (k : ℕ). k * g) e, div-mul-le-sel
 pub div-none : (n g : ℕ) → g ≡ 0 → 0 ≡ n / g
 div-none n g h = sym (ap (λ (k : ℕ). n / k) h ∙ div-zero n)
 
-pub div-some : (n g m : ℕ) → m ≡ max g 1 → (g ≡ 0 → ⊥) → n / m ≡ n / g
-div-some n g m e h = ap (λ (k : ℕ). n / k) (omega arith)
+pub div-shift : (n g k : ℕ) → k < 64 → g ≡ (1 * 2 ^ k) % 2 ^ 64 → n / 2 ^ k ≡ n / g
+div-shift n g k h e = ap (λ (m : ℕ). n / m) (sym (e ∙ mask 64 k h))
 
 module _ (n g : ℕ) where
   pub up-whole : (q : ℕ) → q ≡ n / g → q * g ≡ n → q ≡ up n g

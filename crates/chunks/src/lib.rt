@@ -13,11 +13,20 @@ ghost use Rattle.chunks.specs.Scan.{Ahead};
 use layout::MemoryRange;
 use layout::MemoryRangeWithNode;
 
+// A shift where g is a power of two.
 pub fn div(n: u64, g: u64) -> u64
     ensures { λ r. ⌜ r ≡ n / g ⌝ }
 {
-    let q = n / numbers::greatest(g, 1);
-    if g == 0 { 0 } else { q }
+    if g == 0 {
+        return 0;
+    }
+    let k = u64::trailing_zeros(g);
+    if k < 64 {
+        if g == 1u64 << k {
+            return n >> k;
+        }
+    }
+    n / g
 }
 
 pub fn div_ceil(n: u64, g: u64) -> u64
@@ -79,7 +88,7 @@ fn chunk_end(c: u64, g: u64, end: u64) -> u64
     if g == 0 {
         return 0;
     }
-    if end / g <= c {
+    if div(end, g) <= c {
         return end;
     }
     (c + 1) * g

@@ -2,23 +2,23 @@
 use native.Mathlib.Omega.{arith}
 use native.Mathlib.Numerals.{add-one}
 use mathlib.Core.Path.{_≡_, sym, ap, ap₂, _∙_}
-use mathlib.Core.Bool.{true, not, _&&_}
+use mathlib.Core.Bool.{Bool, true, not, _&&_}
 use mathlib.Core.List.{List, [], _∷_, _++_, append-assoc, append-nil}
 use Prim.Native.Nat.{ℕ, suc, _+_, _-_, _%_, _^_, _≤_, _<_}
 use lib.Dec.{eqb, leb, ltb}
 use lib.ListN.{length, getD, drop, take, set, replicate, drop-of-length-le}
 use lib.Seq.{set-at, take-suc, take-length, length-take-le}
 use borrow.Author.Tests.{eqb-true}
-use Rattle.laws.specs.Refusal.{passed, refused, answered}
+use Rattle.laws.specs.Refusal.{unless, passed, refused, answered}
 use Rattle.layout.specs.Layout.{entriesOf, refusalOf, lastEnd}
 use Rattle.layout.proofs.Laws.{fit, entries-count}
-use Rattle.chunks.specs.Chunks.{isPower}
+use Rattle.chunks.specs.Chunks.{firstChunk, endChunk, isPower}
 use Rattle.registrar_steps.specs.declared.Request.{Request}
 use Rattle.registrar_steps.specs.declared.Answer.the-variants.{Done, RegistrationFailed, Refused}
 use Rattle.registrar_steps.specs.declared.Plan.{Plan}
-use Rattle.registrar_steps.specs.Steps.{idle}
+use Rattle.registrar_steps.specs.Steps.{idle, registerFrom}
 use Rattle.registrar_state.specs.declared.Reply.{Reply}
-use Rattle.registrar_state.specs.World.{World, world, Outcome, outcome, requestOf, withRequest, builtState, flatOf, decided, buildRefusal, registerRefusal, allRefusal, marked, carriedOut, registerPlan, isKnown, answerRefusal, takenTo, afterTaken}
+use Rattle.registrar_state.specs.World.{World, world, Outcome, outcome, requestOf, withRequest, offsetOf, granularityOf, seenIn, builtState, flatOf, decided, buildRefusal, callRefusal, chunksFit, registerRefusal, allRefusal, marked, carriedOut, registerPlan, isKnown, answerRefusal, takenTo, afterTaken}
 use Rattle.registrar_state.specs.Laws.{known-kept}
 
 -- ---- a call refused, and one carried out
@@ -36,9 +36,28 @@ module _ (w : World) (n x : ℕ) (e : n ≡ x) where
   pub call-answered : (taken : Outcome) (o : Outcome) → n ≡ 0 → o ≡ taken → o ≡ decided w x taken
   call-answered taken o h q = answered n x e taken o (λ k. record { world = w; reply = flatOf (Refused k) }) h q
 
+-- the chunks that a request touches, found once
+module _ (w : World) (address len g f e : ℕ) (hg : g ≡ granularityOf (w .state)) (hf : f ≡ firstChunk g address) (he : e ≡ endChunk g address len) where
+  first-is : f ≡ firstChunk (granularityOf (w .state)) address
+  first-is = hf ∙ ap (λ (k : ℕ). firstChunk k address) hg
+
+  end-is : e ≡ endChunk (granularityOf (w .state)) address len
+  end-is = he ∙ ap (λ (k : ℕ). endChunk k address len) hg
+
+  pub touched-refusal : (n : ℕ) → n ≡ callRefusal w (unless (chunksFit (w .state) f e) 9 0) → n ≡ registerRefusal w address len
+  unfolding registerRefusal
+  touched-refusal n q = q ∙ ap₂ (λ (f e : ℕ). callRefusal w (unless (chunksFit (w .state) f e) 9 0)) first-is end-is
+
+  pub touched-known : (t : Bool) → t ≡ isKnown (w .state) (w .registered) f e → t ≡ true
+      → isKnown (w .state) (w .registered) (firstChunk (granularityOf (w .state)) address) (endChunk (granularityOf (w .state)) address len) ≡ true
+  touched-known t q h = sym (ap₂ (isKnown (w .state) (w .registered)) first-is end-is) ∙ sym q ∙ h
+
+  pub touched-plan : (p : Plan) → p ≡ registerFrom (seenIn w) (offsetOf (w .state)) 0 f e → p ≡ registerPlan w address len
+  touched-plan p q = q ∙ ap₂ (registerFrom (seenIn w) (offsetOf (w .state)) 0) first-is end-is
+
 -- a request that finds its chunks registered
 pub call-known : (w : World) (n address len : ℕ) (r : Reply) → n ≡ registerRefusal w address len → n ≡ 0 → length (w .state) ≡ 108
-    → isKnown (w .state) (w .registered) address len ≡ true → r ≡ flatOf (Done 0)
+    → isKnown (w .state) (w .registered) (firstChunk (granularityOf (w .state)) address) (endChunk (granularityOf (w .state)) address len) ≡ true → r ≡ flatOf (Done 0)
     → outcome (w .state) (w .registered) (w .failed) r ≡ decided w (registerRefusal w address len) (carriedOut w (registerPlan w address len))
 call-known w n address len r e z h k hr =
     call-answered w n (registerRefusal w address len) e _ _ z (ap (outcome (w .state) (w .registered) (w .failed)) hr ∙ known-kept w address len h k)

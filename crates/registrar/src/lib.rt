@@ -63,14 +63,17 @@ pub extern "C" fn registrar_register(
 ) -> Reply
     ensures { λ r. ⌜ outcome (now (state .exit)) (now (registered .exit)) (now (failed .exit)) r ≡ registerOf (world (now (state .entry)) (now (registered .entry)) (now (failed .entry))) address len ⌝ }
 {
-    let n = registrar_state::register_refusal(state, registered, failed, address, len);
+    let g = registrar_state::granularity(state);
+    let first = chunks::first_chunk(g, address);
+    let end = chunks::end_chunk(g, address, len);
+    let n = registrar_state::register_refusal(state, registered, failed, first, end);
     if n != 0 {
         return registrar_state::flatten(Answer::Refused(n));
     }
-    if registrar_state::is_known(state, registered, address, len) {
+    if registrar_state::is_known(state, registered, first, end) {
         return registrar_state::flatten(Answer::Done(0));
     }
-    let p = registrar_state::register_plan(state, registered, failed, address, len);
+    let p = registrar_state::register_plan(state, registered, failed, first, end);
     chunks::set_chunks(registered, p.from, p.to);
     registrar_state::save(state, p.request);
     let answer = p.answer;

@@ -137,7 +137,7 @@ registered-kept w address len s z h =
     let b = passed (eqb (requestOf (w .state) .kind) 0) 18 _ (a .1) in
     let i : isIdle (requestOf (w .state)) ≡ true = ap isIdle (s .request .rests (eqb-true _ _ (b .0))) in
     let f : firstNot (bitAt 64 (w .registered)) (firstChunk g address) (endChunk g address len) ≡ max (firstChunk g address) (endChunk g address len) = first-all (bitAt 64 (w .registered)) (firstChunk g address) (endChunk g address len) h in
-    let k : isKnown (w .state) (w .registered) address len ≡ true = and-true (isIdle (requestOf (w .state))) _ i (le-leb (endChunk g address len) _ (omega (arith, f))) in
+    let k : isKnown (w .state) (w .registered) (firstChunk g address) (endChunk g address len) ≡ true = and-true (isIdle (requestOf (w .state))) _ i (le-leb (endChunk g address len) _ (omega (arith, f))) in
     rw (eq-eqb (registerRefusal w address len) 0 z) (sym (known-kept w address len (eqb-true _ _ (a .0)) k))
 
 pub registered-always-kept : (w : World) (ram : List ℕ) (o g : ℕ) (xs : List Call) (address len : ℕ) → let v : World = after (buildOf w ram o g .world) xs in

@@ -14,7 +14,7 @@ use Rattle.laws.specs.Refusal.{unless, passed}
 use Rattle.bitmap.specs.Pages.{bitAt}
 use Rattle.layout.specs.declared.MemoryRange.{MemoryRange}
 use Rattle.layout.specs.Layout.{spans}
-use Rattle.chunks.specs.Chunks.{chunkCount, isPower, empty, part, pieces, firstOf, firstNotOf, firstNot, alike, alignedPart, edgeOf}
+use Rattle.chunks.specs.Chunks.{chunkCount, firstChunk, endChunk, isPower, empty, part, pieces, firstOf, firstNotOf, firstNot, alike, alignedPart, edgeOf}
 use Rattle.chunks.specs.Scan.{first-step, first-from}
 use Rattle.registrar_steps.specs.declared.Request.{Request}
 use Rattle.registrar_steps.specs.declared.Answer.the-variants.{Done, RegistrationFailed, Refused}
@@ -258,7 +258,7 @@ busy-refused w rest o k = rw (ne-eqb (requestOf (w .state) .kind) 0 k) (go (eqb 
 
 pub busy-register : (w : World) (address len : ℕ) → (requestOf (w .state) .kind ≡ 0 → ⊥) → taken (registerOf w address len .reply .number) ≡ false
 unfolding registerOf registerRefusal
-busy-register w address len k = busy-refused w (unless (chunksFit (w .state) address len) 9 0) (carriedOut w (registerPlan w address len)) k
+busy-register w address len k = busy-refused w (unless (chunksFit (w .state) (firstChunk (granularityOf (w .state)) address) (endChunk (granularityOf (w .state)) address len)) 9 0) (carriedOut w (registerPlan w address len)) k
 
 pub busy-all : (w : World) (al ignore : ℕ) → (requestOf (w .state) .kind ≡ 0 → ⊥) → taken (allOf w al ignore .reply .number) ≡ false
 unfolding allOf allRefusal

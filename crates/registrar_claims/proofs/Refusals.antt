@@ -157,7 +157,7 @@ call-taken w rest z =
 
 pub register-taken : (w : World) (address len : ℕ) → taken (registerRefusal w address len) ≡ true → registerRefusal w address len ≡ 0
 unfolding registerRefusal
-register-taken w address len = call-taken w (unless (chunksFit (w .state) address len) 9 0) (go (chunksFit (w .state) address len))
+register-taken w address len = call-taken w (unless (chunksFit (w .state) (firstChunk (granularityOf (w .state)) address) (endChunk (granularityOf (w .state)) address len)) 9 0) (go (chunksFit (w .state) (firstChunk (granularityOf (w .state)) address) (endChunk (granularityOf (w .state)) address len)))
   where
     go : (a : Bool) → taken (unless a 9 0) ≡ true → unless a 9 0 ≡ 0
     go false h = false≢true h

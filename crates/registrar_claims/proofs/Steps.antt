@@ -24,7 +24,7 @@ use Rattle.registrar_steps.specs.declared.Answer.the-variants.{Done, Registrati
 use Rattle.registrar_steps.specs.declared.Plan.{Plan}
 use Rattle.registrar_steps.specs.Steps.{Seen, seen, idle, askedOf, asks, ends, more, ramFrom, passes, pieceOf, registerFrom}
 use Rattle.registrar_state.specs.declared.Reply.{Reply}
-use Rattle.registrar_state.specs.World.{World, world, Outcome, outcome, requestOf, requestWords, entriesIn, flatOf, lengthsFit, chunksFit, registerRefusal, marked, carriedOut, registerOf, answerRefusal, failedOf, doneOf}
+use Rattle.registrar_state.specs.World.{World, world, Outcome, outcome, requestOf, requestWords, granularityOf, entriesIn, flatOf, lengthsFit, chunksFit, registerRefusal, marked, carriedOut, registerOf, answerRefusal, failedOf, doneOf}
 use Rattle.registrar_claims.specs.Runs.{Told, before, follow}
 use Rattle.registrar_claims.specs.Whole.{Stand, Ok, FailedAt, Whole, ended, offered, asking, offer, wholeChunks, wholeRegister, Says, Words, Match}
 use Rattle.registrar_claims.proofs.Spans.{Ascend, spans-ascend, piece-some, pieces-rest}
@@ -294,7 +294,7 @@ register-at tail f r q address len bs z ord wr =
     let a = passed (eqb (length (requestWords q ++ tail)) 108) 3 _ z in
     let b = passed (eqb (q .kind) 0) 18 _ (a .1) in
     let d = passed (lengthsFit g (entriesIn (w .state)) r f) 3 _ (b .1) in
-    let e = passed (chunksFit (w .state) address len) 8 _ (d .1) in
+    let e = passed (chunksFit (w .state) (firstChunk (granularityOf (w .state)) address) (endChunk (granularityOf (w .state)) address len)) 8 _ (d .1) in
     let l : length (requestWords q ++ tail) ≡ 108 = eqb-true _ _ (a .0) in
     let rl : length r ≡ mapWords g (entriesIn (w .state)) = eqb-true _ _ (and-left _ _ (d .0)) in
     let fl : length f ≡ mapWords g (entriesIn (w .state)) = eqb-true _ _ (and-right (eqb (length r) (mapWords g (entriesIn (w .state)))) _ (d .0)) in

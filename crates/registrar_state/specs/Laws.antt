@@ -109,13 +109,13 @@ module _ (w : World) where
     pub call-long : n ≡ 0 → length (w .state) ≡ 108
     call-long h = eqb-true _ _ (none-refused long free lengths n 0 e h .0)
 
-module _ (s : List ℕ) (address len e f : ℕ) (he : e ≡ endChunk (granularityOf s) address len) (hf : f ≡ firstChunk (granularityOf s) address) where
-  pub fit-none : e ≤ f → true ≡ chunksFit s address len
-  fit-none h = rw (← he, ← hf, le-leb e f h)
+module _ (s : List ℕ) (first end : ℕ) where
+  pub fit-none : end ≤ first → true ≡ chunksFit s first end
+  fit-none h = rw (le-leb end first h)
 
-  pub fit-last : (ram : List ℕ) (n : ℕ) → ram ≡ ramOf s → n ≡ chunkCount (granularityOf s) (entriesOf ram) → f < e → leb e n ≡ chunksFit s address len
+  pub fit-last : (ram : List ℕ) (n : ℕ) → ram ≡ ramOf s → n ≡ chunkCount (granularityOf s) (entriesOf ram) → first < end → leb end n ≡ chunksFit s first end
   fit-last ram n hr hn h =
-      ap (leb e) (hn ∙ ap (λ (l : List ℕ). chunkCount (granularityOf s) (entriesOf l)) hr) ∙ sym (rw (← he, ← hf, lt-leb e f h))
+      ap (leb end) (hn ∙ ap (λ (l : List ℕ). chunkCount (granularityOf s) (entriesOf l)) hr) ∙ sym (rw (lt-leb end first h))
 
 -- ---- refusals of a build
 
@@ -169,11 +169,8 @@ module _ (w : World) (ram : List ℕ) (p : Plan) (e : ram ≡ ramOf (w .state)) 
   abbrev seenOver : List ℕ → Seen
   seenOver l = seen (granularityOf (w .state)) (entriesOf l) (w .registered) (w .failed)
 
-  pub register-planned : (address len f l : ℕ) → f ≡ firstChunk (granularityOf (w .state)) address → l ≡ endChunk (granularityOf (w .state)) address len
-      → p ≡ registerFrom (seenOver ram) (offsetOf (w .state)) 0 f l → p ≡ registerPlan w address len
-  register-planned address len f l hf hl q =
-      q ∙ ap₂ (registerFrom (seenOver ram) (offsetOf (w .state)) 0) hf hl
-      ∙ ap (λ (r : List ℕ). registerFrom (seenOver r) (offsetOf (w .state)) 0 (firstChunk (granularityOf (w .state)) address) (endChunk (granularityOf (w .state)) address len)) e
+  pub register-planned : (first end : ℕ) → p ≡ registerFrom (seenOver ram) (offsetOf (w .state)) 0 first end → p ≡ registerFrom (seenIn w) (offsetOf (w .state)) 0 first end
+  register-planned first end q = q ∙ ap (λ (r : List ℕ). registerFrom (seenOver r) (offsetOf (w .state)) 0 first end) e
 
   pub all-planned : (al ignore : ℕ) → p ≡ allFrom (seenOver ram) (offsetOf (w .state)) 0 al ignore 0 (spans (entriesOf ram)) → p ≡ allPlan w al ignore
   all-planned al ignore q = q ∙ ap (λ (r : List ℕ). allFrom (seenOver r) (offsetOf (w .state)) 0 al ignore 0 (spans (entriesOf r))) e
@@ -233,14 +230,12 @@ module _ (w : World) (q : Request) (p : Plan) (e : q ≡ requestOf (w .state)) (
 
 -- ---- a request that finds its chunks registered
 
-module _ (s registered : List ℕ) (address len : ℕ) (q : Request) (t : Bool) (e : q ≡ requestOf s) (h : t ≡ isIdle q) where
-  pub known-not : t ≡ false → false ≡ isKnown s registered address len
+module _ (s registered : List ℕ) (first end : ℕ) (q : Request) (t : Bool) (e : q ≡ requestOf s) (h : t ≡ isIdle q) where
+  pub known-not : t ≡ false → false ≡ isKnown s registered first end
   known-not k = and-ends (isIdle (requestOf s)) _ (sym (ap isIdle e) ∙ sym h ∙ k)
 
-  pub known-is : (f l c : ℕ) → t ≡ true → f ≡ firstChunk (granularityOf s) address → l ≡ endChunk (granularityOf s) address len → c ≡ firstNot (bitAt 64 registered) f l
-      → leb l c ≡ isKnown s registered address len
-  known-is f l c k hf hl hc =
-      ap (leb l) hc ∙ ap₂ (λ (f l : ℕ). leb l (firstNot (bitAt 64 registered) f l)) hf hl ∙ sym (rw (sym (ap isIdle e) ∙ sym h ∙ k))
+  pub known-is : (c : ℕ) → t ≡ true → c ≡ firstNot (bitAt 64 registered) first end → leb end c ≡ isKnown s registered first end
+  known-is c k hc = ap (leb end) hc ∙ sym (rw (sym (ap isIdle e) ∙ sym h ∙ k))
 
 zeros : (a b c d e f g h i : ℕ) → a ≡ 0 → b ≡ 0 → c ≡ 0 → d ≡ 0 → e ≡ 0 → f ≡ 0 → g ≡ 0 → h ≡ 0 → i ≡ 0
     → record { kind = a; count = b; from = c; to = d; start = e; end = f; last = g; alignment = h; ignore = i } ≡ idle
@@ -258,7 +253,8 @@ idle-is q h =
     let i = both-true (eqb (q .alignment) 0) _ (g .1) in
     zeros _ _ _ _ _ _ _ _ _ (eqb-true _ _ (a .0)) (eqb-true _ _ (b .0)) (eqb-true _ _ (c .0)) (eqb-true _ _ (d .0)) (eqb-true _ _ (e .0)) (eqb-true _ _ (f .0)) (eqb-true _ _ (g .0)) (eqb-true _ _ (i .0)) (eqb-true _ _ (i .1))
 
-module _ (w : World) (address len : ℕ) (h : length (w .state) ≡ 108) (k : isKnown (w .state) (w .registered) address len ≡ true) where
+module _ (w : World) (address len : ℕ) (h : length (w .state) ≡ 108)
+    (k : isKnown (w .state) (w .registered) (firstChunk (granularityOf (w .state)) address) (endChunk (granularityOf (w .state)) address len) ≡ true) where
   abbrev first : ℕ
   first = firstChunk (granularityOf (w .state)) address
 

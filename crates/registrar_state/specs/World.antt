@@ -136,14 +136,14 @@ callRefusal w rest =
     (unless (lengthsFit (granularityOf (w .state)) (entriesIn (w .state)) (w .registered) (w .failed)) 4
     rest))
 
--- no chunk is touched, or none past the last
+-- of the chunks from first to before end: there are none, or none past the last
 abbrev pub chunksFit : List ℕ → ℕ → ℕ → Bool
-chunksFit s address len =
-    let g : ℕ = granularityOf s in
-    leb (endChunk g address len) (firstChunk g address) || leb (endChunk g address len) (chunkCount g (entriesIn s))
+chunksFit s first end = leb end first || leb end (chunkCount (granularityOf s) (entriesIn s))
 
 unfoldable pub registerRefusal : World → ℕ → ℕ → ℕ
-registerRefusal w address len = callRefusal w (unless (chunksFit (w .state) address len) 9 0)
+registerRefusal w address len =
+    let g : ℕ = granularityOf (w .state) in
+    callRefusal w (unless (chunksFit (w .state) (firstChunk g address) (endChunk g address len)) 9 0)
 
 unfoldable pub allRefusal : World → ℕ → ℕ → ℕ
 allRefusal w al ignore =
@@ -165,11 +165,9 @@ registerPlan w address len =
 abbrev pub allPlan : World → ℕ → ℕ → Plan
 allPlan w al ignore = allFrom (seenIn w) (offsetOf (w .state)) 0 al ignore 0 (spans (entriesIn (w .state)))
 
--- nothing is left of an earlier request, and every chunk that this one touches is registered
+-- nothing is left of an earlier request, and the chunks from first to before end are registered
 abbrev pub isKnown : List ℕ → List ℕ → ℕ → ℕ → Bool
-isKnown s registered address len =
-    let g : ℕ = granularityOf s in
-    isIdle (requestOf s) && leb (endChunk g address len) (firstNot (bitAt 64 registered) (firstChunk g address) (endChunk g address len))
+isKnown s registered first end = isIdle (requestOf s) && leb end (firstNot (bitAt 64 registered) first end)
 
 unfoldable pub registerOf : World → ℕ → ℕ → Outcome
 registerOf w address len = decided w (registerRefusal w address len) (carriedOut w (registerPlan w address len))

@@ -7,7 +7,9 @@ ghost use lib.Dec.{eqb, leb};
 ghost use lib.ListN.{length, getD, replicate};
 ghost use Rattle.layout.specs.Layout.{entriesOf};
 ghost use Rattle.chunks.specs.Chunks.{isPower, empty};
-ghost use Rattle.registrar_state.specs.World.{world, simple, flatUnaligned, outcome, requestOf, withRequest, ramOf, builtState, flatOf, lengthsFit, buildRefusal, buildOf, callRefusal, chunksFit, registerRefusal, allRefusal, isKnown, registerPlan, allPlan, registerOf, allOf, answerRefusal, failedOf, restOf, takenTo, donePlan, doneOf};
+ghost use Rattle.registrar_state.specs.World.{world, simple, flatUnaligned, outcome, requestOf, withRequest, offsetOf, granularityOf, ramOf, seenIn, builtState, flatOf, lengthsFit, buildRefusal, buildOf, callRefusal, chunksFit, allRefusal, isKnown, allPlan, registerOf, allOf, answerRefusal, failedOf, restOf, takenTo, donePlan, doneOf};
+ghost use Rattle.registrar_steps.specs.Steps.{registerFrom};
+ghost use Rattle.laws.specs.Refusal.{unless};
 use layout::MemoryRange;
 use registrar_steps::Answer;
 use registrar_steps::Plan;
@@ -169,36 +171,38 @@ fn call_refusal(state: &[u64], registered: &[u64], failed: &[u64]) -> u64
 }
 
 // Whether no chunk past the last is touched.
-fn chunks_fit(state: &[u64], address: u64, len: u64) -> bool
+fn chunks_fit(state: &[u64], first: u64, end: u64) -> bool
     requires { ⌜ length (now state) ≡ 108 ⌝ }
-    ensures { λ r. ⌜ r ≡ chunksFit (now (state .entry)) address len ⌝ }
+    ensures { λ r. ⌜ r ≡ chunksFit (now (state .entry)) first end ⌝ }
 {
-    let g = state[10];
-    let end = chunks::end_chunk(g, address, len);
-    if end <= chunks::first_chunk(g, address) {
+    if end <= first {
         return true;
     }
-    end <= chunks::chunk_count(ram_of(state), g)
+    end <= chunks::chunk_count(ram_of(state), state[10])
 }
 
+// 0 where the state block is too short.
+pub fn granularity(state: &[u64]) -> u64
+    ensures { λ r. ⌜ r ≡ granularityOf (now (state .entry)) ⌝ }
+{
+    numbers::word_at(state, 10)
+}
+
+// For a request that touches the chunks from `first` to before `end`.
 pub fn register_refusal(
     state: &[u64],
     registered: &[u64],
     failed: &[u64],
-    address: u64,
-    len: u64,
+    first: u64,
+    end: u64,
 ) -> u64
-    ensures { λ r. ⌜ r ≡ registerRefusal (world (now (state .entry)) (now (registered .entry)) (now (failed .entry))) address len ⌝ }
+    ensures { λ r. ⌜ r ≡ callRefusal (world (now (state .entry)) (now (registered .entry)) (now (failed .entry))) (unless (chunksFit (now (state .entry)) first end) 9 0) ⌝ }
 {
     let n = call_refusal(state, registered, failed);
     if n != 0 {
         return n;
     }
-    if chunks_fit(state, address, len) {
-        0
-    } else {
-        9
-    }
+    if chunks_fit(state, first, end) { 0 } else { 9 }
 }
 
 fn is_power_from(least: u64, n: u64) -> bool
@@ -286,40 +290,35 @@ pub fn build_refusal(
 }
 
 // Whether a request finds its chunks registered, and the state as a finished call leaves it.
-pub fn is_known(state: &[u64], registered: &[u64], address: u64, len: u64) -> bool
+pub fn is_known(state: &[u64], registered: &[u64], first: u64, end: u64) -> bool
     requires { ⌜ length (now state) ≡ 108 ⌝ }
-    ensures { λ r. ⌜ r ≡ isKnown (now (state .entry)) (now (registered .entry)) address len ⌝ }
+    ensures { λ r. ⌜ r ≡ isKnown (now (state .entry)) (now (registered .entry)) first end ⌝ }
 {
     if !registrar_steps::is_idle(load(state)) {
         return false;
     }
-    let g = state[10];
-    let end = chunks::end_chunk(g, address, len);
-    end <= chunks::first_clear(registered, chunks::first_chunk(g, address), end)
+    end <= chunks::first_clear(registered, first, end)
 }
 
 pub fn register_plan(
     state: &[u64],
     registered: &[u64],
     failed: &[u64],
-    address: u64,
-    len: u64,
+    first: u64,
+    end: u64,
 ) -> Plan
     requires { ⌜ length (now state) ≡ 108 ⌝ }
-    ensures { λ r. ⌜ r ≡ registerPlan (world (now (state .entry)) (now (registered .entry)) (now (failed .entry))) address len ⌝ }
+    ensures { λ r. ⌜ r ≡ registerFrom (seenIn (world (now (state .entry)) (now (registered .entry)) (now (failed .entry)))) (offsetOf (now (state .entry))) 0 first end ⌝ }
 {
-    let g = state[10];
-    let first = chunks::first_chunk(g, address);
-    let last = chunks::end_chunk(g, address, len);
     registrar_steps::register_from(
         ram_of(state),
         state[9],
-        g,
+        state[10],
         registered,
         failed,
         0,
         first,
-        last,
+        end,
     )
 }
 

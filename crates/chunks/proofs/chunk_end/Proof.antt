@@ -8,20 +8,20 @@ use Rattle.chunks.proofs.chunk_end.Tie as tie
 returns : tie.Need-returns
 returns c = laws.end-none (c .before .args .c) (c .before .args .g) (c .before .args .end) (c .if1 .taken)
 
-div-if2 : tie.Need-div-if2
-div-if2 c = search needs
+div-requires : tie.Need-div-requires
+div-requires c κs = search needs
 
 returns-2 : tie.Need-returns-2
-returns-2 c = laws.end-first (c .before .before .args .c) (c .before .before .args .g) (c .before .before .args .end) (c .before .if1 .left) (c .if2 .taken)
+returns-2 c = laws.end-first (c .before .before .before .args .c) (c .before .before .before .args .g) (c .before .before .before .args .end) (c .before .before .if1 .left) (omega (arith, c .before .div .ensures, c .if2 .taken))
 
 add-result : tie.Need-add-result
-add-result c = omega (arith, laws.quotient-le (c .before .before .args .end) (c .before .before .args .g))
+add-result c = omega (arith, laws.quotient-le (c .before .before .before .args .end) (c .before .before .before .args .g), c .before .div .ensures)
 
 mul-result : tie.Need-mul-result
-mul-result c = omega (arith, laws.chunk-fits (c .before .before .args .c) (c .before .before .args .g) (c .before .before .args .end) (c .before .if1 .left) (c .if2 .left))
+mul-result c = omega (arith, laws.chunk-fits (c .before .before .before .args .c) (c .before .before .before .args .g) (c .before .before .before .args .end) (c .before .before .if1 .left) (omega (arith, c .before .div .ensures, c .if2 .left)))
 
 returns-3 : tie.Need-returns-3
-returns-3 c = laws.end-last (c .before .before .args .c) (c .before .before .args .g) (c .before .before .args .end) (c .before .if1 .left) (c .if2 .left)
+returns-3 c = laws.end-last (c .before .before .before .args .c) (c .before .before .before .args .g) (c .before .before .before .args .end) (c .before .before .if1 .left) (omega (arith, c .before .div .ensures, c .if2 .left))
 
 pub chunk-end-spec : {M : Type 1} → statement M
-chunk-end-spec = tie.close (tie.spec returns div-if2 returns-2 add-result mul-result returns-3)
+chunk-end-spec = tie.close (tie.spec returns div-requires returns-2 add-result mul-result returns-3)

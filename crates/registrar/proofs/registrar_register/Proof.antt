@@ -1,10 +1,18 @@
 -- `registrar::registrar_register` meets its contract. Assumes nothing.
 use borrow.Author.Needs.{needs}
-use mathlib.Core.Path.{sym, _∙_}
 use Rattle.registrar_state.specs.World.{world, registerOf}
 use Rattle.registrar.specs.Laws as laws
 use Rattle.registrar.proofs.registrar_register.Statement.{statement}
 use Rattle.registrar.proofs.registrar_register.Tie as tie
+
+granularity-requires : tie.Need-granularity-requires
+granularity-requires c κs = search needs
+
+first-chunk-requires : tie.Need-first-chunk-requires
+first-chunk-requires c κs = search needs
+
+end-chunk-requires : tie.Need-end-chunk-requires
+end-chunk-requires c κs = search needs
 
 register-refusal-requires : tie.Need-register-refusal-requires
 register-refusal-requires c κs = search needs
@@ -23,10 +31,26 @@ same-length-3 c = search needs
 
 returns : tie.Need-returns
 unfolding registerOf
-returns c = laws.call-refused (world (c .before .before .before .before .before .before .before .before .before .args .state .now) (c .before .before .before .before .before .before .before .before .before .args .registered .now) (c .before .before .before .before .before .before .before .before .before .args .failed .now)) (c .before .before .register-refusal .result) _ (c .before .before .register-refusal .ensures) _ (c .flatten .result) (c .before .if1 .taken) (c .flatten .ensures)
+returns c =
+    let a = c .before .before .before .before .before .before .before .before .before .before .before .before .before .args in
+    let w = world (a .state .now) (a .registered .now) (a .failed .now) in
+    let g = c .before .before .before .before .before .before .before .before .granularity in
+    let f = c .before .before .before .before .before .before .before .first-chunk in
+    let e = c .before .before .before .before .before .before .end-chunk in
+    let n = c .before .before .register-refusal in
+    let nh = laws.touched-refusal w (a .address) (a .len) (g .result) (f .result) (e .result) (g .ensures) (f .ensures) (e .ensures) (n .result) (n .ensures) in
+    laws.call-refused w (n .result) _ nh _ (c .flatten .result) (c .before .if1 .taken) (c .flatten .ensures)
 
 is-known-requires : tie.Need-is-known-requires
-is-known-requires c κs = laws.register-long (world (c .before .before .before .before .before .before .before .before .before .before .args .state .now) (c .before .before .before .before .before .before .before .before .before .before .args .registered .now) (c .before .before .before .before .before .before .before .before .before .before .args .failed .now)) (c .before .before .before .register-refusal .result) (c .before .before .if1 .left) (c .before .before .before .before .before .before .before .before .before .before .args .address) (c .before .before .before .before .before .before .before .before .before .before .args .len) (c .before .before .before .register-refusal .ensures)
+is-known-requires c κs =
+    let a = c .before .before .before .before .before .before .before .before .before .before .before .before .before .before .args in
+    let w = world (a .state .now) (a .registered .now) (a .failed .now) in
+    let g = c .before .before .before .before .before .before .before .before .before .granularity in
+    let f = c .before .before .before .before .before .before .before .before .first-chunk in
+    let e = c .before .before .before .before .before .before .before .end-chunk in
+    let n = c .before .before .before .register-refusal in
+    let nh = laws.touched-refusal w (a .address) (a .len) (g .result) (f .result) (e .result) (g .ensures) (f .ensures) (e .ensures) (n .result) (n .ensures) in
+    laws.register-long w (n .result) (c .before .before .if1 .left) (a .address) (a .len) nh
 
 flatten-requires-2 : tie.Need-flatten-requires-2
 flatten-requires-2 c κs = search needs
@@ -42,16 +66,40 @@ same-length-6 c = search needs
 
 returns-2 : tie.Need-returns-2
 unfolding registerOf
-returns-2 c = laws.call-known (world (c .before .before .before .before .before .before .before .before .before .before .before .before .before .args .state .now) (c .before .before .before .before .before .before .before .before .before .before .before .before .before .args .registered .now) (c .before .before .before .before .before .before .before .before .before .before .before .before .before .args .failed .now)) (c .before .before .before .before .before .before .register-refusal .result) (c .before .before .before .before .before .before .before .before .before .before .before .before .before .args .address) (c .before .before .before .before .before .before .before .before .before .before .before .before .before .args .len) (c .flatten2 .result) (c .before .before .before .before .before .before .register-refusal .ensures) (c .before .before .before .before .before .if1 .left) (laws.register-long (world (c .before .before .before .before .before .before .before .before .before .before .before .before .before .args .state .now) (c .before .before .before .before .before .before .before .before .before .before .before .before .before .args .registered .now) (c .before .before .before .before .before .before .before .before .before .before .before .before .before .args .failed .now)) (c .before .before .before .before .before .before .register-refusal .result) (c .before .before .before .before .before .if1 .left) (c .before .before .before .before .before .before .before .before .before .before .before .before .before .args .address) (c .before .before .before .before .before .before .before .before .before .before .before .before .before .args .len) (c .before .before .before .before .before .before .register-refusal .ensures)) (sym (c .before .before .is-known .ensures) ∙ c .before .if2 .taken) (c .flatten2 .ensures)
+returns-2 c =
+    let a = c .before .before .before .before .before .before .before .before .before .before .before .before .before .before .before .before .before .args in
+    let w = world (a .state .now) (a .registered .now) (a .failed .now) in
+    let g = c .before .before .before .before .before .before .before .before .before .before .before .before .granularity in
+    let f = c .before .before .before .before .before .before .before .before .before .before .before .first-chunk in
+    let e = c .before .before .before .before .before .before .before .before .before .before .end-chunk in
+    let n = c .before .before .before .before .before .before .register-refusal in
+    let nh = laws.touched-refusal w (a .address) (a .len) (g .result) (f .result) (e .result) (g .ensures) (f .ensures) (e .ensures) (n .result) (n .ensures) in
+    laws.call-known w (n .result) (a .address) (a .len) (c .flatten2 .result) nh (c .before .before .before .before .before .if1 .left) (laws.register-long w (n .result) (c .before .before .before .before .before .if1 .left) (a .address) (a .len) nh) (laws.touched-known w (a .address) (a .len) (g .result) (f .result) (e .result) (g .ensures) (f .ensures) (e .ensures) (c .before .before .is-known .result) (c .before .before .is-known .ensures) (c .before .if2 .taken)) (c .flatten2 .ensures)
 
 register-plan-requires : tie.Need-register-plan-requires
-register-plan-requires c κs = laws.register-long (world (c .before .before .before .before .before .before .before .before .before .before .before .before .before .before .before .args .state .now) (c .before .before .before .before .before .before .before .before .before .before .before .before .before .before .before .args .registered .now) (c .before .before .before .before .before .before .before .before .before .before .before .before .before .before .before .args .failed .now)) (c .before .before .before .before .before .before .before .before .register-refusal .result) (c .before .before .before .before .before .before .before .if1 .left) (c .before .before .before .before .before .before .before .before .before .before .before .before .before .before .before .args .address) (c .before .before .before .before .before .before .before .before .before .before .before .before .before .before .before .args .len) (c .before .before .before .before .before .before .before .before .register-refusal .ensures)
+register-plan-requires c κs =
+    let a = c .before .before .before .before .before .before .before .before .before .before .before .before .before .before .before .before .before .before .before .args in
+    let w = world (a .state .now) (a .registered .now) (a .failed .now) in
+    let g = c .before .before .before .before .before .before .before .before .before .before .before .before .before .before .granularity in
+    let f = c .before .before .before .before .before .before .before .before .before .before .before .before .before .first-chunk in
+    let e = c .before .before .before .before .before .before .before .before .before .before .before .before .end-chunk in
+    let n = c .before .before .before .before .before .before .before .before .register-refusal in
+    let nh = laws.touched-refusal w (a .address) (a .len) (g .result) (f .result) (e .result) (g .ensures) (f .ensures) (e .ensures) (n .result) (n .ensures) in
+    laws.register-long w (n .result) (c .before .before .before .before .before .before .before .if1 .left) (a .address) (a .len) nh
 
 set-chunks-requires : tie.Need-set-chunks-requires
 set-chunks-requires c κs = search needs
 
 save-requires : tie.Need-save-requires
-save-requires c κs = laws.register-long (world (c .before .before .before .before .before .before .before .before .before .before .before .before .before .before .before .before .before .before .before .before .before .args .state .now) (c .before .before .before .before .before .before .before .before .before .before .before .before .before .before .before .before .before .before .before .before .before .args .registered .now) (c .before .before .before .before .before .before .before .before .before .before .before .before .before .before .before .before .before .before .before .before .before .args .failed .now)) (c .before .before .before .before .before .before .before .before .before .before .before .before .before .before .register-refusal .result) (c .before .before .before .before .before .before .before .before .before .before .before .before .before .if1 .left) (c .before .before .before .before .before .before .before .before .before .before .before .before .before .before .before .before .before .before .before .before .before .args .address) (c .before .before .before .before .before .before .before .before .before .before .before .before .before .before .before .before .before .before .before .before .before .args .len) (c .before .before .before .before .before .before .before .before .before .before .before .before .before .before .register-refusal .ensures)
+save-requires c κs =
+    let a = c .before .before .before .before .before .before .before .before .before .before .before .before .before .before .before .before .before .before .before .before .before .before .before .before .before .args in
+    let w = world (a .state .now) (a .registered .now) (a .failed .now) in
+    let g = c .before .before .before .before .before .before .before .before .before .before .before .before .before .before .before .before .before .before .before .before .granularity in
+    let f = c .before .before .before .before .before .before .before .before .before .before .before .before .before .before .before .before .before .before .before .first-chunk in
+    let e = c .before .before .before .before .before .before .before .before .before .before .before .before .before .before .before .before .before .before .end-chunk in
+    let n = c .before .before .before .before .before .before .before .before .before .before .before .before .before .before .register-refusal in
+    let nh = laws.touched-refusal w (a .address) (a .len) (g .result) (f .result) (e .result) (g .ensures) (f .ensures) (e .ensures) (n .result) (n .ensures) in
+    laws.register-long w (n .result) (c .before .before .before .before .before .before .before .before .before .before .before .before .before .if1 .left) (a .address) (a .len) nh
 
 flatten-requires-3 : tie.Need-flatten-requires-3
 flatten-requires-3 c κs = search needs
@@ -68,15 +116,23 @@ same-length-9 c = search needs
 returns-3 : tie.Need-returns-3
 unfolding registerOf
 returns-3 c =
-    let w = (world (c .before .before .before .before .before .before .before .before .before .before .before .before .before .before .before .before .before .before .before .before .before .before .before .before .before .args .state .now) (c .before .before .before .before .before .before .before .before .before .before .before .before .before .before .before .before .before .before .before .before .before .before .before .before .before .args .registered .now) (c .before .before .before .before .before .before .before .before .before .before .before .before .before .before .before .before .before .before .before .before .before .before .before .before .before .args .failed .now)) in
+    let a = c .before .before .before .before .before .before .before .before .before .before .before .before .before .before .before .before .before .before .before .before .before .before .before .before .before .before .before .before .before .args in
+    let w = world (a .state .now) (a .registered .now) (a .failed .now) in
+    let g = c .before .before .before .before .before .before .before .before .before .before .before .before .before .before .before .before .before .before .before .before .before .before .before .before .granularity in
+    let f = c .before .before .before .before .before .before .before .before .before .before .before .before .before .before .before .before .before .before .before .before .before .before .before .first-chunk in
+    let e = c .before .before .before .before .before .before .before .before .before .before .before .before .before .before .before .before .before .before .before .before .before .before .end-chunk in
     let n = c .before .before .before .before .before .before .before .before .before .before .before .before .before .before .before .before .before .before .register-refusal in
+    let nh = laws.touched-refusal w (a .address) (a .len) (g .result) (f .result) (e .result) (g .ensures) (f .ensures) (e .ensures) (n .result) (n .ensures) in
     let p = c .before .before .before .before .before .before .before .before .before .register-plan in
-    laws.call-carried w (n .result) _ (n .ensures) w _ (p .result) _ _ (c .flatten3 .result) (c .before .before .before .before .before .before .before .before .before .before .before .before .before .before .before .before .before .if1 .left) (p .ensures) (c .before .before .before .save .ensures) (c .before .before .before .before .before .before .before .set-chunks .ensures) (c .flatten3 .ensures)
+    laws.call-carried w (n .result) _ nh w _ (p .result) _ _ (c .flatten3 .result) (c .before .before .before .before .before .before .before .before .before .before .before .before .before .before .before .before .before .if1 .left) (laws.touched-plan w (a .address) (a .len) (g .result) (f .result) (e .result) (g .ensures) (f .ensures) (e .ensures) (p .result) (p .ensures)) (c .before .before .before .save .ensures) (c .before .before .before .before .before .before .before .set-chunks .ensures) (c .flatten3 .ensures)
 
 pub registrar-register-spec : {M : Type 1} → statement M
 registrar-register-spec =
     tie.close
     (tie.spec
+    granularity-requires
+    first-chunk-requires
+    end-chunk-requires
     register-refusal-requires
     flatten-requires
     same-length

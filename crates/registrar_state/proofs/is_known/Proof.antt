@@ -12,32 +12,14 @@ is-idle-requires : tie.Need-is-idle-requires
 is-idle-requires c κs = search needs
 
 returns : tie.Need-returns
-returns c = laws.known-not (c .before .before .before .before .before .args .state .now) (c .before .before .before .before .before .args .registered .now) (c .before .before .before .before .before .args .address) (c .before .before .before .before .before .args .len) (c .before .before .load .result) (c .before .is-idle .result) (c .before .before .load .ensures) (c .before .is-idle .ensures) (not-true _ (c .if1 .taken))
-
-shared-slice-read-g : tie.Need-shared-slice-read-g
-shared-slice-read-g c = search needs
-
-end-chunk-requires : tie.Need-end-chunk-requires
-end-chunk-requires c κs = search needs
-
-first-chunk-requires : tie.Need-first-chunk-requires
-first-chunk-requires c κs = search needs
+returns c = laws.known-not (c .before .before .before .before .before .args .state .now) (c .before .before .before .before .before .args .registered .now) (c .before .before .before .before .before .args .first) (c .before .before .before .before .before .args .end) (c .before .before .load .result) (c .before .is-idle .result) (c .before .before .load .ensures) (c .before .is-idle .ensures) (not-true _ (c .if1 .taken))
 
 first-clear-requires : tie.Need-first-clear-requires
 first-clear-requires c κs = search needs
 
 returns-2 : tie.Need-returns-2
-returns-2 c = laws.known-is (c .before .before .before .before .before .before .before .before .before .args .state .now) (c .before .before .before .before .before .before .before .before .before .args .registered .now) (c .before .before .before .before .before .before .before .before .before .args .address) (c .before .before .before .before .before .before .before .before .before .args .len) (c .before .before .before .before .before .before .load .result) (c .before .before .before .before .before .is-idle .result) (c .before .before .before .before .before .before .load .ensures) (c .before .before .before .before .before .is-idle .ensures) (c .before .first-chunk .result) (c .before .before .end-chunk .result) (c .first-clear .result) (not-false _ (c .before .before .before .before .if1 .left)) (c .before .first-chunk .ensures) (c .before .before .end-chunk .ensures) (c .first-clear .ensures)
+returns-2 c = laws.known-is (c .before .before .before .before .before .before .args .state .now) (c .before .before .before .before .before .before .args .registered .now) (c .before .before .before .before .before .before .args .first) (c .before .before .before .before .before .before .args .end) (c .before .before .before .load .result) (c .before .before .is-idle .result) (c .before .before .before .load .ensures) (c .before .before .is-idle .ensures) (c .first-clear .result) (not-false _ (c .before .if1 .left)) (c .first-clear .ensures)
 
 pub is-known-spec : {M : Type 1} → statement M
 is-known-spec =
-    tie.close
-    (tie.spec
-    load-requires
-    is-idle-requires
-    returns
-    shared-slice-read-g
-    end-chunk-requires
-    first-chunk-requires
-    first-clear-requires
-    returns-2)
+    tie.close (tie.spec load-requires is-idle-requires returns first-clear-requires returns-2)

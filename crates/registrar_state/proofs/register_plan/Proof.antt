@@ -5,35 +5,27 @@ use Rattle.registrar_state.specs.Laws as laws
 use Rattle.registrar_state.proofs.register_plan.Statement.{statement}
 use Rattle.registrar_state.proofs.register_plan.Tie as tie
 
-shared-slice-read-g : tie.Need-shared-slice-read-g
-shared-slice-read-g c = search needs
-
-first-chunk-requires : tie.Need-first-chunk-requires
-first-chunk-requires c κs = search needs
-
-end-chunk-requires : tie.Need-end-chunk-requires
-end-chunk-requires c κs = search needs
-
 ram-of-requires : tie.Need-ram-of-requires
 ram-of-requires c κs = search needs
 
 shared-slice-read-register-from : tie.Need-shared-slice-read-register-from
 shared-slice-read-register-from c = search needs
 
+shared-slice-read-register-from-2 : tie.Need-shared-slice-read-register-from-2
+shared-slice-read-register-from-2 c = search needs
+
 register-from-requires : tie.Need-register-from-requires
 register-from-requires c κs = search needs
 
 returns : tie.Need-returns
-returns c = laws.register-planned (world (c .before .before .before .before .before .before .before .before .before .args .state .now) (c .before .before .before .before .before .before .before .before .before .args .registered .now) (c .before .before .before .before .before .before .before .before .before .args .failed .now)) (c .before .before .ram-of .result .now) (c .register-from .result) (c .before .before .ram-of .ensures) (c .before .before .before .before .before .before .before .before .before .args .address) (c .before .before .before .before .before .before .before .before .before .args .len) (c .before .before .before .before .first-chunk .result) (c .before .before .before .end-chunk .result) (c .before .before .before .before .first-chunk .ensures) (c .before .before .before .end-chunk .ensures) (c .register-from .ensures)
+returns c = laws.register-planned (world (c .before .before .before .before .before .before .before .args .state .now) (c .before .before .before .before .before .before .before .args .registered .now) (c .before .before .before .before .before .before .before .args .failed .now)) (c .before .before .before .ram-of .result .now) (c .register-from .result) (c .before .before .before .ram-of .ensures) (c .before .before .before .before .before .before .before .args .first) (c .before .before .before .before .before .before .before .args .end) (c .register-from .ensures)
 
 pub register-plan-spec : {M : Type 1} → statement M
 register-plan-spec =
     tie.close
     (tie.spec
-    shared-slice-read-g
-    first-chunk-requires
-    end-chunk-requires
     ram-of-requires
     shared-slice-read-register-from
+    shared-slice-read-register-from-2
     register-from-requires
     returns)

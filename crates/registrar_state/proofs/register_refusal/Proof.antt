@@ -4,7 +4,6 @@ use mathlib.Core.Path.{refl, sym, _∙_}
 use Rattle.registrar_state.specs.World.{world}
 use Rattle.registrar_state.specs.Laws as laws
 use Rattle.laws.specs.Refusal.{refuses, passes}
-use Rattle.registrar_state.specs.World.{registerRefusal}
 use Rattle.registrar_state.proofs.register_refusal.Statement.{statement}
 use Rattle.registrar_state.proofs.register_refusal.Tie as tie
 
@@ -12,18 +11,15 @@ call-refusal-requires : tie.Need-call-refusal-requires
 call-refusal-requires c κs = search needs
 
 returns : tie.Need-returns
-unfolding registerRefusal
 returns c = laws.call-refused (world (c .before .before .before .before .before .args .state .now) (c .before .before .before .before .before .args .registered .now) (c .before .before .before .before .before .args .failed .now)) (c .before .call-refusal .result) (c .before .call-refusal .ensures) _ (c .if1 .taken)
 
 chunks-fit-requires : tie.Need-chunks-fit-requires
 chunks-fit-requires c κs = laws.call-long (world (c .before .before .before .before .before .args .state .now) (c .before .before .before .before .before .args .registered .now) (c .before .before .before .before .before .args .failed .now)) (c .before .call-refusal .result) (c .before .call-refusal .ensures) (c .if1 .left)
 
 returns-2 : tie.Need-returns-2
-unfolding registerRefusal
 returns-2 c = laws.call-passed (world (c .before .before .before .before .before .before .before .args .state .now) (c .before .before .before .before .before .before .before .args .registered .now) (c .before .before .before .before .before .before .before .args .failed .now)) (c .before .before .before .call-refusal .result) (c .before .before .before .call-refusal .ensures) _ _ (c .before .before .if1 .left) (passes _ _ _ _ (sym (c .before .chunks-fit .ensures) ∙ c .if2 .taken) refl)
 
 returns-3 : tie.Need-returns-3
-unfolding registerRefusal
 returns-3 c = laws.call-passed (world (c .before .before .before .before .before .before .before .args .state .now) (c .before .before .before .before .before .before .before .args .registered .now) (c .before .before .before .before .before .before .before .args .failed .now)) (c .before .before .before .call-refusal .result) (c .before .before .before .call-refusal .ensures) _ _ (c .before .before .if1 .left) (refuses _ _ _ (sym (c .before .chunks-fit .ensures) ∙ c .if2 .left))
 
 pub register-refusal-spec : {M : Type 1} → statement M
