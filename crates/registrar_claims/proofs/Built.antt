@@ -2,20 +2,20 @@
 use native.Mathlib.Omega.{arith}
 use mathlib.Core.Path.{_≡_, refl, sym, ap, ap₂, _∙_}
 use mathlib.Core.Logic.{⊎-elim}
-use mathlib.Core.Bool.{Bool, true, false, not, cond}
+use mathlib.Core.Bool.{Bool, true, false, not, cond, _&&_}
 use mathlib.Core.List.{List, [], _∷_}
-use Prim.Native.Nat.{ℕ, _+_, _-_, _*_, _%_, _^_, _≤_, _<_, max}
-use lib.Dec.{eqb, ltb}
+use Prim.Native.Nat.{ℕ, _+_, _-_, _*_, _/_, _%_, _^_, _≤_, _<_, max}
+use lib.Dec.{eqb, leb, ltb}
 use lib.ListN.{length, getD, drop, take, replicate, length-replicate, getD-replicate, List·getD-eq-default}
 use lib.Seq.{drop-drop, take-at, getD-drop}
 use borrow.Author.Tests.{eqb-true, eq-eqb, le-leb}
-use Rattle.laws.specs.Bools.{and-true, lt-or-le}
+use Rattle.laws.specs.Bools.{and-true, both-true, lt-or-le}
 use Rattle.laws.specs.Refusal.{passed}
 use Rattle.layout.specs.declared.MemoryRangeWithNode.{MemoryRangeWithNode}
 use Rattle.layout.specs.Layout.{entriesOf, ordered, refusalOf, lastEnd}
 use Rattle.layout.proofs.Laws.{fit, Fit, entries-count}
 use Rattle.bitmap.specs.Pages.{bitAt}
-use Rattle.chunks.specs.Chunks.{firstChunk, endChunk, firstNot}
+use Rattle.chunks.specs.Chunks.{up, firstChunk, endChunk, isPower, firstNot}
 use Rattle.chunks.specs.Scan.{first-all}
 use Rattle.registrar_steps.specs.declared.Request.{Request}
 use Rattle.registrar_steps.specs.declared.Answer.the-variants.{Done, Refused}
@@ -27,12 +27,14 @@ use Rattle.registrar_claims.specs.Runs.{Call, Build, RegisterRange, Regi
 use Rattle.registrar_claims.specs.Whole.{wholeAll, wholeRegister, Words, Match}
 use Rattle.registrar_claims.proofs.Steps.{marked-words, register-is-whole}
 use Rattle.registrar_claims.proofs.Stretches.{all-is-whole}
+use Rattle.registrar_claims.proofs.Plain.{Pages, first-plain, end-plain, fit-pages}
 use Rattle.registrar_claims.proofs.Requests.{Fits, idle-fits, register-asks, all-asks, done-asks}
 
 pub record Sound (w : World) : Type 0 where
   pub in-order : ordered 0 (entriesIn (w .state)) ≡ true
   pub words : Words (w .registered)
   pub request : Fits (requestOf (w .state))
+  pub pages : Pages (granularityOf (w .state))
 
 -- ---- the layout stands in the words that no request uses
 
@@ -46,6 +48,11 @@ entries-tail s =
 
 kept-order : (s t : List ℕ) → drop 9 t ≡ drop 9 s → ordered 0 (entriesIn s) ≡ true → ordered 0 (entriesIn t) ≡ true
 kept-order s t e h = ap (ordered 0) (entries-tail t ∙ ap entries-of e ∙ sym (entries-tail s)) ∙ h
+
+kept-pages : (s t : List ℕ) → drop 9 t ≡ drop 9 s → Pages (granularityOf s) → Pages (granularityOf t)
+kept-pages s t e k =
+    let same : granularityOf t ≡ granularityOf s = sym (getD-drop 9 t 1 0) ∙ ap (λ (l : List ℕ). getD l 1 0) e ∙ getD-drop 9 s 1 0 in
+    record { pages = k .pages; some = k .some; whole = same ∙ k .whole }
 
 -- ---- a build
 
@@ -71,8 +78,9 @@ built-sound w ram o g z =
     let d = passed (ltb (o + lastEnd (entriesOf ram)) (2 ^ 64)) 0 _ (b .1) in
     let e = passed (eqb (refusalOf ram) 0) 1 _ (d .1) in
     let k : Fit ram = fit ram (eqb-true (refusalOf ram) 0 (e .0)) in
+    let p = both-true (leb 4096 g) (isPower g) (passed (leb 4096 g && isPower g) 8 _ (e .1) .0) in
     rw (eq-eqb (buildRefusal w ram o g) 0 z)
-    (record { in-order = ap (ordered 0) (entries-built ram o g k) ∙ k .in-order; words = zeros-words (length (w .registered)); request = idle-fits })
+    (record { in-order = ap (ordered 0) (entries-built ram o g k) ∙ k .in-order; words = zeros-words (length (w .registered)); request = idle-fits; pages = fit-pages g (p .0) (p .1) })
 
 build-sound : (w : World) (ram : List ℕ) (o g : ℕ) → Sound w → Sound (buildOf w ram o g .world)
 unfolding buildOf
@@ -94,7 +102,7 @@ decided-sound w n o h k = go (eqb n 0)
 
 carried-sound : (w : World) (p : Plan) → Sound w → Fits (p .request) → Sound (carriedOut w p .world)
 carried-sound w p h f =
-    record { in-order = kept-order (w .state) (withRequest (p .request) (w .state)) refl (h .in-order); words = marked-words (p .from) (p .to) (w .registered) (h .words); request = f }
+    record { in-order = kept-order (w .state) (withRequest (p .request) (w .state)) refl (h .in-order); words = marked-words (p .from) (p .to) (w .registered) (h .words); request = f; pages = kept-pages (w .state) (withRequest (p .request) (w .state)) refl (h .pages) }
 
 pub call-sound : (w : World) (x : Call) → Sound w → Sound (give w x .world)
 unfolding give registerOf allOf doneOf failedOf
@@ -103,10 +111,10 @@ call-sound w (RegisterRange a l) h = decided-sound w (registerRefusal w a l) (ca
 call-sound w (RegisterAll al ig) h = decided-sound w (allRefusal w al ig) (carriedOut w (allPlan w al ig)) h (carried-sound w (allPlan w al ig) h (all-asks w (h .in-order) 0 al ig 0))
 call-sound w AnswerDone h =
     let q : Request = requestOf (w .state) in
-    let v : Sound (afterTaken w) = record { in-order = h .in-order; words = marked-words (q .from) (takenTo (w .state)) (w .registered) (h .words); request = h .request } in
+    let v : Sound (afterTaken w) = record { in-order = h .in-order; words = marked-words (q .from) (takenTo (w .state)) (w .registered) (h .words); request = h .request; pages = h .pages } in
     decided-sound w (answerRefusal w) (carriedOut (afterTaken w) (donePlan (afterTaken w))) h (carried-sound (afterTaken w) (donePlan (afterTaken w)) v (done-asks (afterTaken w) (h .in-order) (h .request)))
 call-sound w AnswerFailed h =
-    decided-sound w (answerRefusal w) _ h (record { in-order = kept-order (w .state) (withRequest idle (w .state)) refl (h .in-order); words = h .words; request = idle-fits })
+    decided-sound w (answerRefusal w) _ h (record { in-order = kept-order (w .state) (withRequest idle (w .state)) refl (h .in-order); words = h .words; request = idle-fits; pages = kept-pages (w .state) (withRequest idle (w .state)) refl (h .pages) })
 
 -- any list of calls and answers
 pub always-sound : (xs : List Call) (w : World) → Sound w → Sound (after w xs)
@@ -146,3 +154,12 @@ pub registered-always-kept : (w : World) (ram : List ℕ) (o g : ℕ) (xs : List
     → ((c : ℕ) → firstChunk k address ≤ c → c < endChunk k address len → bitAt 64 (v .registered) c ≡ true) → registerOf v address len ≡ record { world = v; reply = flatOf (Done 0) }
 registered-always-kept w ram o g xs address len z n h =
     registered-kept (after (buildOf w ram o g .world) xs) address len (always-sound xs (buildOf w ram o g .world) (built-sound w ram o g z)) n h
+
+-- THE CLAIM of the chunks that a request touches: widened to pages or not, they are those of its bytes
+pub chunks-always-plain : (w : World) (ram : List ℕ) (o g : ℕ) (xs : List Call) (address len : ℕ) → let v : World = after (buildOf w ram o g .world) xs in
+    let k : ℕ = granularityOf (v .state) in
+    buildRefusal w ram o g ≡ 0 → (firstChunk k address ≡ address / k) × (endChunk k address len ≡ up (address + len) k)
+chunks-always-plain w ram o g xs address len z =
+    let v : World = after (buildOf w ram o g .world) xs in
+    let s = always-sound xs (buildOf w ram o g .world) (built-sound w ram o g z) in
+    (first-plain (granularityOf (v .state)) address len (s .pages), end-plain (granularityOf (v .state)) address len (s .pages))

@@ -4,6 +4,7 @@ pub mod Counts
 pub mod Spans
 pub mod Steps
 pub mod Stretches
+pub mod Plain
 pub mod Requests
 pub mod Built
 pub mod Examples

@@ -172,7 +172,7 @@ part-end al s = go (ltb (up (s .start) al) (s .end / al))
     go true = div-mul-le-self (s .end) al
     go false = omega arith
 
-up-above : (n g : ℕ) → zero < g → n ≤ up n g * g
+pub up-above : (n g : ℕ) → zero < g → n ≤ up n g * g
 up-above n g h = go (eqb (n % g) 0) refl
   where
     go : (t : Bool) → eqb (n % g) 0 ≡ t → n ≤ cond t (n / g) (n / g + 1) * g
