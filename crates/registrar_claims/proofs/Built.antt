@@ -8,33 +8,34 @@ use Prim.Native.Nat.{ℕ, _+_, _-_, _*_, _/_, _%_, _^_, _≤_, _<_, max}
 use lib.Dec.{eqb, leb, ltb}
 use lib.ListN.{length, getD, drop, take, replicate, length-replicate, getD-replicate, List·getD-eq-default}
 use lib.Seq.{drop-drop, take-at, getD-drop}
-use borrow.Author.Tests.{eqb-true, eq-eqb, le-leb}
+use borrow.Author.Tests.{eqb-true, eq-eqb, le-leb, ltb-true}
 use Rattle.laws.specs.Bools.{and-true, both-true, lt-or-le}
 use Rattle.laws.specs.Refusal.{passed}
 use Rattle.layout.specs.declared.MemoryRangeWithNode.{MemoryRangeWithNode}
-use Rattle.layout.specs.Layout.{entriesOf, ordered, refusalOf, lastEnd}
+use Rattle.layout.specs.Layout.{range, entriesOf, ordered, refusalOf, lastEnd}
 use Rattle.layout.proofs.Laws.{fit, Fit, entries-count}
 use Rattle.bitmap.specs.Pages.{bitAt}
 use Rattle.chunks.specs.Chunks.{up, firstChunk, endChunk, isPower, firstNot}
 use Rattle.chunks.specs.Scan.{first-all}
 use Rattle.registrar_steps.specs.declared.Request.{Request}
-use Rattle.registrar_steps.specs.declared.Answer.the-variants.{Done, Refused}
+use Rattle.registrar_steps.specs.declared.Answer.the-variants.{Done, Register, Refused}
 use Rattle.registrar_steps.specs.declared.Plan.{Plan}
-use Rattle.registrar_steps.specs.Steps.{idle, isIdle}
-use Rattle.registrar_state.specs.World.{World, world, Outcome, outcome, requestOf, withRequest, granularityOf, entriesIn, builtState, flatOf, decided, buildRefusal, buildOf, registerRefusal, allRefusal, carriedOut, registerPlan, allPlan, isKnown, registerOf, allOf, answerRefusal, failedOf, takenTo, donePlan, afterTaken, doneOf}
+use Rattle.registrar_steps.specs.Steps.{idle, isIdle, askedOf}
+use Rattle.registrar_state.specs.World.{World, world, Outcome, outcome, requestOf, withRequest, offsetOf, granularityOf, entriesIn, builtState, flatOf, decided, buildRefusal, buildOf, registerRefusal, allRefusal, carriedOut, registerPlan, allPlan, isKnown, registerOf, allOf, answerRefusal, failedOf, takenTo, donePlan, afterTaken, doneOf}
 use Rattle.registrar_state.specs.Laws.{known-kept}
 use Rattle.registrar_claims.specs.Runs.{Call, Build, RegisterRange, RegisterAll, AnswerDone, AnswerFailed, give, after, follow}
 use Rattle.registrar_claims.specs.Whole.{wholeAll, wholeRegister, Words, Match}
 use Rattle.registrar_claims.proofs.Steps.{marked-words, register-is-whole}
 use Rattle.registrar_claims.proofs.Stretches.{all-is-whole}
 use Rattle.registrar_claims.proofs.Plain.{Pages, first-plain, end-plain, fit-pages}
-use Rattle.registrar_claims.proofs.Requests.{Fits, idle-fits, register-asks, all-asks, done-asks}
+use Rattle.registrar_claims.proofs.Requests.{Fits, idle-fits, fits-at, register-asks, all-asks, done-asks}
 
 pub record Sound (w : World) : Type 0 where
   pub in-order : ordered 0 (entriesIn (w .state)) ≡ true
   pub words : Words (w .registered)
-  pub request : Fits (requestOf (w .state))
+  pub request : Fits (lastEnd (entriesIn (w .state))) (requestOf (w .state))
   pub pages : Pages (granularityOf (w .state))
+  pub room : offsetOf (w .state) + lastEnd (entriesIn (w .state)) < 2 ^ 64
 
 -- ---- the layout stands in the words that no request uses
 
@@ -46,8 +47,19 @@ unfolding entries-of
 entries-tail s =
     ap₂ (λ (n : ℕ) (l : List ℕ). entriesOf (take (3 * n) l)) (sym (getD-drop 9 s 2 0)) (sym (drop-drop 3 9 s))
 
+kept-entries : (s t : List ℕ) → drop 9 t ≡ drop 9 s → entriesIn t ≡ entriesIn s
+kept-entries s t e = entries-tail t ∙ ap entries-of e ∙ sym (entries-tail s)
+
 kept-order : (s t : List ℕ) → drop 9 t ≡ drop 9 s → ordered 0 (entriesIn s) ≡ true → ordered 0 (entriesIn t) ≡ true
-kept-order s t e h = ap (ordered 0) (entries-tail t ∙ ap entries-of e ∙ sym (entries-tail s)) ∙ h
+kept-order s t e h = ap (ordered 0) (kept-entries s t e) ∙ h
+
+kept-room : (s t : List ℕ) → drop 9 t ≡ drop 9 s → offsetOf s + lastEnd (entriesIn s) < 2 ^ 64 → offsetOf t + lastEnd (entriesIn t) < 2 ^ 64
+kept-room s t e h =
+    let same : offsetOf t ≡ offsetOf s = sym (getD-drop 9 t 0 0) ∙ ap (λ (l : List ℕ). getD l 0 0) e ∙ getD-drop 9 s 0 0 in
+    omega (arith, h, same, ap lastEnd (kept-entries s t e))
+
+kept-fits : (s t : List ℕ) (q : Request) → drop 9 t ≡ drop 9 s → Fits (lastEnd (entriesIn s)) q → Fits (lastEnd (entriesIn t)) q
+kept-fits s t q e f = fits-at (lastEnd (entriesIn s)) (lastEnd (entriesIn t)) q (sym (ap lastEnd (kept-entries s t e))) f
 
 kept-pages : (s t : List ℕ) → drop 9 t ≡ drop 9 s → Pages (granularityOf s) → Pages (granularityOf t)
 kept-pages s t e k =
@@ -80,7 +92,7 @@ built-sound w ram o g z =
     let k : Fit ram = fit ram (eqb-true (refusalOf ram) 0 (e .0)) in
     let p = both-true (leb 4096 g) (isPower g) (passed (leb 4096 g && isPower g) 8 _ (e .1) .0) in
     rw (eq-eqb (buildRefusal w ram o g) 0 z)
-    (record { in-order = ap (ordered 0) (entries-built ram o g k) ∙ k .in-order; words = zeros-words (length (w .registered)); request = idle-fits; pages = fit-pages g (p .0) (p .1) })
+    (record { in-order = ap (ordered 0) (entries-built ram o g k) ∙ k .in-order; words = zeros-words (length (w .registered)); request = idle-fits _; pages = fit-pages g (p .0) (p .1); room = omega (arith, ltb-true (o + lastEnd (entriesOf ram)) (2 ^ 64) (d .0), ap lastEnd (entries-built ram o g k)) })
 
 build-sound : (w : World) (ram : List ℕ) (o g : ℕ) → Sound w → Sound (buildOf w ram o g .world)
 unfolding buildOf
@@ -100,9 +112,9 @@ decided-sound w n o h k = go (eqb n 0)
     go true = k
     go false = h
 
-carried-sound : (w : World) (p : Plan) → Sound w → Fits (p .request) → Sound (carriedOut w p .world)
+carried-sound : (w : World) (p : Plan) → Sound w → Fits (lastEnd (entriesIn (w .state))) (p .request) → Sound (carriedOut w p .world)
 carried-sound w p h f =
-    record { in-order = kept-order (w .state) (withRequest (p .request) (w .state)) refl (h .in-order); words = marked-words (p .from) (p .to) (w .registered) (h .words); request = f; pages = kept-pages (w .state) (withRequest (p .request) (w .state)) refl (h .pages) }
+    record { in-order = kept-order (w .state) (withRequest (p .request) (w .state)) refl (h .in-order); words = marked-words (p .from) (p .to) (w .registered) (h .words); request = kept-fits (w .state) (withRequest (p .request) (w .state)) (p .request) refl f; pages = kept-pages (w .state) (withRequest (p .request) (w .state)) refl (h .pages); room = kept-room (w .state) (withRequest (p .request) (w .state)) refl (h .room) }
 
 pub call-sound : (w : World) (x : Call) → Sound w → Sound (give w x .world)
 unfolding give registerOf allOf doneOf failedOf
@@ -111,10 +123,10 @@ call-sound w (RegisterRange a l) h = decided-sound w (registerRefusal w a l) (ca
 call-sound w (RegisterAll al ig) h = decided-sound w (allRefusal w al ig) (carriedOut w (allPlan w al ig)) h (carried-sound w (allPlan w al ig) h (all-asks w (h .in-order) 0 al ig 0))
 call-sound w AnswerDone h =
     let q : Request = requestOf (w .state) in
-    let v : Sound (afterTaken w) = record { in-order = h .in-order; words = marked-words (q .from) (takenTo (w .state)) (w .registered) (h .words); request = h .request; pages = h .pages } in
+    let v : Sound (afterTaken w) = record { in-order = h .in-order; words = marked-words (q .from) (takenTo (w .state)) (w .registered) (h .words); request = h .request; pages = h .pages; room = h .room } in
     decided-sound w (answerRefusal w) (carriedOut (afterTaken w) (donePlan (afterTaken w))) h (carried-sound (afterTaken w) (donePlan (afterTaken w)) v (done-asks (afterTaken w) (h .in-order) (h .request)))
 call-sound w AnswerFailed h =
-    decided-sound w (answerRefusal w) _ h (record { in-order = kept-order (w .state) (withRequest idle (w .state)) refl (h .in-order); words = h .words; request = idle-fits; pages = kept-pages (w .state) (withRequest idle (w .state)) refl (h .pages) })
+    decided-sound w (answerRefusal w) _ h (record { in-order = kept-order (w .state) (withRequest idle (w .state)) refl (h .in-order); words = h .words; request = idle-fits _; pages = kept-pages (w .state) (withRequest idle (w .state)) refl (h .pages); room = kept-room (w .state) (withRequest idle (w .state)) refl (h .room) })
 
 -- any list of calls and answers
 pub always-sound : (xs : List Call) (w : World) → Sound w → Sound (after w xs)
@@ -163,3 +175,15 @@ chunks-always-plain w ram o g xs address len z =
     let v : World = after (buildOf w ram o g .world) xs in
     let s = always-sound xs (buildOf w ram o g .world) (built-sound w ram o g z) in
     (first-plain (granularityOf (v .state)) address len (s .pages), end-plain (granularityOf (v .state)) address len (s .pages))
+
+-- THE CLAIM of what is asked for: offset + address, with no number that wraps
+pub asked-always-plain : (w : World) (ram : List ℕ) (o g : ℕ) (xs : List Call) → let v : World = after (buildOf w ram o g .world) xs in
+    let q : Request = requestOf (v .state) in
+    buildRefusal w ram o g ≡ 0 → askedOf (offsetOf (v .state)) q ≡ Register (range (offsetOf (v .state) + q .start) (offsetOf (v .state) + q .end))
+asked-always-plain w ram o g xs z =
+    let v : World = after (buildOf w ram o g .world) xs in
+    let q : Request = requestOf (v .state) in
+    let s = always-sound xs (buildOf w ram o g .world) (built-sound w ram o g z) in
+    let a : (offsetOf (v .state) + q .start) % 2 ^ 64 ≡ offsetOf (v .state) + q .start = omega (arith, s .room, s .request .upward, s .request .inside) in
+    let b : (offsetOf (v .state) + q .end) % 2 ^ 64 ≡ offsetOf (v .state) + q .end = omega (arith, s .room, s .request .inside) in
+    ap₂ (λ (x y : ℕ). Register (range x y)) a b

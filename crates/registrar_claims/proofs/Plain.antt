@@ -3,9 +3,9 @@ use native.Mathlib.Omega.{arith}
 use native.Mathlib.Decide.{decLt}
 use mathlib.Core.Path.{_≡_, refl, sym, ap, _∙_}
 use mathlib.Core.Logic.{⊎-elim}
-use mathlib.Core.Bool.{Bool, true, false, cond, _||_}
+use mathlib.Core.Bool.{Bool, true, false, cond}
 use Prim.Native.Nat.{ℕ, zero, suc, _+_, _-_, _*_, _/_, _%_, _^_, _≤_, _<_}
-use native.Mathlib.Nat.{mul-le-mul-right, mul-le-mul-left, mul-assoc, mul-comm, add-mul, one-mul, mul-mod-left, div-lt-iff-lt-mul, div-div-eq-div-mul, mul-div-cancel-left}
+use native.Mathlib.Nat.{mul-le-mul-right, mul-assoc, mul-comm, add-mul, one-mul, mul-mod-left, div-lt-iff-lt-mul, div-div-eq-div-mul, mul-div-cancel-left}
 use lib.Dec.{eqb, leb}
 use lib.Pow.{pow-add, pow-pos, pow-lt}
 use borrow.Author.Tests.{eqb-true, eqb-false, leb-true}
