@@ -19,7 +19,7 @@ use Rattle.registrar_steps.specs.declared.Plan.{Plan}
 use Rattle.registrar_steps.specs.Steps.{Seen, asks, ends, more, ramFrom, passes, pieceOf, registerFrom, lookAt, found, allFrom}
 use Rattle.registrar_state.specs.World.{World, world, Outcome, requestOf, offsetOf, granularityOf, entriesIn, seenIn, flatOf, decided, registerRefusal, allRefusal, carriedOut, registerPlan, allPlan, registerOf, allOf, answerRefusal, failedOf, restOf, hasRest, donePlan, afterTaken, doneOf}
 use Rattle.registrar_claims.proofs.Refusals.{register-taken, all-taken, answer-taken}
-use Rattle.registrar_claims.specs.Runs.{taken, Told, answerOf, before, asksFor, follow}
+use Rattle.registrar_claims.specs.Runs.{notRefused, Told, answerOf, before, asksFor, follow}
 
 -- a plan of a call that has asked n times: asking once more, or reporting n
 abbrev PlanCounts : ℕ → Plan → Type 0
@@ -73,9 +73,9 @@ done-counts w =
 -- k operations were asked for before this outcome
 abbrev Counted : ℕ → Outcome → Type 0
 Counted k o =
-    (o .reply .asked ≡ 1 → requestOf (o .world .state) .count ≡ (k + 1) % 2 ^ 64) × (o .reply .asked ≡ 0 → taken (o .reply .number) ≡ true → o .reply .count ≡ k % 2 ^ 64)
+    (o .reply .asked ≡ 1 → requestOf (o .world .state) .count ≡ (k + 1) % 2 ^ 64) × (o .reply .asked ≡ 0 → notRefused (o .reply .number) ≡ true → o .reply .count ≡ k % 2 ^ 64)
 
-decided-counted : (k n : ℕ) (w : World) (o : Outcome) → (taken n ≡ true → n ≡ 0) → Counted k o → Counted k (decided w n o)
+decided-counted : (k n : ℕ) (w : World) (o : Outcome) → (notRefused n ≡ true → n ≡ 0) → Counted k o → Counted k (decided w n o)
 decided-counted k n w o z h = go (eqb n 0) refl
   where
     go : (t : Bool) → eqb n 0 ≡ t → Counted k (cond t o (record { world = w; reply = flatOf (Refused n) }))
@@ -108,21 +108,21 @@ answer-counted true k w e =
     (plan-counted k (requestOf (w .state) .count) (afterTaken w) (donePlan (afterTaken w)) e (done-counts (afterTaken w)))
 answer-counted false k w e = decided-counted k (answerRefusal w) w _ (answer-taken w) (λ q. no-one q, λ q t. e)
 
-follow-counts : (bs : List Bool) (k : ℕ) (o : Outcome) → Counted k o → follow o bs .last .reply .asked ≡ 0 → taken (follow o bs .last .reply .number) ≡ true
+follow-counts : (bs : List Bool) (k : ℕ) (o : Outcome) → Counted k o → follow o bs .last .reply .asked ≡ 0 → notRefused (follow o bs .last .reply .number) ≡ true
     → follow o bs .last .reply .count ≡ (k + length (follow o bs .asked)) % 2 ^ 64
 unfolding follow
 follow-counts [] k o h = go (eqb (o .reply .asked) 1) refl
   where
-    go : (t : Bool) → eqb (o .reply .asked) 1 ≡ t → o .reply .asked ≡ 0 → taken (o .reply .number) ≡ true → o .reply .count ≡ (k + length (cond t (asksFor o ∷ []) [])) % 2 ^ 64
+    go : (t : Bool) → eqb (o .reply .asked) 1 ≡ t → o .reply .asked ≡ 0 → notRefused (o .reply .number) ≡ true → o .reply .count ≡ (k + length (cond t (asksFor o ∷ []) [])) % 2 ^ 64
     go true e z y = no-zero (sym (eqb-true _ _ e) ∙ z)
     go false e z y = h .1 z y ∙ ap (λ (n : ℕ). n % 2 ^ 64) (omega arith)
 follow-counts (b ∷ bs) k o h = go (eqb (o .reply .asked) 1) refl (follow-counts bs (k + 1) (answerOf b (o .world)))
   where
     go : (t : Bool) → eqb (o .reply .asked) 1 ≡ t
-        → (Counted (k + 1) (answerOf b (o .world)) → follow (answerOf b (o .world)) bs .last .reply .asked ≡ 0 → taken (follow (answerOf b (o .world)) bs .last .reply .number) ≡ true
+        → (Counted (k + 1) (answerOf b (o .world)) → follow (answerOf b (o .world)) bs .last .reply .asked ≡ 0 → notRefused (follow (answerOf b (o .world)) bs .last .reply .number) ≡ true
         → follow (answerOf b (o .world)) bs .last .reply .count ≡ (k + 1 + length (follow (answerOf b (o .world)) bs .asked)) % 2 ^ 64)
         → cond t (before (asksFor o) (follow (answerOf b (o .world)) bs)) (record { asked = []; last = o }) .last .reply .asked ≡ 0
-        → taken (cond t (before (asksFor o) (follow (answerOf b (o .world)) bs)) (record { asked = []; last = o }) .last .reply .number) ≡ true
+        → notRefused (cond t (before (asksFor o) (follow (answerOf b (o .world)) bs)) (record { asked = []; last = o }) .last .reply .number) ≡ true
         → cond t (before (asksFor o) (follow (answerOf b (o .world)) bs)) (record { asked = []; last = o }) .last .reply .count
         ≡ (k + length (cond t (before (asksFor o) (follow (answerOf b (o .world)) bs)) (record { asked = []; last = o }) .asked)) % 2 ^ 64
     go true e more z y =
@@ -131,11 +131,11 @@ follow-counts (b ∷ bs) k o h = go (eqb (o .reply .asked) 1) refl (follow-count
 
 -- THE CLAIMS: a call that has ended, with Ok, 22 or 23, after any answers
 pub register-counts-operations : (w : World) (address len : ℕ) (bs : List Bool) → let t : Told = follow (registerOf w address len) bs in
-    t .last .reply .asked ≡ 0 → taken (t .last .reply .number) ≡ true → t .last .reply .count ≡ length (t .asked) % 2 ^ 64
+    t .last .reply .asked ≡ 0 → notRefused (t .last .reply .number) ≡ true → t .last .reply .count ≡ length (t .asked) % 2 ^ 64
 register-counts-operations w address len bs z y =
     follow-counts bs 0 (registerOf w address len) (register-counted w address len) z y ∙ ap (λ (n : ℕ). n % 2 ^ 64) (omega arith)
 
 pub all-counts-operations : (w : World) (al ignore : ℕ) (bs : List Bool) → let t : Told = follow (allOf w al ignore) bs in
-    t .last .reply .asked ≡ 0 → taken (t .last .reply .number) ≡ true → t .last .reply .count ≡ length (t .asked) % 2 ^ 64
+    t .last .reply .asked ≡ 0 → notRefused (t .last .reply .number) ≡ true → t .last .reply .count ≡ length (t .asked) % 2 ^ 64
 all-counts-operations w al ignore bs z y =
     follow-counts bs 0 (allOf w al ignore) (all-counted w al ignore) z y ∙ ap (λ (n : ℕ). n % 2 ^ 64) (omega arith)

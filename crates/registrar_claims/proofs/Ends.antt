@@ -22,7 +22,7 @@ use Rattle.registrar_steps.specs.declared.Look.{Look}
 use Rattle.registrar_steps.specs.declared.Look.the-variants.{Nothing, Edge, FailedBefore, Stretch}
 use Rattle.registrar_steps.specs.Steps.{Seen, idle, asks, ends, more, ramFrom, passes, pieceOf, registerFrom, stretchIn, lookAt, found, allFrom}
 use Rattle.registrar_state.specs.World.{World, Outcome, outcome, requestOf, withRequest, offsetOf, granularityOf, entriesIn, seenIn, flatOf, decided, buildRefusal, buildOf, lengthsFit, callRefusal, chunksFit, registerRefusal, allRefusal, marked, carriedOut, registerPlan, allPlan, registerOf, allOf, answerRefusal, failedOf, restOf, hasRest, donePlan, afterTaken, doneOf}
-use Rattle.registrar_claims.specs.Runs.{Call, Build, RegisterRange, RegisterAll, AnswerDone, AnswerFailed, give, taken, leftOf, left, after, takenIn, isAnswer, onlyAnswers}
+use Rattle.registrar_claims.specs.Runs.{Call, Build, RegisterRange, RegisterAll, AnswerDone, AnswerFailed, give, notRefused, leftOf, left, after, takenIn, isAnswer, onlyAnswers}
 use Rattle.registrar_claims.proofs.Refusals.{answer-taken, refused-keeps}
 use Rattle.registrar_claims.proofs.Built.{Sound, built-sound, call-sound, always-sound}
 
@@ -193,24 +193,24 @@ done-lowers w h bt be = rw (eq-eqb (answerRefusal w) 0 h) (plan-lowers (afterTak
 -- ---- a list of calls
 
 -- an answer that is taken is not refused
-not-refused : (w : World) (o : Outcome) → taken (decided w (answerRefusal w) o .reply .number) ≡ true → answerRefusal w ≡ 0
+not-refused : (w : World) (o : Outcome) → notRefused (decided w (answerRefusal w) o .reply .number) ≡ true → answerRefusal w ≡ 0
 not-refused w o = go (eqb (answerRefusal w) 0) refl
   where
-    go : (t : Bool) → eqb (answerRefusal w) 0 ≡ t → taken (cond t o (record { world = w; reply = flatOf (Refused (answerRefusal w)) }) .reply .number) ≡ true → answerRefusal w ≡ 0
+    go : (t : Bool) → eqb (answerRefusal w) 0 ≡ t → notRefused (cond t o (record { world = w; reply = flatOf (Refused (answerRefusal w)) }) .reply .number) ≡ true → answerRefusal w ≡ 0
     go true e h = eqb-true _ _ e
     go false e h = answer-taken w h
 
-done-taken : (w : World) → taken (doneOf w .reply .number) ≡ true → answerRefusal w ≡ 0
+done-taken : (w : World) → notRefused (doneOf w .reply .number) ≡ true → answerRefusal w ≡ 0
 unfolding doneOf
 done-taken w h = not-refused w (carriedOut (afterTaken w) (donePlan (afterTaken w))) h
 
-failed-taken : (w : World) → taken (failedOf w .reply .number) ≡ true → answerRefusal w ≡ 0
+failed-taken : (w : World) → notRefused (failedOf w .reply .number) ≡ true → answerRefusal w ≡ 0
 unfolding failedOf
 failed-taken w h =
     let q : Request = requestOf (w .state) in
     not-refused w (outcome (withRequest idle (w .state)) (w .registered) (marked (q .from) (q .to) (w .failed)) (flatOf (RegistrationFailed (q .start) (q .count)))) h
 
-answer-lowers : (w : World) (x : Call) → Sound w → isAnswer x ≡ true → taken (give w x .reply .number) ≡ true → left (give w x .world) < left w
+answer-lowers : (w : World) (x : Call) → Sound w → isAnswer x ≡ true → notRefused (give w x .reply .number) ≡ true → left (give w x .world) < left w
 unfolding give
 answer-lowers w (Build ram o g) s i h = false≢true i
 answer-lowers w (RegisterRange a l) s i h = false≢true i
@@ -223,10 +223,10 @@ answers-lower : (xs : List Call) (w : World) → Sound w → onlyAnswers w xs �
 unfolding takenIn after onlyAnswers
 answers-lower [] w s o = omega arith
 answers-lower (x ∷ xs) w s o =
-    let a = both-true (isAnswer x || not (taken (give w x .reply .number))) _ o in
-    go (taken (give w x .reply .number)) refl (isAnswer x) refl (a .0) (answers-lower xs (give w x .world) (call-sound w x s) (a .1))
+    let a = both-true (isAnswer x || not (notRefused (give w x .reply .number))) _ o in
+    go (notRefused (give w x .reply .number)) refl (isAnswer x) refl (a .0) (answers-lower xs (give w x .world) (call-sound w x s) (a .1))
   where
-    go : (t : Bool) → taken (give w x .reply .number) ≡ t → (b : Bool) → isAnswer x ≡ b → (b || not t) ≡ true
+    go : (t : Bool) → notRefused (give w x .reply .number) ≡ t → (b : Bool) → isAnswer x ≡ b → (b || not t) ≡ true
         → takenIn (give w x .world) xs + left (after (give w x .world) xs) ≤ left (give w x .world)
         → digit t + takenIn (give w x .world) xs + left (after (give w x .world) xs) ≤ left w
     go true e true i k more = omega (arith, answer-lowers w x s i e, more)
@@ -249,18 +249,18 @@ every-request-ends w ram o g xs ys z a l =
     none-left (requestOf (after v ys .state)) (omega (arith, answers-lower ys v (always-sound xs (buildOf w ram o g .world) (built-sound w ram o g z)) a))
 
 -- and until then register and register_all_aligned are refused
-busy-refused : (w : World) (rest : ℕ) (o : Outcome) → (requestOf (w .state) .kind ≡ 0 → ⊥) → taken (decided w (callRefusal w rest) o .reply .number) ≡ false
+busy-refused : (w : World) (rest : ℕ) (o : Outcome) → (requestOf (w .state) .kind ≡ 0 → ⊥) → notRefused (decided w (callRefusal w rest) o .reply .number) ≡ false
 busy-refused w rest o k = rw (ne-eqb (requestOf (w .state) .kind) 0 k) (go (eqb (length (w .state)) 108))
   where
-    go : (t : Bool) → taken (decided w (unless t 4 19) o .reply .number) ≡ false
+    go : (t : Bool) → notRefused (decided w (unless t 4 19) o .reply .number) ≡ false
     go true = refl
     go false = refl
 
-pub busy-register : (w : World) (address len : ℕ) → (requestOf (w .state) .kind ≡ 0 → ⊥) → taken (registerOf w address len .reply .number) ≡ false
+pub busy-register : (w : World) (address len : ℕ) → (requestOf (w .state) .kind ≡ 0 → ⊥) → notRefused (registerOf w address len .reply .number) ≡ false
 unfolding registerOf registerRefusal
 busy-register w address len k = busy-refused w (unless (chunksFit (w .state) (firstChunk (granularityOf (w .state)) address) (endChunk (granularityOf (w .state)) address len)) 9 0) (carriedOut w (registerPlan w address len)) k
 
-pub busy-all : (w : World) (al ignore : ℕ) → (requestOf (w .state) .kind ≡ 0 → ⊥) → taken (allOf w al ignore .reply .number) ≡ false
+pub busy-all : (w : World) (al ignore : ℕ) → (requestOf (w .state) .kind ≡ 0 → ⊥) → notRefused (allOf w al ignore .reply .number) ≡ false
 unfolding allOf allRefusal
 busy-all w al ignore k =
     busy-refused w (unless (leb ignore 1) 8 (unless (leb (granularityOf (w .state)) al && isPower al) 9 0)) (carriedOut w (allPlan w al ignore)) k

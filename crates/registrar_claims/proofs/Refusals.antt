@@ -23,7 +23,7 @@ use Rattle.registrar_steps.specs.declared.Look.the-variants.{Nothing, Edge, Fai
 use Rattle.registrar_steps.specs.declared.Plan.{Plan}
 use Rattle.registrar_steps.specs.Steps.{Seen, idle, asks, ends, ramFrom, passes, pieceOf, registerFrom, lookAt, found, allFrom}
 use Rattle.registrar_state.specs.World.{World, world, Outcome, requestOf, withRequest, offsetOf, granularityOf, entriesIn, seenIn, flatOf, decided, lengthsFit, buildRefusal, buildOf, callRefusal, chunksFit, registerRefusal, allRefusal, marked, carriedOut, registerPlan, allPlan, registerOf, allOf, answerRefusal, failedOf, restOf, hasRest, takenTo, donePlan, afterTaken, doneOf}
-use Rattle.registrar_claims.specs.Runs.{Call, Build, RegisterRange, RegisterAll, AnswerDone, AnswerFailed, give, taken, isBuild}
+use Rattle.registrar_claims.specs.Runs.{Call, Build, RegisterRange, RegisterAll, AnswerDone, AnswerFailed, give, notRefused, isBuild}
 use Rattle.registrar_claims.specs.Changes.{withTaken, withFailed, Kept}
 use Rattle.registrar_claims.proofs.Steps.{marked-none}
 
@@ -34,7 +34,7 @@ plain (RegistrationFailed x n) = true
 plain (UnalignedMemory u n) = true
 plain (Refused k) = false
 
-plain-taken : (a : Answer) → plain a ≡ true → taken (flatOf a .number) ≡ true
+plain-taken : (a : Answer) → plain a ≡ true → notRefused (flatOf a .number) ≡ true
 unfolding plain
 plain-taken (Done n) h = refl
 plain-taken (Register r) h = refl
@@ -129,13 +129,13 @@ done-ending w =
 
 -- ---- a number that refuses a call is neither 22 nor 23
 
-build-taken : (w : World) (ram : List ℕ) (o g : ℕ) → taken (buildRefusal w ram o g) ≡ true → buildRefusal w ram o g ≡ 0
+build-taken : (w : World) (ram : List ℕ) (o g : ℕ) → notRefused (buildRefusal w ram o g) ≡ true → buildRefusal w ram o g ≡ 0
 unfolding buildRefusal
 build-taken w ram o g =
     go (not (eqb (refusalOf ram) 1)) (eqb (o % 4096) 0) (ltb (o + lastEnd (entriesOf ram)) (2 ^ 64)) (eqb (refusalOf ram) 0) (leb 4096 g && isPower g) (eqb (length (w .state)) 108)
     (lengthsFit g (entriesOf ram) (w .registered) (w .failed))
   where
-    go : (a b c d e f i : Bool) → taken (unless a 1 (unless b 1 (unless c 1 (unless d 2 (unless e 9 (unless f 4 (unless i 4 0))))))) ≡ true → unless a 1 (unless b 1 (unless c 1 (unless d 2 (unless e 9 (unless f 4 (unless i 4 0)))))) ≡ 0
+    go : (a b c d e f i : Bool) → notRefused (unless a 1 (unless b 1 (unless c 1 (unless d 2 (unless e 9 (unless f 4 (unless i 4 0))))))) ≡ true → unless a 1 (unless b 1 (unless c 1 (unless d 2 (unless e 9 (unless f 4 (unless i 4 0)))))) ≡ 0
     go false b c d e f i h = false≢true h
     go true false c d e f i h = false≢true h
     go true true false d e f i h = false≢true h
@@ -145,40 +145,40 @@ build-taken w ram o g =
     go true true true true true true false h = false≢true h
     go true true true true true true true h = refl
 
-call-taken : (w : World) (rest : ℕ) → (taken rest ≡ true → rest ≡ 0) → taken (callRefusal w rest) ≡ true → callRefusal w rest ≡ 0
+call-taken : (w : World) (rest : ℕ) → (notRefused rest ≡ true → rest ≡ 0) → notRefused (callRefusal w rest) ≡ true → callRefusal w rest ≡ 0
 call-taken w rest z =
     go (eqb (length (w .state)) 108) (eqb (requestOf (w .state) .kind) 0) (lengthsFit (granularityOf (w .state)) (entriesIn (w .state)) (w .registered) (w .failed))
   where
-    go : (a b c : Bool) → taken (unless a 4 (unless b 19 (unless c 4 rest))) ≡ true → unless a 4 (unless b 19 (unless c 4 rest)) ≡ 0
+    go : (a b c : Bool) → notRefused (unless a 4 (unless b 19 (unless c 4 rest))) ≡ true → unless a 4 (unless b 19 (unless c 4 rest)) ≡ 0
     go false b c h = false≢true h
     go true false c h = false≢true h
     go true true false h = false≢true h
     go true true true h = z h
 
-pub register-taken : (w : World) (address len : ℕ) → taken (registerRefusal w address len) ≡ true → registerRefusal w address len ≡ 0
+pub register-taken : (w : World) (address len : ℕ) → notRefused (registerRefusal w address len) ≡ true → registerRefusal w address len ≡ 0
 unfolding registerRefusal
 register-taken w address len = call-taken w (unless (chunksFit (w .state) (firstChunk (granularityOf (w .state)) address) (endChunk (granularityOf (w .state)) address len)) 9 0) (go (chunksFit (w .state) (firstChunk (granularityOf (w .state)) address) (endChunk (granularityOf (w .state)) address len)))
   where
-    go : (a : Bool) → taken (unless a 9 0) ≡ true → unless a 9 0 ≡ 0
+    go : (a : Bool) → notRefused (unless a 9 0) ≡ true → unless a 9 0 ≡ 0
     go false h = false≢true h
     go true h = refl
 
-pub all-taken : (w : World) (al ignore : ℕ) → taken (allRefusal w al ignore) ≡ true → allRefusal w al ignore ≡ 0
+pub all-taken : (w : World) (al ignore : ℕ) → notRefused (allRefusal w al ignore) ≡ true → allRefusal w al ignore ≡ 0
 unfolding allRefusal
 all-taken w al ignore =
     call-taken w (unless (leb ignore 1) 8 (unless (leb (granularityOf (w .state)) al && isPower al) 9 0)) (go (leb ignore 1) (leb (granularityOf (w .state)) al && isPower al))
   where
-    go : (a b : Bool) → taken (unless a 8 (unless b 9 0)) ≡ true → unless a 8 (unless b 9 0) ≡ 0
+    go : (a b : Bool) → notRefused (unless a 8 (unless b 9 0)) ≡ true → unless a 8 (unless b 9 0) ≡ 0
     go false b h = false≢true h
     go true false h = false≢true h
     go true true h = refl
 
-pub answer-taken : (w : World) → taken (answerRefusal w) ≡ true → answerRefusal w ≡ 0
+pub answer-taken : (w : World) → notRefused (answerRefusal w) ≡ true → answerRefusal w ≡ 0
 unfolding answerRefusal
 answer-taken w =
     go (eqb (length (w .state)) 108) (lengthsFit (granularityOf (w .state)) (entriesIn (w .state)) (w .registered) (w .failed)) (not (eqb (requestOf (w .state) .kind) 0))
   where
-    go : (a b c : Bool) → taken (unless a 4 (unless b 4 (unless c 21 0))) ≡ true → unless a 4 (unless b 4 (unless c 21 0)) ≡ 0
+    go : (a b c : Bool) → notRefused (unless a 4 (unless b 4 (unless c 21 0))) ≡ true → unless a 4 (unless b 4 (unless c 21 0)) ≡ 0
     go false b c h = false≢true h
     go true false c h = false≢true h
     go true true false h = false≢true h
@@ -186,11 +186,11 @@ answer-taken w =
 
 -- ---- what a call changes
 
-decided-keeps : (w : World) (r f : List ℕ) (n : ℕ) (o : Outcome) → (taken n ≡ true → n ≡ 0) → Kept w r f o → Kept w r f (decided w n o)
+decided-keeps : (w : World) (r f : List ℕ) (n : ℕ) (o : Outcome) → (notRefused n ≡ true → n ≡ 0) → Kept w r f o → Kept w r f (decided w n o)
 decided-keeps w r f n o t k = go (eqb n 0)
   where
-    none : (m : ℕ) → taken m ≡ true → (m ≡ 0 → ⊥) → n ≡ m → ⊥
-    none m h z e = z (sym e ∙ t (ap taken e ∙ h))
+    none : (m : ℕ) → notRefused m ≡ true → (m ≡ 0 → ⊥) → n ≡ m → ⊥
+    none m h z e = z (sym e ∙ t (ap notRefused e ∙ h))
 
     go : (b : Bool) → Kept w r f (cond b o (record { world = w; reply = flatOf (Refused n) }))
     go true = k
@@ -242,7 +242,7 @@ refusals-keep w AnswerFailed =
       failed = λ z. record { from = 0; to = 0; same-state = refl; same-registered = sym (marked-none 0 (w .registered)); passed = λ c a b. absurd (omega arith); same-failed = refl };
     })
 
-pub refused-keeps : (w : World) (x : Call) → taken (give w x .reply .number) ≡ false → give w x .world ≡ w
+pub refused-keeps : (w : World) (x : Call) → notRefused (give w x .reply .number) ≡ false → give w x .world ≡ w
 refused-keeps w x = refusals-keep w x .refused
 
 -- ---- what is marked stays marked, until a build

@@ -5,7 +5,7 @@ use mathlib.Core.List.{List}
 use Prim.Native.Nat.{ℕ, _≤_, _<_}
 use Rattle.registrar_steps.specs.Steps.{seen, idle, passes}
 use Rattle.registrar_state.specs.World.{World, Outcome, requestOf, withRequest, granularityOf, entriesIn, marked, takenTo}
-use Rattle.registrar_claims.specs.Runs.{Call, Build, RegisterRange, RegisterAll, AnswerDone, AnswerFailed, taken}
+use Rattle.registrar_claims.specs.Runs.{Call, Build, RegisterRange, RegisterAll, AnswerDone, AnswerFailed, notRefused}
 
 -- the registered chunks with those that an answer takes, and the failed chunks with those that it fails
 abbrev pub withTaken : World → Call → List ℕ
@@ -39,6 +39,6 @@ pub record Failed23 (w : World) (r f : List ℕ) (o : Outcome) : Type 0 where
 
 -- every other refusal changes nothing
 pub record Kept (w : World) (r f : List ℕ) (o : Outcome) : Type 0 where
-  pub refused : taken (o .reply .number) ≡ false → o .world ≡ w
+  pub refused : notRefused (o .reply .number) ≡ false → o .world ≡ w
   pub unaligned : o .reply .number ≡ 22 → Unaligned22 w r o
   pub failed : o .reply .number ≡ 23 → Failed23 w r f o

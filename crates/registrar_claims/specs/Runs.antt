@@ -32,8 +32,8 @@ isBuild AnswerDone = false
 isBuild AnswerFailed = false
 
 -- Ok or an operation asked for, 22, 23: every other number is a refusal that changes nothing
-abbrev pub taken : ℕ → Bool
-taken n = eqb n 0 || (eqb n 22 || eqb n 23)
+abbrev pub notRefused : ℕ → Bool
+notRefused n = eqb n 0 || (eqb n 22 || eqb n 23)
 
 -- the number that every taken answer lowers: 0 where nothing is asked
 abbrev pub leftOf : Request → ℕ
@@ -50,7 +50,7 @@ after w (x ∷ xs) = after (give w x .world) xs
 
 unfoldable pub takenIn : World → List Call → ℕ
 takenIn w [] = 0
-takenIn w (x ∷ xs) = digit (taken (give w x .reply .number)) + takenIn (give w x .world) xs
+takenIn w (x ∷ xs) = digit (notRefused (give w x .reply .number)) + takenIn (give w x .world) xs
 
 abbrev pub isAnswer : Call → Bool
 isAnswer (Build ram offset g) = false
@@ -62,7 +62,7 @@ isAnswer AnswerFailed = true
 -- whether no other call than an answer is taken
 unfoldable pub onlyAnswers : World → List Call → Bool
 onlyAnswers w [] = true
-onlyAnswers w (x ∷ xs) = (isAnswer x || not (taken (give w x .reply .number))) && onlyAnswers (give w x .world) xs
+onlyAnswers w (x ∷ xs) = (isAnswer x || not (notRefused (give w x .reply .number))) && onlyAnswers (give w x .world) xs
 
 -- ---- a whole call under a list of answers, done or not: the ranges that it asks for, and what it gives last
 
