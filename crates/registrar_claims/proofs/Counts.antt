@@ -58,12 +58,12 @@ all-counts s o n al ignore c (r ∷ rs) = go (lookAt (s .granularity) (s .regist
 done-counts : (w : World) → PlanCounts (requestOf (w .state) .count) (donePlan w)
 done-counts w =
     let q : Request = requestOf (w .state) in
-    go (hasRest (w .state)) (eqb (q .kind) 1) _ _ (register-counts (seenIn w) (offsetOf (w .state)) (q .count) (q .to) (q .last))
+    go (hasRest (w .state)) (eqb (q .kind) 1) _ _ (register-counts (seenIn w) (offsetOf (w .state)) (q .count) (q .to) (q .until))
     (all-counts (seenIn w) (offsetOf (w .state)) (q .count) (q .alignment) (q .ignore) (q .to) (spans (entriesIn (w .state))))
   where
     go : (x y : Bool) (a b : Plan) → PlanCounts (requestOf (w .state) .count) a → PlanCounts (requestOf (w .state) .count) b
         → PlanCounts (requestOf (w .state) .count)
-        (cond x (asks (offsetOf (w .state)) 0 0 (pieceOf (requestOf (w .state) .count) (requestOf (w .state) .from) (requestOf (w .state) .to) (requestOf (w .state) .last) (restOf (w .state)))) (cond y a b))
+        (cond x (asks (offsetOf (w .state)) 0 0 (pieceOf (requestOf (w .state) .count) (requestOf (w .state) .from) (requestOf (w .state) .to) (requestOf (w .state) .until) (restOf (w .state)))) (cond y a b))
     go true y a b h k = (λ e. refl, λ e. no-zero e)
     go false true a b h k = h
     go false false a b h k = k

@@ -165,15 +165,15 @@ plan-lowers : (w : World) → (requestOf (w .state) .kind ≡ 0 → ⊥) → req
 plan-lowers w k bt be =
     let q : Request = requestOf (w .state) in
     go (hasRest (w .state)) refl (eqb (q .kind) 1)
-    (less-past q (registerFrom (seenIn w) (offsetOf (w .state)) (q .count) (q .to) (q .last) .request) bt k (register-past (seenIn w) (offsetOf (w .state)) (q .count) (q .to) (q .last)))
+    (less-past q (registerFrom (seenIn w) (offsetOf (w .state)) (q .count) (q .to) (q .until) .request) bt k (register-past (seenIn w) (offsetOf (w .state)) (q .count) (q .to) (q .until)))
     (less-past q (allFrom (seenIn w) (offsetOf (w .state)) (q .count) (q .alignment) (q .ignore) (q .to) (spans (entriesIn (w .state))) .request) bt k
     (all-past (seenIn w) (offsetOf (w .state)) (q .count) (q .alignment) (q .ignore) (q .to) (spans (entriesIn (w .state)))))
   where
     go : (x : Bool) → hasRest (w .state) ≡ x → (y : Bool)
-        → leftOf (registerFrom (seenIn w) (offsetOf (w .state)) (requestOf (w .state) .count) (requestOf (w .state) .to) (requestOf (w .state) .last) .request) < left w
+        → leftOf (registerFrom (seenIn w) (offsetOf (w .state)) (requestOf (w .state) .count) (requestOf (w .state) .to) (requestOf (w .state) .until) .request) < left w
         → leftOf (allFrom (seenIn w) (offsetOf (w .state)) (requestOf (w .state) .count) (requestOf (w .state) .alignment) (requestOf (w .state) .ignore) (requestOf (w .state) .to) (spans (entriesIn (w .state))) .request) < left w
-        → leftOf (cond x (asks (offsetOf (w .state)) 0 0 (pieceOf (requestOf (w .state) .count) (requestOf (w .state) .from) (requestOf (w .state) .to) (requestOf (w .state) .last) (restOf (w .state))))
-        (cond y (registerFrom (seenIn w) (offsetOf (w .state)) (requestOf (w .state) .count) (requestOf (w .state) .to) (requestOf (w .state) .last))
+        → leftOf (cond x (asks (offsetOf (w .state)) 0 0 (pieceOf (requestOf (w .state) .count) (requestOf (w .state) .from) (requestOf (w .state) .to) (requestOf (w .state) .until) (restOf (w .state))))
+        (cond y (registerFrom (seenIn w) (offsetOf (w .state)) (requestOf (w .state) .count) (requestOf (w .state) .to) (requestOf (w .state) .until))
         (allFrom (seenIn w) (offsetOf (w .state)) (requestOf (w .state) .count) (requestOf (w .state) .alignment) (requestOf (w .state) .ignore) (requestOf (w .state) .to) (spans (entriesIn (w .state))))) .request) < left w
     go true e y h g =
         let p = pieces-past (requestOf (w .state) .end) ((requestOf (w .state) .from + 1) * granularityOf (w .state)) (spans (entriesIn (w .state))) (not-true _ (and-right (eqb (requestOf (w .state) .kind) 1) _ e)) in

@@ -71,13 +71,13 @@ unfolding plain
 done-plain w =
     let q : Request = requestOf (w .state) in
     let s : Seen = seenIn w in
-    go (hasRest (w .state)) (eqb (q .kind) 1) (register-plain s (offsetOf (w .state)) (q .count) (q .to) (q .last))
+    go (hasRest (w .state)) (eqb (q .kind) 1) (register-plain s (offsetOf (w .state)) (q .count) (q .to) (q .until))
     (all-plain s (offsetOf (w .state)) (q .count) (q .alignment) (q .ignore) (q .to) (spans (entriesIn (w .state))))
   where
-    go : (x y : Bool) → plain (registerFrom (seenIn w) (offsetOf (w .state)) (requestOf (w .state) .count) (requestOf (w .state) .to) (requestOf (w .state) .last) .answer) ≡ true
+    go : (x y : Bool) → plain (registerFrom (seenIn w) (offsetOf (w .state)) (requestOf (w .state) .count) (requestOf (w .state) .to) (requestOf (w .state) .until) .answer) ≡ true
         → plain (allFrom (seenIn w) (offsetOf (w .state)) (requestOf (w .state) .count) (requestOf (w .state) .alignment) (requestOf (w .state) .ignore) (requestOf (w .state) .to) (spans (entriesIn (w .state))) .answer) ≡ true
-        → plain (cond x (asks (offsetOf (w .state)) 0 0 (pieceOf (requestOf (w .state) .count) (requestOf (w .state) .from) (requestOf (w .state) .to) (requestOf (w .state) .last) (restOf (w .state))))
-        (cond y (registerFrom (seenIn w) (offsetOf (w .state)) (requestOf (w .state) .count) (requestOf (w .state) .to) (requestOf (w .state) .last))
+        → plain (cond x (asks (offsetOf (w .state)) 0 0 (pieceOf (requestOf (w .state) .count) (requestOf (w .state) .from) (requestOf (w .state) .to) (requestOf (w .state) .until) (restOf (w .state))))
+        (cond y (registerFrom (seenIn w) (offsetOf (w .state)) (requestOf (w .state) .count) (requestOf (w .state) .to) (requestOf (w .state) .until))
         (allFrom (seenIn w) (offsetOf (w .state)) (requestOf (w .state) .count) (requestOf (w .state) .alignment) (requestOf (w .state) .ignore) (requestOf (w .state) .to) (spans (entriesIn (w .state))))) .answer) ≡ true
     go true y h k = refl
     go false true h k = h
@@ -118,11 +118,11 @@ all-ending s o n al ignore c (r ∷ rs) = go (lookAt (s .granularity) (s .regist
 done-ending : (w : World) → Ending (seenIn w) (donePlan w)
 done-ending w =
     let q : Request = requestOf (w .state) in
-    go (hasRest (w .state)) (eqb (q .kind) 1) _ _ (register-ending (seenIn w) (offsetOf (w .state)) (q .count) (q .to) (q .last))
+    go (hasRest (w .state)) (eqb (q .kind) 1) _ _ (register-ending (seenIn w) (offsetOf (w .state)) (q .count) (q .to) (q .until))
     (all-ending (seenIn w) (offsetOf (w .state)) (q .count) (q .alignment) (q .ignore) (q .to) (spans (entriesIn (w .state))))
   where
     go : (x y : Bool) (a b : Plan) → Ending (seenIn w) a → Ending (seenIn w) b
-        → Ending (seenIn w) (cond x (asks (offsetOf (w .state)) 0 0 (pieceOf (requestOf (w .state) .count) (requestOf (w .state) .from) (requestOf (w .state) .to) (requestOf (w .state) .last) (restOf (w .state)))) (cond y a b))
+        → Ending (seenIn w) (cond x (asks (offsetOf (w .state)) 0 0 (pieceOf (requestOf (w .state) .count) (requestOf (w .state) .from) (requestOf (w .state) .to) (requestOf (w .state) .until) (restOf (w .state)))) (cond y a b))
     go true y a b h k = record { ends-22 = λ z. absurd (omega (arith, z)); ends-23 = λ z. absurd (omega (arith, z)); marks = λ q a b. absurd (omega arith) }
     go false true a b h k = h
     go false false a b h k = k

@@ -194,10 +194,10 @@ module _ (w : World) (ord : ordered 0 (entriesIn (w .state)) ≡ true) where
   pub done-asks : Fits last (requestOf (w .state)) → Fits last (donePlan w .request)
   done-asks f =
       let q : Request = requestOf (w .state) in
-      go (hasRest (w .state)) (eqb (q .kind) 1) _ _ (register-asks (q .count) (q .to) (q .last)) (all-asks (q .count) (q .alignment) (q .ignore) (q .to))
+      go (hasRest (w .state)) (eqb (q .kind) 1) _ _ (register-asks (q .count) (q .to) (q .until)) (all-asks (q .count) (q .alignment) (q .ignore) (q .to))
     where
       go : (x y : Bool) (a b : Plan) → Fits last (a .request) → Fits last (b .request)
-          → Fits last (cond x (asks (offsetOf (w .state)) 0 0 (pieceOf (requestOf (w .state) .count) (requestOf (w .state) .from) (requestOf (w .state) .to) (requestOf (w .state) .last) (restOf (w .state)))) (cond y a b) .request)
+          → Fits last (cond x (asks (offsetOf (w .state)) 0 0 (pieceOf (requestOf (w .state) .count) (requestOf (w .state) .from) (requestOf (w .state) .to) (requestOf (w .state) .until) (restOf (w .state)))) (cond y a b) .request)
       go true y a b h k =
           let p = pieces-low last (requestOf (w .state) .end) ((requestOf (w .state) .from + 1) * seenIn w .granularity) (spans (entriesIn (w .state))) (spans-low (entriesIn (w .state)) ord) in
           record {

@@ -202,13 +202,13 @@ module _ (w : World) (q : Request) (p : Plan) (e : q ≡ requestOf (w .state)) (
   on : Request → List ℕ → Plan
   on q ram =
       cond (eqb (q .kind) 1)
-      (registerFrom (seen (granularityOf (w .state)) (entriesOf ram) (w .registered) (w .failed)) (offsetOf (w .state)) (q .count) (q .to) (q .last))
+      (registerFrom (seen (granularityOf (w .state)) (entriesOf ram) (w .registered) (w .failed)) (offsetOf (w .state)) (q .count) (q .to) (q .until))
       (allFrom (seen (granularityOf (w .state)) (entriesOf ram) (w .registered) (w .failed)) (offsetOf (w .state)) (q .count) (q .alignment) (q .ignore) (q .to) (spans (entriesOf ram)))
 
-  pub done-rest : (m : Request) (r : MemoryRange) → t ≡ true → r ≡ restOf (w .state) → m ≡ pieceOf (q .count) (q .from) (q .to) (q .last) r
+  pub done-rest : (m : Request) (r : MemoryRange) → t ≡ true → r ≡ restOf (w .state) → m ≡ pieceOf (q .count) (q .from) (q .to) (q .until) r
       → p ≡ asks (offsetOf (w .state)) 0 0 m → p ≡ donePlan w
   done-rest m r k hr hm hp =
-      hp ∙ ap (asks (offsetOf (w .state)) 0 0) (hm ∙ ap₂ (λ (q : Request) (r : MemoryRange). pieceOf (q .count) (q .from) (q .to) (q .last) r) e hr)
+      hp ∙ ap (asks (offsetOf (w .state)) 0 0) (hm ∙ ap₂ (λ (q : Request) (r : MemoryRange). pieceOf (q .count) (q .from) (q .to) (q .until) r) e hr)
       ∙ sym (rw (sym h ∙ k))
 
   module _ (ram : List ℕ) (k : t ≡ false) (f : ram ≡ ramOf (w .state)) where
@@ -217,7 +217,7 @@ module _ (w : World) (q : Request) (p : Plan) (e : q ≡ requestOf (w .state)) (
     goes-on = ap₂ on e f ∙ sym (rw (sym h ∙ k))
 
     pub done-register : q .kind ≡ 1
-        → p ≡ registerFrom (seen (granularityOf (w .state)) (entriesOf ram) (w .registered) (w .failed)) (offsetOf (w .state)) (q .count) (q .to) (q .last)
+        → p ≡ registerFrom (seen (granularityOf (w .state)) (entriesOf ram) (w .registered) (w .failed)) (offsetOf (w .state)) (q .count) (q .to) (q .until)
         → p ≡ donePlan w
     unfolding on
     done-register d hp = hp ∙ sym (rw (eq-eqb (q .kind) 1 d)) ∙ goes-on
@@ -238,7 +238,7 @@ module _ (s registered : List ℕ) (first end : ℕ) (q : Request) (t : Bool) (e
   known-is c k hc = ap (leb end) hc ∙ sym (rw (sym (ap isIdle e) ∙ sym h ∙ k))
 
 zeros : (a b c d e f g h i : ℕ) → a ≡ 0 → b ≡ 0 → c ≡ 0 → d ≡ 0 → e ≡ 0 → f ≡ 0 → g ≡ 0 → h ≡ 0 → i ≡ 0
-    → record { kind = a; count = b; from = c; to = d; start = e; end = f; last = g; alignment = h; ignore = i } ≡ idle
+    → record { kind = a; count = b; from = c; to = d; start = e; end = f; until = g; alignment = h; ignore = i } ≡ idle
 zeros a b c d e f g h i ha hb hc hd he hf hg hh hi = cc
 
 idle-is : (q : Request) → isIdle q ≡ true → q ≡ idle
@@ -249,7 +249,7 @@ idle-is q h =
     let d = both-true (eqb (q .to) 0) _ (c .1) in
     let e = both-true (eqb (q .start) 0) _ (d .1) in
     let f = both-true (eqb (q .end) 0) _ (e .1) in
-    let g = both-true (eqb (q .last) 0) _ (f .1) in
+    let g = both-true (eqb (q .until) 0) _ (f .1) in
     let i = both-true (eqb (q .alignment) 0) _ (g .1) in
     zeros _ _ _ _ _ _ _ _ _ (eqb-true _ _ (a .0)) (eqb-true _ _ (b .0)) (eqb-true _ _ (c .0)) (eqb-true _ _ (d .0)) (eqb-true _ _ (e .0)) (eqb-true _ _ (f .0)) (eqb-true _ _ (g .0)) (eqb-true _ _ (i .0)) (eqb-true _ _ (i .1))
 

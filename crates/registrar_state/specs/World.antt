@@ -40,11 +40,11 @@ outcome s r f a = record { world = world s r f; reply = a }
 
 abbrev pub requestOf : List ℕ → Request
 requestOf s =
-    record { kind = getD s 0 0; count = getD s 1 0; from = getD s 2 0; to = getD s 3 0; start = getD s 4 0; end = getD s 5 0; last = getD s 6 0; alignment = getD s 7 0; ignore = getD s 8 0 }
+    record { kind = getD s 0 0; count = getD s 1 0; from = getD s 2 0; to = getD s 3 0; start = getD s 4 0; end = getD s 5 0; until = getD s 6 0; alignment = getD s 7 0; ignore = getD s 8 0 }
 
 abbrev pub requestWords : Request → List ℕ
 requestWords q =
-    q .kind ∷ q .count ∷ q .from ∷ q .to ∷ q .start ∷ q .end ∷ q .last ∷ q .alignment ∷ q .ignore ∷ []
+    q .kind ∷ q .count ∷ q .from ∷ q .to ∷ q .start ∷ q .end ∷ q .until ∷ q .alignment ∷ q .ignore ∷ []
 
 abbrev pub withRequest : Request → List ℕ → List ℕ
 withRequest q s = requestWords q ++ drop 9 s
@@ -206,8 +206,8 @@ takenTo s = cond (hasRest s) (requestOf s .from) (requestOf s .to)
 abbrev pub donePlan : World → Plan
 donePlan w =
     let q : Request = requestOf (w .state) in
-    cond (hasRest (w .state)) (asks (offsetOf (w .state)) 0 0 (pieceOf (q .count) (q .from) (q .to) (q .last) (restOf (w .state))))
-    (cond (eqb (q .kind) 1) (registerFrom (seenIn w) (offsetOf (w .state)) (q .count) (q .to) (q .last))
+    cond (hasRest (w .state)) (asks (offsetOf (w .state)) 0 0 (pieceOf (q .count) (q .from) (q .to) (q .until) (restOf (w .state))))
+    (cond (eqb (q .kind) 1) (registerFrom (seenIn w) (offsetOf (w .state)) (q .count) (q .to) (q .until))
     (allFrom (seenIn w) (offsetOf (w .state)) (q .count) (q .alignment) (q .ignore) (q .to) (spans (entriesIn (w .state)))))
 
 abbrev pub afterTaken : World → World

@@ -105,7 +105,7 @@ pub fn load(state: &[u64]) -> Request
         to: state[3],
         start: state[4],
         end: state[5],
-        last: state[6],
+        until: state[6],
         alignment: state[7],
         ignore: state[8],
     }
@@ -121,7 +121,7 @@ pub fn save(state: &mut [u64], q: Request)
     state[3] = q.to;
     state[4] = q.start;
     state[5] = q.end;
-    state[6] = q.last;
+    state[6] = q.until;
     state[7] = q.alignment;
     state[8] = q.ignore;
 }
@@ -385,7 +385,7 @@ pub fn done_plan(state: &[u64], registered: &[u64], failed: &[u64], rest: Memory
     let offset = state[9];
     let g = state[10];
     if has_rest(q.kind, rest) {
-        let more = registrar_steps::piece(q.count, q.from, q.to, q.last, rest);
+        let more = registrar_steps::piece(q.count, q.from, q.to, q.until, rest);
         return registrar_steps::ask(offset, 0, 0, more);
     }
     if q.kind == 1 {
@@ -397,7 +397,7 @@ pub fn done_plan(state: &[u64], registered: &[u64], failed: &[u64], rest: Memory
             failed,
             q.count,
             q.to,
-            q.last,
+            q.until,
         );
     }
     registrar_steps::all_from(

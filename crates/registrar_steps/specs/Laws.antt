@@ -36,31 +36,31 @@ last-fits ws h = elim (decLt (length (entriesOf ws) - 1) (length ws / 3)) [
 ]
 
 -- so the chunks below the count start at 64-bit addresses
-pub walk-fits : (ws : List ℕ) (g last n e c : ℕ) → ((j : ℕ) → getD ws j 0 < 2 ^ 64) → n ≡ chunkCount g (entriesOf ws) → e ≡ min last n → c < e → c * g < 2 ^ 64
-walk-fits ws g last n e c h q f k = omega (arith, below-up (lastEnd (entriesOf ws)) g c (omega arith), last-fits ws h)
+pub walk-fits : (ws : List ℕ) (g until n e c : ℕ) → ((j : ℕ) → getD ws j 0 < 2 ^ 64) → n ≡ chunkCount g (entriesOf ws) → e ≡ min until n → c < e → c * g < 2 ^ 64
+walk-fits ws g until n e c h q f k = omega (arith, below-up (lastEnd (entriesOf ws)) g c (omega arith), last-fits ws h)
 
-module _ (s : Seen) (o n c last e t : ℕ) (p : Plan) (he : e ≡ min last (chunkCount (s .granularity) (s .entries))) (ht : t ≡ firstNot (passes s) c e) where
+module _ (s : Seen) (o n c until e t : ℕ) (p : Plan) (he : e ≡ min until (chunkCount (s .granularity) (s .entries))) (ht : t ≡ firstNot (passes s) c e) where
   stopped : ℕ → ℕ → Plan
   stopped e t =
       cond (ltb t e)
       (cond (bitAt 64 (s .failed) t) (ends c t (RegistrationFailed (t * s .granularity) n))
-      (asks o c t (pieceOf n t (t + 1) last (ramFrom (s .granularity) (s .entries) t (t * s .granularity)))))
+      (asks o c t (pieceOf n t (t + 1) until (ramFrom (s .granularity) (s .entries) t (t * s .granularity)))))
       (ends c t (Done n))
 
-  from-stopped : stopped e t ≡ registerFrom s o n c last
+  from-stopped : stopped e t ≡ registerFrom s o n c until
   unfolding registerFrom stopped
   from-stopped = ap₂ stopped he (ht ∙ ap (firstNot (passes s) c) he)
 
-  pub register-done : e ≤ t → p ≡ ends c t (Done n) → p ≡ registerFrom s o n c last
+  pub register-done : e ≤ t → p ≡ ends c t (Done n) → p ≡ registerFrom s o n c until
   unfolding stopped
   register-done h q = q ∙ sym (rw (le-ltb t e h)) ∙ from-stopped
 
   module _ (h : t < e) where
-    pub register-failed : bitAt 64 (s .failed) t ≡ true → p ≡ ends c t (RegistrationFailed (t * s .granularity) n) → p ≡ registerFrom s o n c last
+    pub register-failed : bitAt 64 (s .failed) t ≡ true → p ≡ ends c t (RegistrationFailed (t * s .granularity) n) → p ≡ registerFrom s o n c until
     unfolding stopped
     register-failed f q = q ∙ sym (rw (lt-ltb t e h, f)) ∙ from-stopped
 
-    pub register-asks : bitAt 64 (s .failed) t ≡ false → p ≡ asks o c t (pieceOf n t (t + 1) last (ramFrom (s .granularity) (s .entries) t (t * s .granularity))) → p ≡ registerFrom s o n c last
+    pub register-asks : bitAt 64 (s .failed) t ≡ false → p ≡ asks o c t (pieceOf n t (t + 1) until (ramFrom (s .granularity) (s .entries) t (t * s .granularity))) → p ≡ registerFrom s o n c until
     unfolding stopped
     register-asks f q = q ∙ sym (rw (lt-ltb t e h, f)) ∙ from-stopped
 

@@ -28,11 +28,11 @@ seen g es r f = record { granularity = g; entries = es; registered = r; failed =
 
 -- nothing asked
 abbrev pub idle : Request
-idle = record { kind = 0; count = 0; from = 0; to = 0; start = 0; end = 0; last = 0; alignment = 0; ignore = 0 }
+idle = record { kind = 0; count = 0; from = 0; to = 0; start = 0; end = 0; until = 0; alignment = 0; ignore = 0 }
 
 abbrev pub isIdle : Request → Bool
 isIdle q =
-    eqb (q .kind) 0 && (eqb (q .count) 0 && (eqb (q .from) 0 && (eqb (q .to) 0 && (eqb (q .start) 0 && (eqb (q .end) 0 && (eqb (q .last) 0 && (eqb (q .alignment) 0 && eqb (q .ignore) 0)))))))
+    eqb (q .kind) 0 && (eqb (q .count) 0 && (eqb (q .from) 0 && (eqb (q .to) 0 && (eqb (q .start) 0 && (eqb (q .end) 0 && (eqb (q .until) 0 && (eqb (q .alignment) 0 && eqb (q .ignore) 0)))))))
 
 -- the operation that a request asks for, at offset + address in 64 bits
 abbrev pub askedOf : ℕ → Request → Answer
@@ -60,19 +60,19 @@ abbrev pub passes : Seen → ℕ → Bool
 passes s c =
     bitAt 64 (s .registered) c || (not (bitAt 64 (s .failed) c) && empty (ramFrom (s .granularity) (s .entries) c (c * s .granularity)))
 
--- a piece of RAM of the chunks from a to before b, for a request that ends before chunk `last` and has asked n times
+-- a piece of RAM of the chunks from a to before b, for a request that ends before chunk `until` and has asked n times
 abbrev pub pieceOf : ℕ → ℕ → ℕ → ℕ → MemoryRange → Request
-pieceOf n a b last r =
-    record { kind = 1; count = more n; from = a; to = b; start = r .start; end = r .end; last = last; alignment = 0; ignore = 0 }
+pieceOf n a b until r =
+    record { kind = 1; count = more n; from = a; to = b; start = r .start; end = r .end; until = until; alignment = 0; ignore = 0 }
 
 -- from chunk c on: chunks that ask for nothing become registered; one that failed before ends it with 23; else its RAM is offered
 unfoldable pub registerFrom : Seen → ℕ → ℕ → ℕ → ℕ → Plan
-registerFrom s offset n c last =
-    let e : ℕ = min last (chunkCount (s .granularity) (s .entries)) in
+registerFrom s offset n c until =
+    let e : ℕ = min until (chunkCount (s .granularity) (s .entries)) in
     let t : ℕ = firstNot (passes s) c e in
     cond (ltb t e)
     (cond (bitAt 64 (s .failed) t) (ends c t (RegistrationFailed (t * s .granularity) n))
-    (asks offset c t (pieceOf n t (t + 1) last (ramFrom (s .granularity) (s .entries) t (t * s .granularity)))))
+    (asks offset c t (pieceOf n t (t + 1) until (ramFrom (s .granularity) (s .entries) t (t * s .granularity)))))
     (ends c t (Done n))
 
 -- ---- register_all_aligned
@@ -103,7 +103,7 @@ unalignedAt es al r edge =
 -- the chunks from a to before b, bytes x to before y, for a call that has asked n times
 abbrev pub stretchOf : ℕ → ℕ → ℕ → ℕ → ℕ → ℕ → ℕ → Request
 stretchOf n al ignore a b x y =
-    record { kind = 2; count = more n; from = a; to = b; start = x; end = y; last = 0; alignment = al; ignore = ignore }
+    record { kind = 2; count = more n; from = a; to = b; start = x; end = y; until = 0; alignment = al; ignore = ignore }
 
 -- what is found in a span ends the step, save nothing
 abbrev pub found : List MemoryRangeWithNode → ℕ → ℕ → ℕ → ℕ → MemoryRange → Look → Plan → Plan

@@ -18,7 +18,7 @@ pub struct Request {
     pub to: u64,
     pub start: u64,
     pub end: u64,
-    pub last: u64,
+    pub until: u64,
     pub alignment: u64,
     pub ignore: u64,
 }
@@ -156,7 +156,7 @@ pub fn idle() -> Request
         to: 0,
         start: 0,
         end: 0,
-        last: 0,
+        until: 0,
         alignment: 0,
         ignore: 0,
     }
@@ -183,7 +183,7 @@ pub fn is_idle(q: Request) -> bool
     if q.end != 0 {
         return false;
     }
-    if q.last != 0 {
+    if q.until != 0 {
         return false;
     }
     if q.alignment != 0 {
@@ -203,7 +203,7 @@ fn end(from: u64, to: u64, answer: Answer) -> Plan
     }
 }
 
-// From chunk `from` on, of a request that ends before chunk `last` and has asked `count` times.
+// From chunk `from` on, of a request that ends before chunk `until` and has asked `count` times.
 pub fn register_from(
     ram: &[u64],
     offset: u64,
@@ -212,11 +212,11 @@ pub fn register_from(
     failed: &[u64],
     count: u64,
     from: u64,
-    last: u64,
+    until: u64,
 ) -> Plan
-    ensures { λ r. ⌜ r ≡ registerFrom (seen g (entriesOf (now (ram .entry))) (now (registered .entry)) (now (failed .entry))) offset count from last ⌝ }
+    ensures { λ r. ⌜ r ≡ registerFrom (seen g (entriesOf (now (ram .entry))) (now (registered .entry)) (now (failed .entry))) offset count from until ⌝ }
 {
-    let to = numbers::least(last, chunks::chunk_count(ram, g));
+    let to = numbers::least(until, chunks::chunk_count(ram, g));
     let stop = walk(ram, g, registered, failed, from, to);
     let c = stop.chunk;
     if to <= c {
@@ -228,12 +228,12 @@ pub fn register_from(
         return end(from, c, Answer::RegistrationFailed { address, count });
     }
     let first = stop.ram;
-    ask(offset, from, c, piece(count, c, c + 1, last, first))
+    ask(offset, from, c, piece(count, c, c + 1, until, first))
 }
 
 // The request for a piece of RAM of the chunks from `from` to before `to`.
-pub fn piece(count: u64, from: u64, to: u64, last: u64, r: MemoryRange) -> Request
-    ensures { λ q. ⌜ q ≡ pieceOf count from to last r ⌝ }
+pub fn piece(count: u64, from: u64, to: u64, until: u64, r: MemoryRange) -> Request
+    ensures { λ q. ⌜ q ≡ pieceOf count from to until r ⌝ }
 {
     Request {
         kind: 1,
@@ -242,7 +242,7 @@ pub fn piece(count: u64, from: u64, to: u64, last: u64, r: MemoryRange) -> Reque
         to: to,
         start: r.start,
         end: r.end,
-        last: last,
+        until: until,
         alignment: 0,
         ignore: 0,
     }
@@ -372,7 +372,7 @@ fn stretch_request(
         to: to,
         start: start,
         end: end,
-        last: 0,
+        until: 0,
         alignment: alignment,
         ignore: ignore,
     }

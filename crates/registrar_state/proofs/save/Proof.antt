@@ -39,7 +39,7 @@ same-length c = search needs
 returns : tie.Need-returns
 returns c =
     let q = c .args .q in
-    laws.saved (q .kind) (q .count) (q .from) (q .to) (q .start) (q .end) (q .last) (q .alignment) (q .ignore) (c .args .state .now) (omega arith)
+    laws.saved (q .kind) (q .count) (q .from) (q .to) (q .start) (q .end) (q .until) (q .alignment) (q .ignore) (c .args .state .now) (omega arith)
 
 pub save-spec : {M : Type 1} → statement M
 save-spec =

@@ -16,16 +16,16 @@ least-requires : tie.Need-least-requires
 least-requires c κs = search needs
 
 walk-requires : tie.Need-walk-requires
-walk-requires c κs = λ k h. laws.walk-fits (c .before .before .before .before .before .args .ram .now) (c .before .before .before .before .before .args .g) (c .before .before .before .before .before .args .last) (c .before .chunk-count .result) (c .least .result) k (λ j. c .before .before .before .before .shared-slice-known .given j .fits) (c .before .chunk-count .ensures) (c .least .ensures) h
+walk-requires c κs = λ k h. laws.walk-fits (c .before .before .before .before .before .args .ram .now) (c .before .before .before .before .before .args .g) (c .before .before .before .before .before .args .until) (c .before .chunk-count .result) (c .least .result) k (λ j. c .before .before .before .before .shared-slice-known .given j .fits) (c .before .chunk-count .ensures) (c .least .ensures) h
 
 end-requires : tie.Need-end-requires
 end-requires c κs = search needs
 
 returns : tie.Need-returns
-returns c = laws.register-done (seen (c .before .before .before .before .before .before .before .before .args .g) (entriesOf (c .before .before .before .before .before .before .before .before .args .ram .now)) (c .before .before .before .before .before .before .before .before .args .registered .now) (c .before .before .before .before .before .before .before .before .args .failed .now)) (c .before .before .before .before .before .before .before .before .args .offset) (c .before .before .before .before .before .before .before .before .args .count) (c .before .before .before .before .before .before .before .before .args .from) (c .before .before .before .before .before .before .before .before .args .last) (c .before .before .before .least .result) (c .before .before .walk .result .chunk) (c .end .result) (c .before .before .before .least .ensures ∙ ap (min (c .before .before .before .before .before .before .before .before .args .last)) (c .before .before .before .before .chunk-count .ensures)) (c .before .before .walk .ensures .0) (c .before .if1 .taken) (c .end .ensures)
+returns c = laws.register-done (seen (c .before .before .before .before .before .before .before .before .args .g) (entriesOf (c .before .before .before .before .before .before .before .before .args .ram .now)) (c .before .before .before .before .before .before .before .before .args .registered .now) (c .before .before .before .before .before .before .before .before .args .failed .now)) (c .before .before .before .before .before .before .before .before .args .offset) (c .before .before .before .before .before .before .before .before .args .count) (c .before .before .before .before .before .before .before .before .args .from) (c .before .before .before .before .before .before .before .before .args .until) (c .before .before .before .least .result) (c .before .before .walk .result .chunk) (c .end .result) (c .before .before .before .least .ensures ∙ ap (min (c .before .before .before .before .before .before .before .before .args .until)) (c .before .before .before .before .chunk-count .ensures)) (c .before .before .walk .ensures .0) (c .before .if1 .taken) (c .end .ensures)
 
 mul-address : tie.Need-mul-address
-mul-address c = omega (arith, laws.walk-fits (c .before .before .before .before .before .before .before .args .ram .now) (c .before .before .before .before .before .before .before .args .g) (c .before .before .before .before .before .before .before .args .last) (c .before .before .before .chunk-count .result) (c .before .before .least .result) (c .before .walk .result .chunk) (λ j. c .before .before .before .before .before .before .shared-slice-known .given j .fits) (c .before .before .before .chunk-count .ensures) (c .before .before .least .ensures) (c .if1 .left))
+mul-address c = omega (arith, laws.walk-fits (c .before .before .before .before .before .before .before .args .ram .now) (c .before .before .before .before .before .before .before .args .g) (c .before .before .before .before .before .before .before .args .until) (c .before .before .before .chunk-count .result) (c .before .before .least .result) (c .before .walk .result .chunk) (λ j. c .before .before .before .before .before .before .shared-slice-known .given j .fits) (c .before .before .before .chunk-count .ensures) (c .before .before .least .ensures) (c .if1 .left))
 
 get-requires : tie.Need-get-requires
 get-requires c κs = search needs
@@ -34,7 +34,7 @@ end-requires-2 : tie.Need-end-requires-2
 end-requires-2 c κs = search needs
 
 returns-2 : tie.Need-returns-2
-returns-2 c = laws.register-failed (seen (c .before .before .before .before .before .before .before .before .before .before .args .g) (entriesOf (c .before .before .before .before .before .before .before .before .before .before .args .ram .now)) (c .before .before .before .before .before .before .before .before .before .before .args .registered .now) (c .before .before .before .before .before .before .before .before .before .before .args .failed .now)) (c .before .before .before .before .before .before .before .before .before .before .args .offset) (c .before .before .before .before .before .before .before .before .before .before .args .count) (c .before .before .before .before .before .before .before .before .before .before .args .from) (c .before .before .before .before .before .before .before .before .before .before .args .last) (c .before .before .before .before .before .least .result) (c .before .before .before .before .walk .result .chunk) (c .end2 .result) (c .before .before .before .before .before .least .ensures ∙ ap (min (c .before .before .before .before .before .before .before .before .before .before .args .last)) (c .before .before .before .before .before .before .chunk-count .ensures)) (c .before .before .before .before .walk .ensures .0) (c .before .before .before .if1 .left) (sym (c .before .before .get .ensures) ∙ c .before .if2 .taken) (c .end2 .ensures)
+returns-2 c = laws.register-failed (seen (c .before .before .before .before .before .before .before .before .before .before .args .g) (entriesOf (c .before .before .before .before .before .before .before .before .before .before .args .ram .now)) (c .before .before .before .before .before .before .before .before .before .before .args .registered .now) (c .before .before .before .before .before .before .before .before .before .before .args .failed .now)) (c .before .before .before .before .before .before .before .before .before .before .args .offset) (c .before .before .before .before .before .before .before .before .before .before .args .count) (c .before .before .before .before .before .before .before .before .before .before .args .from) (c .before .before .before .before .before .before .before .before .before .before .args .until) (c .before .before .before .before .before .least .result) (c .before .before .before .before .walk .result .chunk) (c .end2 .result) (c .before .before .before .before .before .least .ensures ∙ ap (min (c .before .before .before .before .before .before .before .before .before .before .args .until)) (c .before .before .before .before .before .before .chunk-count .ensures)) (c .before .before .before .before .walk .ensures .0) (c .before .before .before .if1 .left) (sym (c .before .before .get .ensures) ∙ c .before .if2 .taken) (c .end2 .ensures)
 
 add-piece : tie.Need-add-piece
 add-piece c = search needs
@@ -50,7 +50,7 @@ returns-3 c =
     let a = c .before .before .before .before .before .before .before .before .before .before .before .before .args in
     let w = c .before .before .before .before .before .before .walk in
     let clear = sym (c .before .before .before .before .get .ensures) ∙ c .before .before .before .if2 .left in
-    laws.register-asks (seen (c .before .before .before .before .before .before .before .before .before .before .before .before .args .g) (entriesOf (c .before .before .before .before .before .before .before .before .before .before .before .before .args .ram .now)) (c .before .before .before .before .before .before .before .before .before .before .before .before .args .registered .now) (c .before .before .before .before .before .before .before .before .before .before .before .before .args .failed .now)) (c .before .before .before .before .before .before .before .before .before .before .before .before .args .offset) (c .before .before .before .before .before .before .before .before .before .before .before .before .args .count) (c .before .before .before .before .before .before .before .before .before .before .before .before .args .from) (c .before .before .before .before .before .before .before .before .before .before .before .before .args .last) (c .before .before .before .before .before .before .before .least .result) (c .before .before .before .before .before .before .walk .result .chunk) (c .ask .result) (c .before .before .before .before .before .before .before .least .ensures ∙ ap (min (c .before .before .before .before .before .before .before .before .before .before .before .before .args .last)) (c .before .before .before .before .before .before .before .before .chunk-count .ensures)) (c .before .before .before .before .before .before .walk .ensures .0) (c .before .before .before .before .before .if1 .left) clear (c .ask .ensures ∙ ap (asks (a .offset) (a .from) (w .result .chunk)) (c .before .piece .ensures ∙ ap (pieceOf (a .count) (w .result .chunk) (w .result .chunk + 1) (a .last)) (w .ensures .1 (c .before .before .before .before .before .if1 .left) clear)))
+    laws.register-asks (seen (c .before .before .before .before .before .before .before .before .before .before .before .before .args .g) (entriesOf (c .before .before .before .before .before .before .before .before .before .before .before .before .args .ram .now)) (c .before .before .before .before .before .before .before .before .before .before .before .before .args .registered .now) (c .before .before .before .before .before .before .before .before .before .before .before .before .args .failed .now)) (c .before .before .before .before .before .before .before .before .before .before .before .before .args .offset) (c .before .before .before .before .before .before .before .before .before .before .before .before .args .count) (c .before .before .before .before .before .before .before .before .before .before .before .before .args .from) (c .before .before .before .before .before .before .before .before .before .before .before .before .args .until) (c .before .before .before .before .before .before .before .least .result) (c .before .before .before .before .before .before .walk .result .chunk) (c .ask .result) (c .before .before .before .before .before .before .before .least .ensures ∙ ap (min (c .before .before .before .before .before .before .before .before .before .before .before .before .args .until)) (c .before .before .before .before .before .before .before .before .chunk-count .ensures)) (c .before .before .before .before .before .before .walk .ensures .0) (c .before .before .before .before .before .if1 .left) clear (c .ask .ensures ∙ ap (asks (a .offset) (a .from) (w .result .chunk)) (c .before .piece .ensures ∙ ap (pieceOf (a .count) (w .result .chunk) (w .result .chunk + 1) (a .until)) (w .ensures .1 (c .before .before .before .before .before .if1 .left) clear)))
 
 pub register-from-spec : {M : Type 1} → statement M
 register-from-spec =
