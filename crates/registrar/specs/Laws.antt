@@ -3,10 +3,10 @@ use native.Mathlib.Omega.{arith}
 use native.Mathlib.Numerals.{add-one}
 use mathlib.Core.Path.{_≡_, sym, ap, ap₂, _∙_}
 use mathlib.Core.Bool.{Bool, true, not, _&&_}
-use mathlib.Core.List.{List, [], _∷_, _++_, append-assoc, append-nil}
+use mathlib.Core.List.{List, [], _∷_, _++_, append-assoc}
 use Prim.Native.Nat.{ℕ, suc, _+_, _-_, _%_, _^_, _≤_, _<_}
 use lib.Dec.{eqb, leb, ltb}
-use lib.ListN.{length, getD, drop, take, set, replicate, drop-of-length-le}
+use lib.ListN.{length, getD, take, set, replicate}
 use lib.Seq.{set-at, take-suc, take-length, length-take-le}
 use borrow.Author.Tests.{eqb-true}
 use Rattle.laws.specs.Refusal.{unless, passed, refused, answered}
@@ -124,11 +124,6 @@ filled-all ram o g i h k =
 pub after-is : (w : World) (q : Request) (to : ℕ) (m : List ℕ) → q ≡ requestOf (w .state) → to ≡ takenTo (w .state) → m ≡ marked (q .from) to (w .registered)
     → world (w .state) m (w .failed) ≡ afterTaken w
 after-is w q to m e t h = ap (λ (l : List ℕ). world (w .state) l (w .failed)) (h ∙ ap₂ (λ (q : Request) (k : ℕ). marked (q .from) k (w .registered)) e t)
-
--- a map whose words are all cleared
-pub all-clear : (i : ℕ) (m : List ℕ) → i ≡ length m → replicate i 0 ++ drop i m ≡ replicate (length m) 0
-all-clear i m e =
-    rw e (ap (λ (r : List ℕ). replicate (length m) 0 ++ r) (drop-of-length-le m {i = length m} (omega arith)) ∙ append-nil (replicate (length m) 0))
 
 -- an operation failed
 pub failed-made : (w : World) (q i : Request) (s f : List ℕ) (r : Reply) → q ≡ requestOf (w .state) → i ≡ idle → s ≡ withRequest i (w .state)

@@ -1,27 +1,17 @@
 // The registrar: which chunks of guest memory the kernel has been told of. It asks one operation at a time.
 ghost use mathlib.Core.Path.{_≡_};
 ghost use Prim.Native.Nat.{_≤_};
-ghost use lib.ListN.{length, replicate};
+ghost use lib.ListN.{length};
 ghost use Rattle.registrar_state.specs.World.{world, outcome, builtState, buildOf, registerOf, allOf, failedOf, doneOf};
 use registrar_state::Reply;
 use registrar_steps::Answer;
-
-fn clear(map: &mut [u64])
-    ensures { λ _. ⌜ now (map .exit) ≡ replicate (length (now (map .entry))) 0 ⌝ }
-{
-    let mut i: usize = 0;
-    while i < map.len() {
-        map[i] = 0;
-        i += 1;
-    }
-}
 
 fn build_state(state: &mut [u64], ram: &[u64], offset: u64, granularity: u64)
     requires { ⌜ (length (now state) ≡ 108) × (length (now ram) ≤ 96) ⌝ }
     ensures { λ _. ⌜ now (state .exit) ≡ builtState (now (ram .entry)) offset granularity ⌝ }
 {
     let n = layout::entry_count(ram);
-    clear(state);
+    words::clear(state);
     state[9] = offset;
     state[10] = granularity;
     state[11] = n;
@@ -48,8 +38,8 @@ pub extern "C" fn registrar_build(
         return registrar_state::flatten(Answer::Refused(n));
     }
     build_state(state, ram, offset, granularity);
-    clear(registered);
-    clear(failed);
+    words::clear(registered);
+    words::clear(failed);
     registrar_state::flatten(Answer::Done(0))
 }
 
