@@ -1,0 +1,11 @@
+pub mod Maps
+pub mod Steps
+pub mod Counts
+pub mod Operations
+pub mod Taken
+pub mod Calls
+pub mod Refusals
+pub mod Ends
+pub mod Marks
+pub mod Long
+pub mod Examples

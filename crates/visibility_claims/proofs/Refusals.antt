@@ -1,0 +1,136 @@
+-- A refusal leaves all that is lent as it was. Assumes nothing.
+use native.Mathlib.Omega.{arith}
+use mathlib.Core.Path.{_≡_, refl, sym, ap, _∙_}
+use mathlib.Core.Bool.{Bool, true, false, not, cond}
+use mathlib.Core.List.{List}
+use Prim.Native.Nat.{ℕ}
+use lib.Dec.{eqb, ltb}
+use lib.ListN.{length}
+use borrow.Author.Tests.{eqb-true, eqb-false, eq-eqb, ne-eqb}
+use Rattle.laws.specs.Bools.{false≢true}
+use Rattle.laws.specs.Refusal.{passed}
+use Rattle.permissions.specs.HvError.{codeOf}
+use Rattle.permissions.specs.Flags.{vtlOf, boolOf}
+use Rattle.permissions.specs.declared.IsolationType.{IsolationType}
+use Rattle.pages.specs.Pages.{pagesOf}
+use Rattle.acceptor.specs.declared.Phase.{Phase}
+use Rattle.acceptor.specs.declared.Operation.{Operation}
+use Rattle.acceptor.specs.declared.Operation.the-variants.{Wait, FlushAll, Protect, Invalidate, Release, Modify, Accept, Zero}
+use Rattle.acceptor.specs.declared.Answer.the-variants.{Done, AccessDenied, Failed}
+use Rattle.acceptor.specs.declared.Settings.{Settings}
+use Rattle.acceptor.specs.declared.Request.{Request}
+use Rattle.acceptor.specs.declared.Writes.{Writes}
+use Rattle.acceptor.specs.declared.Step.{Step}
+use Rattle.acceptor.specs.Steps.{ask, end, halt, doneOf, failedOf, startOf}
+use Rattle.protector_state.specs.State.{stateLen, phaseIn, requestOf, settingsOf}
+use Rattle.protector_state.specs.Reply.{finished, askedOf, flatOf}
+use Rattle.protector.specs.World.{World, Outcome, fits, statusOf, takes}
+use Rattle.protector.specs.Calls.{decided, carriedOut, buildTaken, buildOf, visibilityTaken, visibilityOf, answerRefusal, answerDone, answerFailed}
+use Rattle.queries.specs.Queries.{queryRefusal, ramBefore, visibilities, filledBy, query, queryOf}
+use Rattle.visibility_claims.specs.Whole.{Succeeds, Fails}
+use Rattle.visibility_claims.specs.Refusals.{Call, Build, ChangeVisibility, AnswerWith, QueryVisibility, Lent, gave, give, refusal, mayChange}
+use Rattle.visibility_claims.proofs.Taken.{done-has, failed-has}
+
+-- ---- what is decided
+
+decided-kept : (w : World) (n : ℕ) (o : Outcome) → (n ≡ 0 → ⊥) → decided w n o ≡ record { world = w; reply = finished n (codeOf n) 0 0 }
+decided-kept w n o h = rw (ne-eqb n 0 h)
+
+-- THE CLAIM: a call that is refused changes nothing
+pub refused-keeps : (x : Lent) (c : Call) → (refusal x c ≡ 0 → ⊥) → give x c .lent ≡ x
+unfolding give refusal buildOf visibilityOf answerDone answerFailed queryOf
+refused-keeps x (Build ram isolation tracked release) h = ap (λ (o : Outcome). gave (x .out) o .lent) (decided-kept (x .world) _ (buildTaken (x .world) ram isolation tracked release) h)
+refused-keeps x (ChangeVisibility vtl visibility l) h = ap (λ (o : Outcome). gave (x .out) o .lent) (decided-kept (x .world) _ _ h)
+refused-keeps x (AnswerWith Succeeds) h = ap (λ (o : Outcome). gave (x .out) o .lent) (decided-kept (x .world) _ _ h)
+refused-keeps x (AnswerWith (Fails code k)) h = ap (λ (o : Outcome). gave (x .out) o .lent) (decided-kept (x .world) _ _ h)
+refused-keeps x (QueryVisibility l) h =
+    ap (λ (o : List ℕ). record { world = x .world; out = o })
+    (go (queryRefusal (x .world .state) (length (x .world .maps .shared)) l) (eqb (queryRefusal (x .world .state) (length (x .world .maps .shared)) l) 0) (ltb (ramBefore (x .world .state) l) (length (pagesOf l))) h)
+  where
+    go : (n : ℕ) (b c : Bool) → (cond b (cond c 7 0) n ≡ 0 → ⊥)
+        → cond b (cond c (query (x .out) (finished 7 (codeOf 7) (ramBefore (x .world .state) l) 0)) (query (filledBy (visibilities (x .world .maps .shared) (pagesOf l)) (x .out)) (finished 0 0 0 0))) (query (x .out) (finished n (codeOf n) 0 0)) .out ≡ x .out
+    go n true true h = refl
+    go n true false h = absurd (h refl)
+    go n false c h = refl
+
+-- ---- the number of a call that is taken
+
+record Plain (i : IsolationType) (x : Step) : Type 0 where
+  plain : mayChange (flatOf i (x .answer) .number) ≡ true
+
+plain-asked : (i : IsolationType) (o : Operation) → mayChange (askedOf i o .number) ≡ true
+unfolding askedOf
+plain-asked i Wait = refl
+plain-asked i FlushAll = refl
+plain-asked i (Protect v f r) = refl
+plain-asked i (Invalidate r) = refl
+plain-asked i (Release r) = refl
+plain-asked i (Modify share n) = refl
+plain-asked i (Accept r) = refl
+plain-asked i (Zero r) = refl
+
+module _ (i : IsolationType) (s : Settings) (t : List ℕ) where
+  plain-ask : (p : Phase) (q : Request) (a : ℕ) (w : Writes) → Unit {0} → Plain i (ask s p q t a w)
+  unfolding ask flatOf
+  plain-ask p q a w u = record { plain = plain-asked i _ }
+
+  plain-end : (q : Request) (w : Writes) → Unit {0} → Plain i (end q w)
+  unfolding end flatOf
+  plain-end q w u = record { plain = go (q .stopped) (q .failed) }
+    where
+      go : (a b : Bool) → mayChange (flatOf i (cond a (AccessDenied (q .index) (q .count)) (cond b (Failed (q .code) (q .index) (q .count)) (Done (q .count)))) .number) ≡ true
+      go true b = refl
+      go false true = refl
+      go false false = refl
+
+  plain-halt : (q : Request) → Unit {0} → Plain i (halt q)
+  unfolding halt flatOf
+  plain-halt q u = record { plain = refl }
+
+  plain-done : (p : Phase) (q : Request) → takes p false ≡ true → mayChange (flatOf i (doneOf s p q t .answer) .number) ≡ true
+  plain-done p q e = done-has s t (λ q. Unit {0}) (Plain i) plain-ask plain-end plain-halt (λ q k code j l u. u) p q e tt .plain
+
+  plain-failed : (p : Phase) (q : Request) (code k : ℕ) → takes p true ≡ true → mayChange (flatOf i (failedOf s p q t code k .answer) .number) ≡ true
+  plain-failed p q code k e = failed-has s t (λ q. Unit {0}) (Plain i) plain-ask plain-end plain-halt (λ q k code j l u. u) p q code k e tt .plain
+
+pub answer-takes : (s : List ℕ) (f b : Bool) → answerRefusal s f b ≡ 0 → takes (phaseIn s) b ≡ true
+unfolding answerRefusal
+answer-takes s f b z =
+    let a = passed (eqb (length s) stateLen) 3 _ z in
+    let d = passed (not (eqb (statusOf (phaseIn s)) 20)) 19 _ (a .1) in
+    let e = passed f 3 _ (d .1) in
+    passed (takes (phaseIn s) b) 20 _ (e .1) .0
+
+decided-taken : (w : World) (n : ℕ) (o : Outcome) → n ≡ 0 → decided w n o ≡ o
+decided-taken w n o h = rw (eq-eqb n 0 h)
+
+taken-changes : (x : Lent) (c : Call) → refusal x c ≡ 0 → mayChange (give x c .reply .number) ≡ true
+unfolding give refusal buildOf buildTaken visibilityOf visibilityTaken answerDone answerFailed carriedOut startOf flatOf askedOf queryOf
+taken-changes x (Build ram isolation tracked release) h =
+    ap (λ (o : Outcome). mayChange (o .reply .number)) (decided-taken (x .world) _ (buildTaken (x .world) ram isolation tracked release) h)
+taken-changes x (ChangeVisibility vtl visibility l) h =
+    ap (λ (o : Outcome). mayChange (o .reply .number)) (decided-taken (x .world) _ (visibilityTaken (x .world) (vtlOf vtl) (boolOf visibility) l) h)
+taken-changes x (AnswerWith Succeeds) h =
+    let s : List ℕ = x .world .state in
+    ap (λ (o : Outcome). mayChange (o .reply .number)) (decided-taken (x .world) _ (carriedOut (x .world) (x .world .pages) (doneOf (settingsOf s) (phaseIn s) (requestOf s) (x .world .pages))) h)
+    ∙ plain-done (settingsOf s .isolation) (settingsOf s) (x .world .pages) (phaseIn s) (requestOf s) (answer-takes s (fits (x .world)) false h)
+taken-changes x (AnswerWith (Fails code k)) h =
+    let s : List ℕ = x .world .state in
+    ap (λ (o : Outcome). mayChange (o .reply .number)) (decided-taken (x .world) _ (carriedOut (x .world) (x .world .pages) (failedOf (settingsOf s) (phaseIn s) (requestOf s) (x .world .pages) code k)) h)
+    ∙ plain-failed (settingsOf s .isolation) (settingsOf s) (x .world .pages) (phaseIn s) (requestOf s) code k (answer-takes s (fits (x .world)) true h)
+taken-changes x (QueryVisibility l) h =
+    go (queryRefusal (x .world .state) (length (x .world .maps .shared)) l) (eqb (queryRefusal (x .world .state) (length (x .world .maps .shared)) l) 0) refl (ltb (ramBefore (x .world .state) l) (length (pagesOf l))) h
+  where
+    go : (n : ℕ) (b : Bool) → eqb n 0 ≡ b → (c : Bool) → cond b (cond c 7 0) n ≡ 0
+        → mayChange (cond b (cond c (query (x .out) (finished 7 (codeOf 7) (ramBefore (x .world .state) l) 0)) (query (filledBy (visibilities (x .world .maps .shared) (pagesOf l)) (x .out)) (finished 0 0 0 0))) (query (x .out) (finished n (codeOf n) 0 0)) .reply .number) ≡ true
+    go n true e true h = absurd (omega arith)
+    go n true e false h = refl
+    go n false e c h = absurd (eqb-false n 0 e h)
+
+-- THE CLAIM by the number alone: any but Ok, 15, 16 and 20 changes nothing
+pub other-numbers-keep : (x : Lent) (c : Call) → mayChange (give x c .reply .number) ≡ false → give x c .lent ≡ x
+other-numbers-keep x c h = go (eqb (refusal x c) 0) refl
+  where
+    go : (b : Bool) → eqb (refusal x c) 0 ≡ b → give x c .lent ≡ x
+    go true e = false≢true (sym h ∙ taken-changes x c (eqb-true (refusal x c) 0 e))
+    go false e = refused-keeps x c (eqb-false (refusal x c) 0 e)

@@ -1,0 +1,43 @@
+-- The number that every taken answer lowers: document 01, "The request under way", on when a call is under way.
+use mathlib.Core.Bool.{Bool, cond}
+use mathlib.Core.List.{List, [], _∷_}
+use Prim.Native.Nat.{ℕ, suc, _+_, _-_, _*_}
+use lib.Dec.{eqb}
+use Rattle.acceptor.specs.declared.Phase.{Phase}
+use Rattle.acceptor.specs.declared.Phase.the-variants.{Idle, Halted, Wait, FlushAll, ProtectNone0, ProtectNone1, Invalidate, Release, Modify, Accept, Zero, ProtectDefault0, ProtectDefault1}
+use Rattle.protector_state.specs.State.{phaseIn, requestOf}
+use Rattle.protector.specs.World.{World, statusOf}
+use Rattle.visibility_claims.specs.Whole.{Given}
+use Rattle.visibility_claims.specs.Calls.{answerOf, takenBy}
+
+-- no fewer than the operations to come, with the one outstanding: of n pages, the run at place a being under way
+abbrev pub left : Phase → ℕ → ℕ → ℕ
+left Idle n a = 0
+left Halted n a = 0
+left Wait n a = 7 * n + 3
+left FlushAll n a = 7 * n + 2
+left ProtectNone0 n a = 3 * (n - suc a) + 4 * n + 4
+left ProtectNone1 n a = 3 * (n - suc a) + 4 * n + 3
+left Invalidate n a = 3 * (n - suc a) + 4 * n + 2
+left Release n a = 3 * (n - suc a) + 4 * n + 2
+left Modify n a = 4 * n + 1
+left Accept n a = 2 * (n - suc a) + 2 * n + 2
+left Zero n a = 2 * (n - suc a) + 2 * n + 1
+left ProtectDefault0 n a = 2 * (n - suc a) + 2
+left ProtectDefault1 n a = 2 * (n - suc a) + 1
+
+abbrev pub leftIn : World → ℕ
+leftIn w = left (phaseIn (w .state)) (requestOf (w .state) .n) (requestOf (w .state) .at)
+
+-- an operation waits for its answer (19)
+abbrev pub underWay : World → Bool
+underWay w = eqb (statusOf (phaseIn (w .state))) 19
+
+-- the world once answers were given in turn, and how many of them were taken
+unfoldable pub afterAll : World → List Given → World
+afterAll w [] = w
+afterAll w (g ∷ gs) = afterAll (answerOf g w .world) gs
+
+unfoldable pub takenOf : World → List Given → ℕ
+takenOf w [] = 0
+takenOf w (g ∷ gs) = cond (takenBy g w) 1 0 + takenOf (answerOf g w .world) gs

@@ -1,0 +1,54 @@
+-- Every call so far, and the number that refuses it: document 01, "From the input" and "From the state".
+use mathlib.Core.Bool.{Bool, true, false, cond, _||_}
+use mathlib.Core.List.{List}
+use Prim.Native.Nat.{ℕ}
+use lib.Dec.{eqb, ltb}
+use lib.ListN.{length}
+use Rattle.layout.specs.Layout.{entriesOf, mapLen}
+use Rattle.pages.specs.Pages.{pagesOf}
+use Rattle.protector_state.specs.declared.Reply.{Reply}
+use Rattle.protector.specs.World.{World, Outcome, fits}
+use Rattle.protector.specs.Calls.{buildFits, buildRefusal, buildOf, visibilityRefusal, visibilityOf, answerRefusal}
+use Rattle.queries.specs.Queries.{queryRefusal, ramBefore, queryOf}
+use Rattle.visibility_claims.specs.Whole.{Given, Succeeds, Fails}
+use Rattle.visibility_claims.specs.Calls.{answerOf}
+
+pub data Call : Type 0 where
+  Build : List ℕ → ℕ → ℕ → ℕ → Call
+  ChangeVisibility : ℕ → ℕ → List ℕ → Call
+  AnswerWith : Given → Call
+  QueryVisibility : List ℕ → Call
+
+-- what is lent: the protector's own, and the output of a query
+pub record Lent : Type 0 where
+  pub world : World
+  pub out : List ℕ
+
+pub record Gave : Type 0 where
+  pub lent : Lent
+  pub reply : Reply
+
+abbrev pub gave : List ℕ → Outcome → Gave
+gave out o = record { lent = record { world = o .world; out = out }; reply = o .reply }
+
+unfoldable pub give : Lent → Call → Gave
+give x (Build ram isolation tracked release) = gave (x .out) (buildOf (x .world) ram isolation tracked release)
+give x (ChangeVisibility vtl visibility l) = gave (x .out) (visibilityOf (x .world) vtl visibility l)
+give x (AnswerWith g) = gave (x .out) (answerOf g (x .world))
+give x (QueryVisibility l) =
+    let q = queryOf (x .world .state) (x .world .maps .shared) l (x .out) in
+    record { lent = record { world = x .world; out = q .out }; reply = q .reply }
+
+-- 0 where it is taken
+unfoldable pub refusal : Lent → Call → ℕ
+refusal x (Build ram isolation tracked release) = buildRefusal ram isolation tracked release (buildFits (mapLen (entriesOf ram)) tracked (x .world))
+refusal x (ChangeVisibility vtl visibility l) = visibilityRefusal (x .world .state) (fits (x .world)) (x .world .tables) vtl visibility l
+refusal x (AnswerWith Succeeds) = answerRefusal (x .world .state) (fits (x .world)) false
+refusal x (AnswerWith (Fails code k)) = answerRefusal (x .world .state) (fits (x .world)) true
+refusal x (QueryVisibility l) =
+    let n = queryRefusal (x .world .state) (length (x .world .maps .shared)) l in
+    cond (eqb n 0) (cond (ltb (ramBefore (x .world .state) l) (length (pagesOf l))) 7 0) n
+
+-- Ok or an operation asked for, 15, 16, 20: every other number changes nothing
+abbrev pub mayChange : ℕ → Bool
+mayChange n = eqb n 0 || (eqb n 15 || (eqb n 16 || eqb n 20))

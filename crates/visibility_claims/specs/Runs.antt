@@ -1,0 +1,68 @@
+-- The steps of a visibility change, each answer given in turn: document 01, "The request under way".
+use mathlib.Core.Bool.{true, false, cond}
+use mathlib.Core.List.{List, [], _∷_, _++_}
+use Prim.Native.Nat.{ℕ, _+_, _%_, _^_}
+use lib.ListN.{length}
+use Rattle.mapping.specs.Maps.{Maps}
+use Rattle.acceptor.specs.declared.Operation.{Operation}
+use Rattle.acceptor.specs.declared.Answer.{Answer}
+use Rattle.acceptor.specs.declared.Answer.the-variants.{Done, AccessDenied, Failed, Halted, Ask, Refused}
+use Rattle.acceptor.specs.declared.Settings.{Settings}
+use Rattle.acceptor.specs.declared.Step.{Step}
+use Rattle.acceptor.specs.Steps.{doneOf, failedOf}
+use Rattle.protector.specs.World.{takes, applied}
+use Rattle.visibility_claims.specs.Whole.{Given, Succeeds, Fails, Stand, Waits, Ok, StoppedAt, FailedAt, Halts, Whole}
+
+-- what the steps gave last: an operation that waits for its answer, or the call's answer
+pub data Last : Type 0 where
+  Outstanding : Last
+  Gives : Answer → Last
+
+-- the operations asked for, in order, the maps left, and what was given last
+pub record Ran : Type 0 where
+  pub asked : List Operation
+  pub maps : Maps
+  pub last : Last
+
+abbrev pub askedBy : Answer → List Operation
+askedBy (Done n) = []
+askedBy (AccessDenied i n) = []
+askedBy (Failed code i n) = []
+askedBy (Halted n) = []
+askedBy (Ask o) = o ∷ []
+askedBy (Refused n) = []
+
+abbrev pub lastOf : Answer → Last
+lastOf (Done n) = Gives (Done n)
+lastOf (AccessDenied i n) = Gives (AccessDenied i n)
+lastOf (Failed code i n) = Gives (Failed code i n)
+lastOf (Halted n) = Gives (Halted n)
+lastOf (Ask o) = Outstanding
+lastOf (Refused n) = Gives (Refused n)
+
+abbrev pub before : List Operation → Ran → Ran
+before os r = record { asked = os ++ r .asked; maps = r .maps; last = r .last }
+
+-- from a step on, with the maps before it: an answer that isn't taken changes nothing
+unfoldable pub run : Settings → List ℕ → Step → Maps → List Given → Ran
+run s t x m [] = record { asked = askedBy (x .answer); maps = applied t (x .writes) m; last = lastOf (x .answer) }
+run s t x m (Succeeds ∷ gs) =
+    cond (takes (x .phase) false) (before (askedBy (x .answer)) (run s t (doneOf s (x .phase) (x .request) t) (applied t (x .writes) m) gs)) (run s t x m gs)
+run s t x m (Fails code k ∷ gs) =
+    cond (takes (x .phase) true) (before (askedBy (x .answer)) (run s t (failedOf s (x .phase) (x .request) t code k) (applied t (x .writes) m) gs)) (run s t x m gs)
+
+-- ---- what the whole call gives, after c operations asked for before it
+
+abbrev pub told : ℕ → Stand → Last
+told n Waits = Outstanding
+told n Ok = Gives (Done n)
+told n (StoppedAt i) = Gives (AccessDenied i n)
+told n (FailedAt code i) = Gives (Failed code i n)
+told n Halts = Gives (Halted n)
+
+abbrev pub after : ℕ → Whole → Ran
+after c w = record { asked = w .asked; maps = w .maps; last = told ((c + length (w .asked)) % 2 ^ 64) (w .stand) }
+
+-- and the whole call: what it tells is counted by its operations
+abbrev pub whole : Whole → Ran
+whole w = record { asked = w .asked; maps = w .maps; last = told (length (w .asked)) (w .stand) }

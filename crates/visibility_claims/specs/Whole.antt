@@ -1,0 +1,165 @@
+-- A whole visibility change under a list of backend answers, written from document 01, "The request under way", its two bullets.
+use mathlib.Core.Bool.{Bool, true, false, cond}
+use mathlib.Core.List.{List, [], _∷_, _++_}
+use Prim.Native.Nat.{ℕ, _+_}
+use lib.Dec.{ltb}
+use lib.ListN.{length, getD, take, drop}
+use Rattle.bitmap.specs.Pages.{written}
+use Rattle.permissions.specs.declared.GuestVtl.{GuestVtl}
+use Rattle.permissions.specs.declared.GuestVtl.the-variants.{Vtl0, Vtl1}
+use Rattle.permissions.specs.declared.IsolationType.{IsolationType}
+use Rattle.permissions.specs.declared.IsolationType.the-variants.{Snp, Tdx, Cca}
+use Rattle.permissions.specs.declared.HvMapGpaFlags.{HvMapGpaFlags}
+use Rattle.permissions.specs.declared.OptionFlags.{OptionFlags}
+use Rattle.permissions.specs.declared.OptionFlags.the-variants.{Some, None}
+use Rattle.permissions.specs.Flags.{noFlags}
+use Rattle.mapping.specs.Maps.{Maps, Permissions, perms, permitted}
+use Rattle.pages.specs.declared.PageRun.{PageRun}
+use Rattle.pages.specs.Pages.{among}
+use Rattle.pages.specs.Runs.{runsOf}
+use Rattle.acceptor.specs.declared.Operation.{Operation}
+use Rattle.acceptor.specs.declared.Operation.the-variants.{Wait, FlushAll, Protect, Invalidate, Release, Modify, Accept, Zero}
+use Rattle.acceptor.specs.declared.Settings.{Settings}
+
+-- an answer of the backend: done, or failed with a code and the number of pages processed
+pub data Given : Type 0 where
+  Succeeds : Given
+  Fails : ℕ → ℕ → Given
+
+-- how a call stands once the answers are used up: it waits for one, is Ok, or ended with 15, 16 or 20
+pub data Stand : Type 0 where
+  Waits : Stand
+  Ok : Stand
+  StoppedAt : ℕ → Stand
+  FailedAt : ℕ → ℕ → Stand
+  Halts : Stand
+
+-- the operations that it asked for, in order, the maps that it leaves, and how it stands; its count is the number of operations
+pub record Whole : Type 0 where
+  pub asked : List Operation
+  pub maps : Maps
+  pub stand : Stand
+
+abbrev pub stands : Maps → Stand → Whole
+stands m x = record { asked = []; maps = m; stand = x }
+
+abbrev pub asking : Operation → Whole → Whole
+asking o w = record { asked = o ∷ w .asked; maps = w .maps; stand = w .stand }
+
+-- "From the state" 21: Wait and a flush cannot fail
+abbrev pub fails : Operation → Bool
+fails Wait = false
+fails FlushAll = false
+fails (Protect v f r) = true
+fails (Invalidate r) = true
+fails (Release r) = true
+fails (Modify share n) = true
+fails (Accept r) = true
+fails (Zero r) = true
+
+-- one operation: it waits for its answer, and goes on by it; a failure that isn't taken leaves it as it is
+unfoldable pub one : Operation → Maps → List Given → (List Given → Whole) → (ℕ → ℕ → List Given → Whole) → Whole
+one o m [] next failed = asking o (stands m Waits)
+one o m (Succeeds ∷ gs) next failed = asking o (next gs)
+one o m (Fails code k ∷ gs) next failed = cond (fails o) (asking o (failed code k gs)) (one o m gs next failed)
+
+-- operations in turn, each after what is written before it (20: a failure halts)
+unfoldable pub inTurn : (Operation → Maps → Maps) → List Operation → Maps → List Given → (Maps → List Given → Whole) → Whole
+inTurn before [] m gs next = next m gs
+inTurn before (o ∷ os) m gs next =
+    one o (before o m) gs (λ gs. inTurn before os (before o m) gs next) (λ code k gs. stands (before o m) Halts)
+
+-- ---- the operations
+
+unfoldable pub perRun : (PageRun → List Operation) → List PageRun → List Operation
+perRun f [] = []
+perRun f (r ∷ rs) = f r ++ perRun f rs
+
+abbrev pub flushes : IsolationType → List Operation
+flushes Snp = FlushAll ∷ []
+flushes Tdx = []
+flushes Cca = []
+
+-- what a run is asked before it is shared
+abbrev pub unaccepts : IsolationType → Bool → PageRun → List Operation
+unaccepts Snp release r = Protect Vtl0 noFlags r ∷ Protect Vtl1 noFlags r ∷ Invalidate r ∷ []
+unaccepts Tdx release r = cond release (Release r ∷ []) []
+unaccepts Cca release r = []
+
+-- what it is asked once it is private
+abbrev pub accepts : IsolationType → PageRun → List Operation
+accepts Snp r = Accept r ∷ Zero r ∷ []
+accepts Tdx r = Accept r ∷ []
+accepts Cca r = []
+
+abbrev pub defaults : HvMapGpaFlags → OptionFlags → PageRun → List Operation
+defaults f (Some g) r = Protect Vtl0 f r ∷ Protect Vtl1 g r ∷ []
+defaults f None r = Protect Vtl0 f r ∷ []
+
+abbrev pub shareOperations : Settings → List ℕ → List Operation
+shareOperations s ps =
+    Wait ∷ flushes (s .isolation) ++ (perRun (unaccepts (s .isolation) (s .release)) (runsOf ps) ++ (Modify true (length ps) ∷ []))
+
+-- ---- the maps
+
+abbrev pub marked : List ℕ → Bool → List ℕ → List ℕ
+marked ps s m = written 8 (among ps) s m
+
+abbrev pub withPrivate : List ℕ → Bool → Maps → Maps
+withPrivate ps s m = record { private = marked ps s (m .private); shared = m .shared; permissions = m .permissions }
+
+abbrev pub withShared : List ℕ → Bool → Maps → Maps
+withShared ps s m = record { private = m .private; shared = marked ps s (m .shared); permissions = m .permissions }
+
+abbrev pub withPermissions : Permissions → Maps → Maps
+withPermissions p m = record { private = m .private; shared = m .shared; permissions = p }
+
+abbrev pub forbidden : List ℕ → Permissions → Permissions
+forbidden ps m = perms (marked ps false (m .read)) (marked ps false (m .write)) (marked ps false (m .kernel)) (marked ps false (m .user))
+
+-- what a Protect of VTL0 writes before it is asked for, where permissions are tracked; no other operation writes so
+abbrev pub protecting : Bool → Operation → Maps → Maps
+protecting tracked Wait m = m
+protecting tracked FlushAll m = m
+protecting tracked (Protect Vtl0 f r) m = cond tracked (withPermissions (permitted (r .first) (r .first + r .count) f (m .permissions)) m) m
+protecting tracked (Protect Vtl1 f r) m = m
+protecting tracked (Invalidate r) m = m
+protecting tracked (Release r) m = m
+protecting tracked (Modify share n) m = m
+protecting tracked (Accept r) m = m
+protecting tracked (Zero r) m = m
+
+-- the two Protects of a share, and what comes before a return's, write none
+abbrev pub writingNone : Operation → Maps → Maps
+writingNone o m = m
+
+-- ---- To shared: ps are the pages asked for, of a list that stopped at place i or did not
+
+abbrev pub clearedBy : Bool → GuestVtl → Maps → List ℕ → Maps
+clearedBy tracked Vtl0 m ps = withPrivate ps false (withPermissions (cond tracked (forbidden ps (m .permissions)) (m .permissions)) m)
+clearedBy tracked Vtl1 m ps = withPrivate ps false m
+
+unfoldable pub wholeShare : Settings → GuestVtl → List ℕ → Bool → ℕ → Maps → List Given → Whole
+wholeShare s v ps stopped i m gs =
+    inTurn writingNone (shareOperations s ps) (clearedBy (s .tracked) v m ps) gs
+    (λ m gs. stands (withShared ps true m) (cond stopped (StoppedAt i) Ok))
+
+-- ---- To private: ps are the pages asked for, at these places of the list
+
+-- once Modify took ps
+unfoldable pub returned : Settings → List ℕ → Maps → List Given → Stand → Whole
+returned s ps m gs end =
+    inTurn writingNone (perRun (accepts (s .isolation)) (runsOf ps)) m gs
+    (λ m gs. inTurn (protecting (s .tracked)) (perRun (defaults (s .defaults .vtl0) (s .defaults .vtl1)) (runsOf ps)) (withPrivate ps true m) gs
+    (λ m gs. stands m end))
+
+-- Modify: what it didn't process is marked shared again, and the call ends with 16 at the place of the first such page
+unfoldable pub modified : Settings → List ℕ → List ℕ → Maps → List Given → Whole
+modified s ps places m gs =
+    one (Modify false (length ps)) m gs (λ gs. returned s ps m gs Ok)
+    (λ code k gs. cond (ltb k (length ps)) (returned s (take k ps) (withShared (drop k ps) true m) gs (FailedAt code (getD places k 0)))
+    (stands m Halts))
+
+unfoldable pub wholeReturn : Settings → List ℕ → List ℕ → Maps → List Given → Whole
+wholeReturn s ps places m gs =
+    inTurn writingNone (Wait ∷ flushes (s .isolation)) (withShared ps false m) gs (λ m gs. modified s ps places m gs)
