@@ -10,10 +10,10 @@ use Rattle.laws.specs.Refusal.{unless}
 use Rattle.bitmap.specs.Pages.{bitAt}
 use Rattle.layout.specs.Layout.{isRam, mapLen}
 use Rattle.permissions.specs.HvError.{codeOf}
-use Rattle.mapping.specs.declared.PermissionsAnswer.{PermissionsAnswer}
-use Rattle.mapping.specs.declared.PermissionsAnswer.the-variants as permissions
 use Rattle.mapping.specs.Maps.{Maps}
-use Rattle.mapping.specs.Query.{accessPermission, lowerVtlPermissions, permissionsNumber, permissionsValue}
+use Rattle.access.specs.declared.PermissionsAnswer.{PermissionsAnswer}
+use Rattle.access.specs.declared.PermissionsAnswer.the-variants as permissions
+use Rattle.access.specs.Query.{accessPermission, lowerVtlPermissions, permissionsNumber, permissionsValue}
 use Rattle.fault.specs.declared.PageFaultAction.{PageFaultAction}
 use Rattle.fault.specs.declared.PageFaultAction.the-variants as fault
 use Rattle.fault.specs.Fault.{pageFault, faultNumber, faultValue}

@@ -6,8 +6,8 @@ ghost use Rattle.layout.specs.Layout.{entriesOf, isRam};
 ghost use Rattle.pages.specs.Pages.{pagesOf};
 ghost use Rattle.request.specs.Request.{stopAt};
 ghost use Rattle.queries.specs.Queries.{queryRefusal, visibilities, filledBy, faultValueOf, permissionsValueOf};
+use access::PermissionsAnswer;
 use fault::PageFaultAction;
-use mapping::PermissionsAnswer;
 
 // 01's number (0 where none), and the value: an action, flags, or the code of a refusal.
 #[repr(C)]
@@ -29,8 +29,8 @@ pub fn permissions_value(a: PermissionsAnswer) -> Value
     ensures { λ r. ⌜ r ≡ permissionsValueOf a ⌝ }
 {
     Value {
-        number: mapping::permissions_number(a),
-        value: mapping::permissions_value(a),
+        number: access::permissions_number(a),
+        value: access::permissions_value(a),
     }
 }
 

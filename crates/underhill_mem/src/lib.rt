@@ -4,8 +4,8 @@ ghost use Rattle.mapping.specs.Maps.{maps};
 ghost use Rattle.protector.specs.World.{world, outcome};
 ghost use Rattle.protector.specs.Calls.{buildOf, visibilityOf, answerDone, answerFailed};
 ghost use Rattle.queries.specs.Queries.{query, queryOf, faultIn, lowerIn, accessIn};
+use access::PermissionsAnswer;
 use fault::PageFaultAction;
-use mapping::PermissionsAnswer;
 use protector_state::Reply;
 use queries::Value;
 
@@ -285,7 +285,7 @@ pub extern "C" fn protector_query_lower_vtl_permissions(
     }
     let tracked = state[17] == 1;
     let ram = protector_state::ram_of(state);
-    queries::permissions_value(mapping::query_lower_vtl_permissions(
+    queries::permissions_value(access::query_lower_vtl_permissions(
         private,
         shared,
         read,
@@ -317,7 +317,7 @@ pub extern "C" fn protector_query_access_permission(
     }
     let tracked = state[17] == 1;
     let ram = protector_state::ram_of(state);
-    queries::permissions_value(mapping::query_access_permission(
+    queries::permissions_value(access::query_access_permission(
         private,
         shared,
         read,

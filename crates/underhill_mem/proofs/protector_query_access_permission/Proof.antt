@@ -8,7 +8,7 @@ use lib.Dec.{eqb}
 use lib.ListN.{getD}
 use Rattle.layout.specs.Layout.{entriesOf}
 use Rattle.mapping.specs.Maps.{maps}
-use Rattle.mapping.specs.Query.{accessPermission}
+use Rattle.access.specs.Query.{accessPermission}
 use Rattle.queries.specs.Queries.{permissionsValueOf, accessIn}
 use Rattle.underhill_mem.proofs.protector_query_access_permission.Statement.{statement}
 use Rattle.underhill_mem.proofs.protector_query_access_permission.Tie as tie

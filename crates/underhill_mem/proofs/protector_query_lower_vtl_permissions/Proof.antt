@@ -8,7 +8,7 @@ use lib.Dec.{eqb}
 use lib.ListN.{getD}
 use Rattle.layout.specs.Layout.{entriesOf}
 use Rattle.mapping.specs.Maps.{maps}
-use Rattle.mapping.specs.Query.{lowerVtlPermissions}
+use Rattle.access.specs.Query.{lowerVtlPermissions}
 use Rattle.queries.specs.Queries.{permissionsValueOf, lowerIn}
 use Rattle.underhill_mem.proofs.protector_query_lower_vtl_permissions.Statement.{statement}
 use Rattle.underhill_mem.proofs.protector_query_lower_vtl_permissions.Tie as tie

@@ -11,9 +11,9 @@ use Rattle.permissions.specs.declared.GuestVtl.{GuestVtl}
 use Rattle.permissions.specs.declared.GuestVtl.the-variants.{Vtl0, Vtl1}
 use Rattle.permissions.specs.declared.HvMapGpaFlags.{HvMapGpaFlags}
 use Rattle.permissions.specs.Flags.{vtlOf, allFlags}
-use Rattle.mapping.specs.declared.PermissionsAnswer.the-variants.{Flags, Refused}
 use Rattle.mapping.specs.Maps.{Permissions, Maps, fitLen, mapsFit, inMaps, flagsAt}
-use Rattle.mapping.specs.Query.{accessRefusal, accessPermission, lowerRefusal, lowerFlags, lowerVtlPermissions}
+use Rattle.access.specs.declared.PermissionsAnswer.the-variants.{Flags, Refused}
+use Rattle.access.specs.Query.{accessRefusal, accessPermission, lowerRefusal, lowerFlags, lowerVtlPermissions}
 
 -- the permission queries
 module _ (es : List MemoryRangeWithNode) (m : Maps) (tracked : Bool) (p n len : ℕ) (fits : Bool) (l : len ≡ mapLen es) (f : fits ≡ fitLen len tracked m) where

@@ -1,7 +1,7 @@
--- `mapping::access_refusal` meets its contract. Assumes nothing.
+-- `access::access_refusal` meets its contract. Assumes nothing.
 use borrow.Author.Tests.{not-true, not-false}
-use Rattle.mapping.proofs.access_refusal.Statement.{statement}
-use Rattle.mapping.proofs.access_refusal.Tie as tie
+use Rattle.access.proofs.access_refusal.Statement.{statement}
+use Rattle.access.proofs.access_refusal.Tie as tie
 
 returns : tie.Need-returns
 returns c = simp (not-true (c .before .args .fits) (c .if1 .taken))

@@ -1,7 +1,7 @@
--- `mapping::permissions_value` meets its contract. Assumes nothing.
+-- `access::permissions_value` meets its contract. Assumes nothing.
 use borrow.Author.Needs.{needs}
-use Rattle.mapping.proofs.permissions_value.Statement.{statement}
-use Rattle.mapping.proofs.permissions_value.Tie as tie
+use Rattle.access.proofs.permissions_value.Statement.{statement}
+use Rattle.access.proofs.permissions_value.Tie as tie
 
 enum-known-a : tie.Need-enum-known-a
 enum-known-a c = search needs

@@ -1,10 +1,10 @@
--- `mapping::query_lower_vtl_permissions` meets its contract. Assumes nothing.
+-- `access::query_lower_vtl_permissions` meets its contract. Assumes nothing.
 use borrow.Author.Needs.{needs}
 use Rattle.layout.specs.Layout.{entriesOf}
 use Rattle.mapping.specs.Maps.{maps}
-use Rattle.mapping.proofs.Answers.{lower-refused, lower-given}
-use Rattle.mapping.proofs.query_lower_vtl_permissions.Statement.{statement}
-use Rattle.mapping.proofs.query_lower_vtl_permissions.Tie as tie
+use Rattle.access.proofs.Answers.{lower-refused, lower-given}
+use Rattle.access.proofs.query_lower_vtl_permissions.Statement.{statement}
+use Rattle.access.proofs.query_lower_vtl_permissions.Tie as tie
 
 map-len-requires : tie.Need-map-len-requires
 map-len-requires c κs = search needs

@@ -1,9 +1,9 @@
--- `mapping::lower_refusal` meets its contract. Assumes nothing.
+-- `access::lower_refusal` meets its contract. Assumes nothing.
 use borrow.Author.Needs.{needs}
 use mathlib.Core.Path.{sym, _∙_}
 use borrow.Author.Tests.{not-true, not-false}
-use Rattle.mapping.proofs.lower_refusal.Statement.{statement}
-use Rattle.mapping.proofs.lower_refusal.Tie as tie
+use Rattle.access.proofs.lower_refusal.Statement.{statement}
+use Rattle.access.proofs.lower_refusal.Tie as tie
 
 returns : tie.Need-returns
 returns c = rw (not-true (c .before .before .args .fits) (c .if1 .taken))

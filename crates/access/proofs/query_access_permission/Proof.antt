@@ -1,10 +1,10 @@
--- `mapping::query_access_permission` meets its contract. Assumes nothing.
+-- `access::query_access_permission` meets its contract. Assumes nothing.
 use borrow.Author.Needs.{needs}
 use Rattle.layout.specs.Layout.{entriesOf}
 use Rattle.mapping.specs.Maps.{maps}
-use Rattle.mapping.proofs.Answers.{access-refused, access-given}
-use Rattle.mapping.proofs.query_access_permission.Statement.{statement}
-use Rattle.mapping.proofs.query_access_permission.Tie as tie
+use Rattle.access.proofs.Answers.{access-refused, access-given}
+use Rattle.access.proofs.query_access_permission.Statement.{statement}
+use Rattle.access.proofs.query_access_permission.Tie as tie
 
 map-len-requires : tie.Need-map-len-requires
 map-len-requires c κs = search needs

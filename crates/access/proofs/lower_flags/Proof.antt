@@ -1,11 +1,11 @@
--- `mapping::lower_flags` meets its contract. Assumes nothing.
+-- `access::lower_flags` meets its contract. Assumes nothing.
 use borrow.Author.Needs.{needs}
 use mathlib.Core.Path.{_∙_}
 use borrow.Author.Tests.{not-true, not-false}
 use Rattle.mapping.specs.Maps.{perms}
-use Rattle.mapping.proofs.Answers.{lower-untracked}
-use Rattle.mapping.proofs.lower_flags.Statement.{statement}
-use Rattle.mapping.proofs.lower_flags.Tie as tie
+use Rattle.access.proofs.Answers.{lower-untracked}
+use Rattle.access.proofs.lower_flags.Statement.{statement}
+use Rattle.access.proofs.lower_flags.Tie as tie
 
 all-requires : tie.Need-all-requires
 all-requires c κs = search needs

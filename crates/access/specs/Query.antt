@@ -11,9 +11,9 @@ use Rattle.permissions.specs.declared.GuestVtl.the-variants.{Vtl0, Vtl1}
 use Rattle.permissions.specs.declared.HvMapGpaFlags.{HvMapGpaFlags}
 use Rattle.permissions.specs.Flags.{fitVtl, vtlOf, bitsOf, allFlags}
 use Rattle.permissions.specs.HvError.{codeOf}
-use Rattle.mapping.specs.declared.PermissionsAnswer.{PermissionsAnswer}
-use Rattle.mapping.specs.declared.PermissionsAnswer.the-variants.{Flags, Refused}
 use Rattle.mapping.specs.Maps.{Permissions, Maps, mapsFit, inMaps, flagsAt}
+use Rattle.access.specs.declared.PermissionsAnswer.{PermissionsAnswer}
+use Rattle.access.specs.declared.PermissionsAnswer.the-variants.{Flags, Refused}
 
 abbrev pub answer : ℕ → HvMapGpaFlags → PermissionsAnswer
 answer n f = cond (eqb n 0) (Flags f) (Refused n)
