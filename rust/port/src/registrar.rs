@@ -10,10 +10,10 @@ use protocol::parse;
 use protocol::parse::Options;
 use protocol::parse::exactly;
 use protocol::show;
-use underhill_mem_port::raw;
-use underhill_mem_port::raw::Lent;
-use underhill_mem_port::raw::Reply;
-use underhill_mem_port::raw::STATE_WORDS;
+use underhill_mem_port::raw::registrar as raw;
+use underhill_mem_port::raw::registrar::Lent;
+use underhill_mem_port::raw::registrar::Reply;
+use underhill_mem_port::raw::registrar::STATE_WORDS;
 
 /// The most chunks that a registrar may have here: two bits are kept for each.
 const MOST_CHUNKS: u64 = 1 << 28;

@@ -1,11 +1,11 @@
 //! The registrar: which chunks of guest memory the kernel has been told of.
 
 use crate::Refusal;
-use crate::raw;
-use crate::raw::Lent;
-use crate::raw::Reply;
-use crate::raw::STATE_WORDS;
-use crate::raw::place;
+use crate::raw::registrar as raw;
+use crate::raw::registrar::Lent;
+use crate::raw::registrar::Reply;
+use crate::raw::registrar::STATE_WORDS;
+use crate::raw::registrar::place;
 use std::error::Error;
 use std::fmt;
 

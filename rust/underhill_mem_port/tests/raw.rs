@@ -1,9 +1,9 @@
 //! The entries on words that no build makes, in buffers of all lengths.
 
-use underhill_mem_port::raw;
-use underhill_mem_port::raw::Lent;
-use underhill_mem_port::raw::Reply;
-use underhill_mem_port::raw::STATE_WORDS;
+use underhill_mem_port::raw::registrar as raw;
+use underhill_mem_port::raw::registrar::Lent;
+use underhill_mem_port::raw::registrar::Reply;
+use underhill_mem_port::raw::registrar::STATE_WORDS;
 
 /// SplitMix64.
 struct Random(u64);

@@ -1,8 +1,4 @@
-//! The library's entries as they are: slices of any length, words in and words out.
-//!
-//! Every entry is proved for all inputs, slices of wrong lengths and arbitrary words among them, so
-//! these functions are safe. [`MemoryRegistrar`](crate::MemoryRegistrar) is what one wants instead;
-//! this is for those who keep the memory themselves, and for tests.
+//! The registrar's entries; [`MemoryRegistrar`](crate::MemoryRegistrar) is what one wants instead.
 
 /// What a registrar's entry gives.
 #[repr(C)]
