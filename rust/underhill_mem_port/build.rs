@@ -1,7 +1,7 @@
-//! Finds the proved library and links it.
+//! Finds the proved libraries and links them.
 //!
-//! It is looked for in the folder that UNDERHILL_MEM_LIB names, else in target/staticlib of the
-//! repository, where `rt staticlib` makes it if it is missing or older than its source.
+//! They are looked for in the folder that UNDERHILL_MEM_LIB names, else in target/staticlib of the
+//! repository, where `rt staticlib` makes what is missing or older than its source.
 
 use std::fs;
 use std::path::Path;
@@ -10,7 +10,7 @@ use std::process::Command;
 use std::time::SystemTime;
 
 /// The crates that are linked, each as libNAME.a.
-const LIBRARIES: [&str; 1] = ["registrar"];
+const LIBRARIES: [&str; 2] = ["registrar", "underhill_mem"];
 
 fn main() {
     println!("cargo::rerun-if-changed=build.rs");

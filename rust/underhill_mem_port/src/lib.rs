@@ -1,16 +1,20 @@
 //! The proved port of underhill_mem, for Rust.
 //!
-//! The port is a library made by `rt staticlib`. It holds no memory of its own: each call is lent a
-//! state block and bitmaps, and asks one backend operation at a time instead of calling back. This
-//! crate owns that memory, speaks in Rust's types and drives a call to its end over a backend.
-//! Nothing is decided here: each answer is the library's own.
+//! The port is two libraries made by `rt staticlib`. They hold no memory of their own: each call is
+//! lent a state block and bitmaps, and asks one backend operation at a time instead of calling back.
+//! This crate owns that memory, speaks in Rust's types and drives a call to its end over a backend.
+//! Nothing is decided here: each answer is the libraries' own.
 //!
+//! - [`HardwareIsolatedMemoryProtector`] takes the place of the original's, for visibility changes
+//!   so far; its [`Backend`] has a method for each operation.
 //! - [`MemoryRegistrar`] takes the place of the original's `MemoryRegistrar`.
-//! - [`raw`] has the library's entries as they are, over lent slices of any length.
+//! - [`raw`] has the libraries' entries as they are, over lent slices of any length.
 //!
 //! Refusals go by document 01's numbers, [`Refusal`].
 //!
 //! # Example
+//!
+//! [`HardwareIsolatedMemoryProtector`] has one of its own; this is the registrar's.
 //!
 //! ```
 //! use underhill_mem_port::{MemoryRange, MemoryRangeWithNode, MemoryRegistrar, RegisterError};
@@ -48,10 +52,31 @@
 //! # Ok::<(), Box<dyn std::error::Error>>(())
 //! ```
 
+mod protector;
 pub mod raw;
 mod refusal;
 mod registrar;
 
+pub use protector::Backend;
+pub use protector::ChangeError;
+#[cfg(feature = "queries")]
+pub use protector::Fault;
+pub use protector::Flags;
+pub use protector::GuestVtl;
+pub use protector::HardwareIsolatedMemoryProtector;
+pub use protector::IsolationType;
+#[cfg(feature = "queries")]
+pub use protector::Mapping;
+pub use protector::ModifyError;
+pub use protector::Operation;
+pub use protector::PageRun;
+pub use protector::Progress;
+pub use protector::Protect;
+#[cfg(feature = "queries")]
+pub use protector::QueryError;
+#[cfg(feature = "queries")]
+pub use protector::View;
+pub use protector::Visibility;
 pub use refusal::Refusal;
 pub use registrar::BuildError;
 pub use registrar::MemoryRange;

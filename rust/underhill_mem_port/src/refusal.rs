@@ -13,27 +13,51 @@ pub enum Refusal {
     UnfitLayout = 1,
     /// 2: a start or an end is no multiple of 32,768.
     BadAlignment = 2,
+    /// 3: an isolation type that the protector doesn't serve.
+    UnfitIsolation = 3,
     /// 4: a lent buffer has the wrong length.
     WrongLength = 4,
+    /// 5: a list of over 512 pages.
+    LongList = 5,
+    /// 6: a page stands twice in a list whose visibility is to change.
+    RepeatedPage = 6,
+    /// 7: a page isn't RAM.
+    NotRam = 7,
     /// 8: a number that stands for one of a few cases is none of them.
     UnfitNumber = 8,
     /// 9: a chunk past the last is touched, or a granularity or alignment is unfit.
     UnfitChunk = 9,
+    /// 10: a page is locked.
+    Locked = 10,
+    /// 11: an overlay is there.
+    Overlay = 11,
     /// 19: an operation is outstanding.
     Busy = 19,
-    /// 21: an answer, and nothing is asked for.
+    /// 20: an earlier call halted.
+    Halted = 20,
+    /// 21: an answer, and nothing is asked for, or what is asked for can't fail.
     NothingAsked = 21,
+    /// 24: permissions aren't tracked.
+    Untracked = 24,
 }
 
 impl Refusal {
-    const ALL: [Self; 7] = [
+    const ALL: [Self; 15] = [
         Self::UnfitLayout,
         Self::BadAlignment,
+        Self::UnfitIsolation,
         Self::WrongLength,
+        Self::LongList,
+        Self::RepeatedPage,
+        Self::NotRam,
         Self::UnfitNumber,
         Self::UnfitChunk,
+        Self::Locked,
+        Self::Overlay,
         Self::Busy,
+        Self::Halted,
         Self::NothingAsked,
+        Self::Untracked,
     ];
 
     /// Document 01's number.
@@ -45,6 +69,14 @@ impl Refusal {
     pub fn from_number(number: u64) -> Option<Self> {
         Self::ALL.into_iter().find(|r| r.number() == number)
     }
+
+    /// The hypervisor's code for it, OperationDenied; none for those that are the port's own.
+    pub fn code(self) -> Option<u16> {
+        match self {
+            Self::NotRam | Self::Locked | Self::Overlay => Some(8),
+            _ => None,
+        }
+    }
 }
 
 impl fmt::Display for Refusal {
@@ -52,11 +84,19 @@ impl fmt::Display for Refusal {
         let text = match self {
             Self::UnfitLayout => "unfit layout or offset",
             Self::BadAlignment => "memory map entries must be aligned to 32,768 bytes",
+            Self::UnfitIsolation => "unfit isolation type",
             Self::WrongLength => "lent buffer of wrong length",
+            Self::LongList => "list over 512 pages",
+            Self::RepeatedPage => "a page stands twice in the list",
+            Self::NotRam => "page not in guest RAM",
             Self::UnfitNumber => "unfit number",
             Self::UnfitChunk => "chunk past the last, or unfit granularity or alignment",
+            Self::Locked => "page locked",
+            Self::Overlay => "overlay page",
             Self::Busy => "an operation is outstanding",
-            Self::NothingAsked => "nothing is asked for",
+            Self::Halted => "halted by an earlier call",
+            Self::NothingAsked => "nothing is asked for that this answers",
+            Self::Untracked => "permissions are not tracked",
         };
         write!(f, "{text} (refusal {})", self.number())
     }

@@ -49,11 +49,11 @@ impl<F: FnMut(MemoryRange) -> Result<(), E>, E> RegisterMemory for F {
     }
 }
 
-/// Why no registrar was made.
+/// Why no registrar or protector was made.
 #[derive(Debug, Clone, Copy, PartialEq, Eq)]
 pub enum BuildError {
     Refused(Refusal),
-    /// The two bitmaps, of so many words each, can't be allocated.
+    /// The bitmaps, of so many words each, can't be allocated.
     OutOfMemory {
         words: u64,
     },

@@ -191,7 +191,7 @@ fn refusals_have_their_numbers() {
             assert_eq!(refusal.number(), number);
         }
     }
-    assert_eq!(Refusal::from_number(20), None);
+    assert_eq!(Refusal::from_number(22), None);
     let error = RegisterError::from(Refusal::Busy);
     assert_eq!(
         error.to_string(),

@@ -3,4 +3,5 @@
 //! Every entry is proved for all inputs, slices of wrong lengths and arbitrary words among them, so
 //! these functions are safe. They are for those who keep the memory themselves, and for tests.
 
+pub mod protector;
 pub mod registrar;

@@ -1,0 +1,435 @@
+//! The protector's entries; [`HardwareIsolatedMemoryProtector`](crate::HardwareIsolatedMemoryProtector)
+//! is what one wants instead.
+
+/// What an entry of the protector gives.
+#[repr(C)]
+#[derive(Debug, Clone, Copy, PartialEq, Eq, Default)]
+pub struct Reply {
+    /// Document 01's number; 0 where none.
+    pub number: u64,
+    /// The hypervisor's code of 7, 10, 11, 15 and 16.
+    pub code: u64,
+    /// The place in the list that `code` is about.
+    pub index: u64,
+    /// Of a finished call, how many operations it asked for.
+    pub count: u64,
+    /// The operation asked for, see [`operation`]; 0 if the call is finished or refused.
+    pub operation: u64,
+    /// Of Protect, with `flags` and, on SNP, the RMPADJUST `operand`.
+    pub vtl: u64,
+    pub flags: u64,
+    pub operand: u64,
+    /// The first page of the operation's run,
+    pub first: u64,
+    /// and how many. Of Modify, how many words of the table of pages it names.
+    pub pages: u64,
+    /// Of Modify: 1 if to shared.
+    pub shared: u64,
+}
+
+/// What a query of one page or a fault gives.
+#[repr(C)]
+#[derive(Debug, Clone, Copy, PartialEq, Eq, Default)]
+#[cfg(feature = "queries")]
+pub struct Value {
+    /// Document 01's number; 0 where none.
+    pub number: u64,
+    /// The answer, or the code of the number.
+    pub value: u64,
+}
+
+/// The numbers of operations.
+pub mod operation {
+    pub const WAIT: u64 = 1;
+    pub const FLUSH_ALL: u64 = 2;
+    pub const PROTECT: u64 = 3;
+    pub const INVALIDATE: u64 = 4;
+    pub const RELEASE: u64 = 5;
+    pub const MODIFY: u64 = 6;
+    pub const ACCEPT: u64 = 7;
+    pub const ZERO: u64 = 8;
+}
+
+/// The words of a protector's state block.
+pub const STATE_WORDS: usize = 128;
+/// The words of the table of the request's pages.
+pub const PAGES_WORDS: usize = 1024;
+/// The words of the tables of overlays and locks.
+pub const TABLES_WORDS: usize = 3460;
+
+/// Places in the state block.
+pub mod place {
+    pub const ISOLATION: usize = 16;
+    /// 1 if permissions are tracked.
+    pub const TRACKED: usize = 17;
+    /// 1 if VTL1's protections are enabled.
+    pub const ENABLED: usize = 19;
+    /// The default flags of VTL0,
+    pub const DEFAULT0: usize = 20;
+    /// and of VTL1, above 15 where none are given.
+    pub const DEFAULT1: usize = 21;
+}
+
+/// The bitmaps: page p is bit p % 8 of byte p / 8. The last four are empty if untracked.
+#[derive(Debug)]
+pub struct Maps<'a> {
+    pub private: &'a mut [u8],
+    pub shared: &'a mut [u8],
+    pub read: &'a mut [u8],
+    pub write: &'a mut [u8],
+    pub kernel: &'a mut [u8],
+    pub user: &'a mut [u8],
+}
+
+/// What a call of the protector is lent.
+#[derive(Debug)]
+pub struct Lent<'a> {
+    /// A bit a page: [`map_bytes`] bytes each.
+    pub maps: Maps<'a>,
+    /// [`STATE_WORDS`] words.
+    pub state: &'a mut [u64],
+    /// [`PAGES_WORDS`] words: the pages that the request asks for, then their places in its list.
+    pub pages: &'a mut [u64],
+    /// [`TABLES_WORDS`] words.
+    pub tables: &'a mut [u64],
+}
+
+/// How many bytes a bitmap of the pages below `last_end` has.
+pub fn map_bytes(last_end: u64) -> u64 {
+    last_end / 32_768
+}
+
+mod entries {
+    use super::Reply;
+    #[cfg(feature = "queries")]
+    use super::Value;
+
+    // A slice crosses as its pointer and its length.
+    unsafe extern "C" {
+        pub fn protector_build(
+            ram: *const u64,
+            ram_len: usize,
+            isolation: u64,
+            tracked: u64,
+            release: u64,
+            private: *mut u8,
+            private_len: usize,
+            shared: *mut u8,
+            shared_len: usize,
+            read: *mut u8,
+            read_len: usize,
+            write: *mut u8,
+            write_len: usize,
+            kernel: *mut u8,
+            kernel_len: usize,
+            user: *mut u8,
+            user_len: usize,
+            state: *mut u64,
+            state_len: usize,
+            pages: *mut u64,
+            pages_len: usize,
+            tables: *mut u64,
+            tables_len: usize,
+        ) -> Reply;
+
+        pub fn protector_change_host_visibility(
+            private: *mut u8,
+            private_len: usize,
+            shared: *mut u8,
+            shared_len: usize,
+            read: *mut u8,
+            read_len: usize,
+            write: *mut u8,
+            write_len: usize,
+            kernel: *mut u8,
+            kernel_len: usize,
+            user: *mut u8,
+            user_len: usize,
+            state: *mut u64,
+            state_len: usize,
+            pages: *mut u64,
+            pages_len: usize,
+            tables: *const u64,
+            tables_len: usize,
+            vtl: u64,
+            visibility: u64,
+            list: *const u8,
+            list_len: usize,
+        ) -> Reply;
+
+        pub fn protector_answer_done(
+            private: *mut u8,
+            private_len: usize,
+            shared: *mut u8,
+            shared_len: usize,
+            read: *mut u8,
+            read_len: usize,
+            write: *mut u8,
+            write_len: usize,
+            kernel: *mut u8,
+            kernel_len: usize,
+            user: *mut u8,
+            user_len: usize,
+            state: *mut u64,
+            state_len: usize,
+            pages: *mut u64,
+            pages_len: usize,
+            tables: *mut u64,
+            tables_len: usize,
+        ) -> Reply;
+
+        pub fn protector_answer_failed(
+            private: *mut u8,
+            private_len: usize,
+            shared: *mut u8,
+            shared_len: usize,
+            read: *mut u8,
+            read_len: usize,
+            write: *mut u8,
+            write_len: usize,
+            kernel: *mut u8,
+            kernel_len: usize,
+            user: *mut u8,
+            user_len: usize,
+            state: *mut u64,
+            state_len: usize,
+            pages: *mut u64,
+            pages_len: usize,
+            tables: *mut u64,
+            tables_len: usize,
+            code: u16,
+            processed: u64,
+        ) -> Reply;
+    }
+
+    #[cfg(feature = "queries")]
+    unsafe extern "C" {
+        pub fn protector_query_host_visibility(
+            state: *const u64,
+            state_len: usize,
+            shared: *const u8,
+            shared_len: usize,
+            list: *const u8,
+            list_len: usize,
+            out: *mut u8,
+            out_len: usize,
+        ) -> Reply;
+
+        pub fn protector_page_fault(
+            private: *const u8,
+            private_len: usize,
+            shared: *const u8,
+            shared_len: usize,
+            read: *const u8,
+            read_len: usize,
+            write: *const u8,
+            write_len: usize,
+            kernel: *const u8,
+            kernel_len: usize,
+            user: *const u8,
+            user_len: usize,
+            state: *const u64,
+            state_len: usize,
+            mapping: u64,
+            view: u64,
+            address: u64,
+            writes: u64,
+            failure: u64,
+        ) -> Value;
+
+        pub fn protector_query_lower_vtl_permissions(
+            private: *const u8,
+            private_len: usize,
+            shared: *const u8,
+            shared_len: usize,
+            read: *const u8,
+            read_len: usize,
+            write: *const u8,
+            write_len: usize,
+            kernel: *const u8,
+            kernel_len: usize,
+            user: *const u8,
+            user_len: usize,
+            state: *const u64,
+            state_len: usize,
+            vtl: u64,
+            gpn: u64,
+        ) -> Value;
+
+        pub fn protector_query_access_permission(
+            private: *const u8,
+            private_len: usize,
+            shared: *const u8,
+            shared_len: usize,
+            read: *const u8,
+            read_len: usize,
+            write: *const u8,
+            write_len: usize,
+            kernel: *const u8,
+            kernel_len: usize,
+            user: *const u8,
+            user_len: usize,
+            state: *const u64,
+            state_len: usize,
+            gpn: u64,
+        ) -> Value;
+    }
+}
+
+/// Calls an entry with what is lent between the words before and those behind.
+macro_rules! call {
+    ($entry:ident, [$($before:expr),*], $lent:expr, [$($behind:expr),*]) => {{
+        let Lent { maps, state, pages, tables } = $lent;
+        let Maps { private, shared, read, write, kernel, user } = maps;
+        // SAFETY: the pointers and lengths are of slices that are borrowed for the call, those
+        // that are written exclusively. The entry reads and writes inside them alone, keeps none,
+        // and takes any length, any bytes and any words: that is proved of it.
+        unsafe {
+            entries::$entry(
+                $($before,)*
+                private.as_mut_ptr(),
+                private.len(),
+                shared.as_mut_ptr(),
+                shared.len(),
+                read.as_mut_ptr(),
+                read.len(),
+                write.as_mut_ptr(),
+                write.len(),
+                kernel.as_mut_ptr(),
+                kernel.len(),
+                user.as_mut_ptr(),
+                user.len(),
+                state.as_mut_ptr(),
+                state.len(),
+                pages.as_mut_ptr(),
+                pages.len(),
+                tables.as_mut_ptr(),
+                tables.len(),
+                $($behind,)*
+            )
+        }
+    }};
+}
+
+/// `ram` is three words an entry: start, end, node. `isolation` is 2 for SNP, 3 for TDX, 4 for
+/// CCA; `tracked` and `release` are 0 or 1.
+pub fn build(ram: &[u64], isolation: u64, tracked: u64, release: u64, lent: Lent<'_>) -> Reply {
+    call!(
+        protector_build,
+        [ram.as_ptr(), ram.len(), isolation, tracked, release],
+        lent,
+        []
+    )
+}
+
+/// `visibility` is 0 for private, 1 for shared; `list` has eight bytes a page, the lowest first.
+/// The tables are read only.
+pub fn change_host_visibility(lent: Lent<'_>, vtl: u64, visibility: u64, list: &[u8]) -> Reply {
+    call!(
+        protector_change_host_visibility,
+        [],
+        lent,
+        [vtl, visibility, list.as_ptr(), list.len()]
+    )
+}
+
+/// The operation asked for is done.
+pub fn answer_done(lent: Lent<'_>) -> Reply {
+    call!(protector_answer_done, [], lent, [])
+}
+
+/// The operation asked for failed; the code and the pages processed are read of a Modify alone.
+pub fn answer_failed(lent: Lent<'_>, code: u16, processed: u64) -> Reply {
+    call!(protector_answer_failed, [], lent, [code, processed])
+}
+
+/// What a query that writes nothing is lent.
+#[derive(Debug, Clone, Copy)]
+#[cfg(feature = "queries")]
+pub struct Seen<'a> {
+    pub private: &'a [u8],
+    pub shared: &'a [u8],
+    pub read: &'a [u8],
+    pub write: &'a [u8],
+    pub kernel: &'a [u8],
+    pub user: &'a [u8],
+    pub state: &'a [u64],
+}
+
+/// Calls an entry with what is seen, and the words behind.
+#[cfg(feature = "queries")]
+macro_rules! look {
+    ($entry:ident, $seen:expr, [$($behind:expr),*]) => {{
+        let Seen { private, shared, read, write, kernel, user, state } = $seen;
+        // SAFETY: the pointers and lengths are of slices that are borrowed for the call. The entry
+        // reads inside them alone, keeps none, and takes any length, any bytes and any words.
+        unsafe {
+            entries::$entry(
+                private.as_ptr(),
+                private.len(),
+                shared.as_ptr(),
+                shared.len(),
+                read.as_ptr(),
+                read.len(),
+                write.as_ptr(),
+                write.len(),
+                kernel.as_ptr(),
+                kernel.len(),
+                user.as_ptr(),
+                user.len(),
+                state.as_ptr(),
+                state.len(),
+                $($behind,)*
+            )
+        }
+    }};
+}
+
+/// Writes a byte a page to `out`, as far as it goes: 0 private, 1 shared.
+#[cfg(feature = "queries")]
+pub fn query_host_visibility(state: &[u64], shared: &[u8], list: &[u8], out: &mut [u8]) -> Reply {
+    // SAFETY: as above; `out` is borrowed exclusively.
+    unsafe {
+        entries::protector_query_host_visibility(
+            state.as_ptr(),
+            state.len(),
+            shared.as_ptr(),
+            shared.len(),
+            list.as_ptr(),
+            list.len(),
+            out.as_mut_ptr(),
+            out.len(),
+        )
+    }
+}
+
+/// `mapping` is 0 for the encrypted one, 1 for the shared; `view` is 0 for read, 1 for kernel
+/// execute, 2 for user execute; `writes` and `failure` are 0 or 1. The answer is 0 for Retry, 1
+/// for NotMapped, 2 for NotShared, 3 for NotPrivate, 4 for VtlProtected.
+#[cfg(feature = "queries")]
+pub fn page_fault(
+    seen: Seen<'_>,
+    mapping: u64,
+    view: u64,
+    address: u64,
+    writes: u64,
+    failure: u64,
+) -> Value {
+    look!(
+        protector_page_fault,
+        seen,
+        [mapping, view, address, writes, failure]
+    )
+}
+
+/// The flags that a VTL has on a page, as far as lower VTLs decide.
+#[cfg(feature = "queries")]
+pub fn query_lower_vtl_permissions(seen: Seen<'_>, vtl: u64, gpn: u64) -> Value {
+    look!(protector_query_lower_vtl_permissions, seen, [vtl, gpn])
+}
+
+/// The flags of a page in the permission maps.
+#[cfg(feature = "queries")]
+pub fn query_access_permission(seen: Seen<'_>, gpn: u64) -> Value {
+    look!(protector_query_access_permission, seen, [gpn])
+}
