@@ -1,9 +1,11 @@
 //! The port's side of the line protocol: the proved library behind its C boundary.
 //!
 //! `session` takes a line apart and keeps what holds for the next ones, `lend` has the buffers of
-//! wrong length, `registrar` the registrar's commands. The protector's are not in this build.
+//! wrong length, `protector` and `registrar` the commands of each. Commands of the protector whose
+//! entries the library doesn't have yet are `bad`.
 
 mod lend;
+mod protector;
 mod registrar;
 mod session;
 

@@ -2,6 +2,7 @@
 
 use crate::lend::Lends;
 use crate::session::Run;
+use crate::session::entry;
 use crate::session::plain;
 use protocol::Op;
 use protocol::Parsed;
@@ -58,7 +59,7 @@ impl Registrar {
     /// That none of the buffers fits the registrar there is.
     pub fn check_lends(&self, lends: &Lends) -> Parsed<()> {
         let maps = self.0.as_ref().map(|built| built.registered.len());
-        lends.check(STATE_WORDS, maps.unwrap_or(usize::MAX))
+        lends.check_registrar(STATE_WORDS, maps.unwrap_or(usize::MAX))
     }
 
     pub fn build(&mut self, args: &[&str], run: Run) -> Parsed<String> {
@@ -68,7 +69,7 @@ impl Registrar {
         let ram = parse::entries(options.required("ram")?, entry)?.concat();
         let mut lends = run.lends;
         let mut built = Built::new(map_words(&ram, offset, granularity)?);
-        lends.check(
+        lends.check_registrar(
             STATE_WORDS,
             match built.registered.len() {
                 // Of an unfit layout no length is right.
@@ -120,7 +121,7 @@ impl Registrar {
     fn call(&mut self, run: Run, entry: impl FnOnce(Lent<'_>) -> Reply) -> Parsed<String> {
         let built = self.built()?;
         let mut lends = run.lends;
-        lends.check(STATE_WORDS, built.registered.len())?;
+        lends.check_registrar(STATE_WORDS, built.registered.len())?;
         let was_idle = built.state[0] == 0;
         let mut reply = entry(built.lent(&mut lends));
         let mut ops = Vec::new();
@@ -143,12 +144,6 @@ impl Registrar {
         let more: Vec<_> = count.into_iter().chain(lends.written()).collect();
         Ok(show::answer(&result(&reply), &ops, &more))
     }
-}
-
-/// `START-END:NODE` as it crosses.
-fn entry(text: &str) -> Parsed<[u64; 3]> {
-    let (start, end, node) = parse::entry(text)?;
-    Ok([start, end, parse::number(node)?])
 }
 
 /// How many words the bitmaps of such a registrar have; 0 if it is refused otherwise.

@@ -1,6 +1,7 @@
 //! A conversation: which command a line is, and what earlier lines set.
 
 use crate::lend::Lends;
+use crate::protector::Protector;
 use crate::registrar::Registrar;
 use protocol::Parsed;
 use protocol::bad;
@@ -10,11 +11,8 @@ use protocol::parse::exactly;
 use protocol::serve;
 use protocol::show;
 
-/// The protector's commands.
-const PROTECTOR: [&str; 20] = [
-    "build",
-    "change_host_visibility",
-    "query_host_visibility",
+/// The protector's commands whose entries aren't in the library yet.
+const UNSERVED: &[&str] = &[
     "change_vtl_protections",
     "change_default_vtl_protections",
     "register_overlay_page",
@@ -25,21 +23,25 @@ const PROTECTOR: [&str; 20] = [
     "set_vtl1_protections_enabled",
     "vtl1_protections_enabled",
     "default_vtl0_protections",
-    "query_lower_vtl_permissions",
-    "query_access_permission",
-    "page_fault",
     "permissions",
-    "dump",
-    "tables",
-    "answer",
+    #[cfg(not(feature = "queries"))]
+    "query_host_visibility",
+    #[cfg(not(feature = "queries"))]
+    "query_lower_vtl_permissions",
+    #[cfg(not(feature = "queries"))]
+    "query_access_permission",
+    #[cfg(not(feature = "queries"))]
+    "page_fault",
 ];
 
-/// A conversation: at most one registrar.
+/// A conversation: at most one protector and one registrar.
 #[derive(Default)]
 pub struct Session {
     step: bool,
+    trace: bool,
     /// For the next line alone.
     lends: Lends,
+    protector: Protector,
     registrar: Registrar,
 }
 
@@ -47,6 +49,8 @@ pub struct Session {
 pub struct Run {
     /// It stops at the first operation.
     pub step: bool,
+    /// The maps are shown at each operation.
+    pub trace: bool,
     pub failures: Failures,
     pub lends: Lends,
 }
@@ -72,10 +76,24 @@ impl Session {
         }
         let run = Run {
             step: self.step,
+            trace: self.trace,
             failures,
             lends,
         };
         match name {
+            "build" => self.protector.build(args, run),
+            "change_host_visibility" => self.protector.change_host_visibility(args, run),
+            #[cfg(feature = "queries")]
+            "query_host_visibility" => self.protector.query_host_visibility(args, run),
+            #[cfg(feature = "queries")]
+            "query_lower_vtl_permissions" => self.protector.query_lower_vtl_permissions(args, run),
+            #[cfg(feature = "queries")]
+            "query_access_permission" => self.protector.query_access_permission(args, run),
+            #[cfg(feature = "queries")]
+            "page_fault" => self.protector.page_fault(args, run),
+            "answer" => self.protector.answer(args, run),
+            "dump" => self.protector.dump(args),
+            "tables" => self.protector.tables(args),
             "registrar" => self.registrar.build(args, run),
             "register" => self.registrar.register(args, run),
             "register_all_aligned" => self.registrar.register_all_aligned(args, run),
@@ -83,8 +101,8 @@ impl Session {
             "rdump" => self.registrar.dump(args),
             "lend" => self.lend(args),
             "step" => self.set_step(args),
-            "trace" => trace(args),
-            name if PROTECTOR.contains(&name) => bad("not in this build"),
+            "trace" => self.set_trace(args),
+            name if UNSERVED.contains(&name) => bad("not in this build"),
             _ => bad("unknown command"),
         }
     }
@@ -92,6 +110,7 @@ impl Session {
     fn lend(&mut self, args: &[&str]) -> Parsed<String> {
         let lends = Lends::new(args)?;
         self.registrar.check_lends(&lends)?;
+        self.protector.check_lends(&lends)?;
         self.lends = lends;
         plain("ok")
     }
@@ -101,16 +120,21 @@ impl Session {
         self.step = parse::bit(on)?;
         plain("ok")
     }
-}
 
-/// A trace shows the protector's maps, and none follow Register.
-fn trace(args: &[&str]) -> Parsed<String> {
-    let [on] = exactly(args)?;
-    parse::bit(on)?;
-    plain("ok")
+    fn set_trace(&mut self, args: &[&str]) -> Parsed<String> {
+        let [on] = exactly(args)?;
+        self.trace = parse::bit(on)?;
+        plain("ok")
+    }
 }
 
 /// A line that asked for nothing.
 pub fn plain(result: &str) -> Parsed<String> {
     Ok(show::answer(result, &[], &[]))
+}
+
+/// `START-END:NODE` as it crosses.
+pub fn entry(text: &str) -> Parsed<[u64; 3]> {
+    let (start, end, node) = parse::entry(text)?;
+    Ok([start, end, parse::number(node)?])
 }
