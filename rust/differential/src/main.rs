@@ -1,13 +1,11 @@
-//! `differential --calls N --seed S [--case I]`: runs the port and the original on N generated calls
-//! and compares. `--case` runs one case of that seed alone and prints it.
+//! `differential --calls N --seed S [--part P] [--case I]`: runs the port and the original on N
+//! generated calls and compares. `--part registrar|protector|raw` takes the cases of one part
+//! alone; `--case` runs one case of that seed alone and prints it.
 
-use differential::case::Act;
 use differential::coverage::Coverage;
-use differential::generate;
-use differential::random::Random;
+use differential::part::Case;
+use differential::part::Part;
 use differential::run::Difference;
-use differential::run::run;
-use differential::shrink::shrink;
 use std::process::ExitCode;
 use std::time::Duration;
 use std::time::Instant;
@@ -15,6 +13,7 @@ use std::time::Instant;
 struct Options {
     calls: u64,
     seed: u64,
+    part: Option<Part>,
     case: Option<u64>,
 }
 
@@ -23,7 +22,9 @@ fn main() -> ExitCode {
         Ok(options) => options,
         Err(text) => {
             eprintln!("differential: {text}");
-            eprintln!("usage: differential --calls N --seed S [--case I]");
+            eprintln!(
+                "usage: differential --calls N --seed S [--part registrar|protector|raw] [--case I]"
+            );
             return ExitCode::from(2);
         }
     };
@@ -40,12 +41,19 @@ fn options() -> Result<Options, String> {
     let mut options = Options {
         calls: 100_000,
         seed: 1,
+        part: None,
         case: None,
     };
     let mut args = std::env::args().skip(1);
     while let Some(name) = args.next() {
-        let number = args.next().and_then(|value| value.parse().ok());
-        let number: u64 = number.ok_or(format!("{name} wants a number"))?;
+        let value = args.next().ok_or(format!("{name} wants a value"))?;
+        if name == "--part" {
+            options.part = Some(Part::named(&value).ok_or(format!("no part is {value}"))?);
+            continue;
+        }
+        let number: u64 = value
+            .parse()
+            .map_err(|_| format!("{name} wants a number"))?;
         match name.as_str() {
             "--calls" => options.calls = number,
             "--seed" => options.seed = number,
@@ -59,33 +67,33 @@ fn options() -> Result<Options, String> {
 fn all(options: &Options, coverage: &mut Coverage) -> ExitCode {
     let (calls, seed) = (options.calls, options.seed);
     let mut last = Instant::now();
-    let mut case = 0;
+    let mut number = 0;
     while coverage.calls() < calls {
-        let acts = generate::case(&mut Random::new(seed, case));
-        if let Some(difference) = run(&acts, coverage) {
+        let case = Case::new(seed, number, options.part);
+        if let Some(difference) = case.run(coverage) {
             println!("{coverage}");
-            println!("differential: case {case} of seed {seed} differs");
-            report(&acts, difference);
+            println!("differential: case {number} of seed {seed} differs");
+            report(&case, difference);
             return ExitCode::FAILURE;
         }
-        case += 1;
+        number += 1;
         if last.elapsed() > Duration::from_secs(2) {
             last = Instant::now();
             let done = coverage.calls();
-            eprintln!("differential: {done} of {calls} calls, case {case} of seed {seed}");
+            eprintln!("differential: {done} of {calls} calls, case {number} of seed {seed}");
         }
     }
     println!("{coverage}");
-    println!("differential: {case} cases of seed {seed}, no difference");
+    println!("differential: {number} cases of seed {seed}, no difference");
     ExitCode::SUCCESS
 }
 
-fn one(options: &Options, case: u64, coverage: &mut Coverage) -> ExitCode {
-    let acts = generate::case(&mut Random::new(options.seed, case));
-    print_script(&acts);
-    match run(&acts, coverage) {
+fn one(options: &Options, number: u64, coverage: &mut Coverage) -> ExitCode {
+    let case = Case::new(options.seed, number, options.part);
+    print_script(&case);
+    match case.run(coverage) {
         Some(difference) => {
-            report(&acts, difference);
+            report(&case, difference);
             ExitCode::FAILURE
         }
         None => {
@@ -95,11 +103,10 @@ fn one(options: &Options, case: u64, coverage: &mut Coverage) -> ExitCode {
     }
 }
 
-fn report(acts: &[Act], difference: Difference) {
-    let differs = |acts: &[Act]| run(acts, &mut Coverage::default()).map(|d| d.place);
-    let short = shrink(acts, differs);
-    let shown = run(&short, &mut Coverage::default()).unwrap_or(difference);
-    println!("The shortest list found, which port and oracle read too:");
+fn report(case: &Case, difference: Difference) {
+    let short = case.shrunk();
+    let shown = short.run(&mut Coverage::default()).unwrap_or(difference);
+    println!("The shortest list found{}:", short.readers());
     print_script(&short);
     println!("differs at       {}", shown.line);
     println!("the port gives   {}", shown.port);
@@ -110,8 +117,8 @@ fn report(acts: &[Act], difference: Difference) {
     println!("01 is read as    {}", shown.predicted);
 }
 
-fn print_script(acts: &[Act]) {
-    for line in acts.iter().flat_map(Act::lines) {
+fn print_script(case: &Case) {
+    for line in case.lines() {
         println!("    {line}");
     }
 }

@@ -12,16 +12,23 @@ use std::time::Instant;
 const MOST_TRIES: usize = 20_000;
 const MOST_TIME: Duration = Duration::from_secs(20);
 
+/// What a case is made of.
+pub trait Simpler: Clone {
+    /// The same in simpler forms; each is simpler than the one before by some measure, so that
+    /// shrinking ends.
+    fn simpler(&self) -> Vec<Self>;
+}
+
 /// The shortest case found that still differs; what lies behind the difference is cut off by
 /// `differs`, which gives its place.
-pub fn shrink(case: &[Act], differs: impl Fn(&[Act]) -> Option<usize>) -> Vec<Act> {
+pub fn shrink<A: Simpler>(case: &[A], differs: impl Fn(&[A]) -> Option<usize>) -> Vec<A> {
     let mut case = case.to_vec();
     if let Some(place) = differs(&case) {
         case.truncate(place + 1);
     }
     let began = Instant::now();
     let mut tries = (0..MOST_TRIES).take_while(|_| began.elapsed() < MOST_TIME);
-    let simpler = |case: &[Act], tries: &mut dyn Iterator<Item = usize>| {
+    let simpler = |case: &[A], tries: &mut dyn Iterator<Item = usize>| {
         let mut tried = candidates(case).zip(tries);
         tried.find_map(|(candidate, _)| {
             let place = differs(&candidate)?;
@@ -35,20 +42,26 @@ pub fn shrink(case: &[Act], differs: impl Fn(&[Act]) -> Option<usize>) -> Vec<Ac
 }
 
 /// Simpler cases, the simplest first.
-fn candidates(case: &[Act]) -> impl Iterator<Item = Vec<Act>> {
+fn candidates<A: Simpler>(case: &[A]) -> impl Iterator<Item = Vec<A>> {
     let count = case.len();
     let sizes = [8, 4, 2, 1].into_iter().filter(move |&size| size < count);
     let fewer = sizes.flat_map(move |size| {
         (0..=count - size).map(move |from| [&case[..from], &case[from + size..]].concat())
     });
     let simpler = (0..count).flat_map(move |place| {
-        simpler_acts(&case[place]).into_iter().map(move |act| {
+        case[place].simpler().into_iter().map(move |act| {
             let mut case = case.to_vec();
             case[place] = act;
             case
         })
     });
     fewer.chain(simpler)
+}
+
+impl Simpler for Act {
+    fn simpler(&self) -> Vec<Self> {
+        simpler_acts(self)
+    }
 }
 
 fn simpler_acts(act: &Act) -> Vec<Act> {

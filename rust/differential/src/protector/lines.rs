@@ -1,0 +1,935 @@
+//! Scripts of the protector's calls, put to the port, the original and the predictor.
+
+use super::predict::Call;
+use super::predict::Given;
+use super::predict::PAGES;
+use super::predict::STATE;
+use super::predict::TABLES;
+use super::predict::World;
+use super::predict::layout_refusal;
+use crate::case::Entry;
+use crate::coverage::Coverage;
+use crate::run::Difference;
+use crate::shrink::Simpler;
+use std::collections::BTreeMap;
+
+/// The registrar's state block, which `lend state=` may not fit either.
+const REGISTRAR_STATE: u64 = 108;
+
+/// What may be lent, by name: six maps, then words.
+const NAMES: [&str; 9] = [
+    "private", "shared", "read", "write", "kx", "ux", "state", "pages", "tables",
+];
+
+#[derive(Debug, Clone, PartialEq, Eq)]
+pub struct Build {
+    pub isolation: u64,
+    pub tracked: u64,
+    pub release: u64,
+    pub ram: Vec<Entry>,
+}
+
+/// A list as it is written.
+#[derive(Debug, Clone, PartialEq, Eq)]
+pub enum List {
+    Pages(Vec<u64>),
+    Bytes(Vec<u8>),
+}
+
+/// A visibility change.
+#[derive(Debug, Clone, PartialEq, Eq)]
+pub struct Change {
+    pub vtl: u64,
+    /// 0 private, 1 shared, or unfit.
+    pub visibility: u64,
+    pub list: List,
+}
+
+#[derive(Debug, Clone, PartialEq, Eq)]
+pub enum What {
+    /// Whether maps are shown at each operation.
+    Trace(bool),
+    Build(Build),
+    /// Run to its end; of those operations, counted from 1, the answer is failed.
+    Call {
+        change: Change,
+        failures: BTreeMap<u64, (u16, u64)>,
+    },
+    /// Run to its first operation.
+    Start(Change),
+    Done,
+    Failed {
+        code: u16,
+        processed: u64,
+    },
+}
+
+/// Lengths of buffers lent in the place of the protector's own, by `NAMES`.
+pub type Lend = [Option<u64>; 9];
+
+/// One call, and what is lent to it.
+#[derive(Debug, Clone, PartialEq, Eq)]
+pub struct Act {
+    pub what: What,
+    pub lend: Lend,
+}
+
+impl List {
+    pub fn bytes(&self) -> Vec<u8> {
+        match self {
+            List::Pages(pages) => pages.iter().flat_map(|page| page.to_le_bytes()).collect(),
+            List::Bytes(bytes) => bytes.clone(),
+        }
+    }
+
+    fn text(&self) -> String {
+        match self {
+            List::Pages(pages) if pages.is_empty() => ".".to_string(),
+            List::Pages(pages) => runs(pages),
+            List::Bytes(bytes) => {
+                let digits: String = bytes.iter().map(|byte| format!("{byte:02X}")).collect();
+                format!("hex:{digits}")
+            }
+        }
+    }
+}
+
+/// Pages in list order, ascending neighbours shortened.
+fn runs(pages: &[u64]) -> String {
+    let mut texts = Vec::new();
+    let mut i = 0;
+    while i < pages.len() {
+        let mut last = i;
+        while last + 1 < pages.len() && pages[last].checked_add(1) == Some(pages[last + 1]) {
+            last += 1;
+        }
+        texts.push(match last == i {
+            true => pages[i].to_string(),
+            false => format!("{}-{}", pages[i], pages[last]),
+        });
+        i = last + 1;
+    }
+    texts.join(",")
+}
+
+impl Build {
+    /// Whether it has numbers that the original can't be handed.
+    fn is_strange(&self) -> bool {
+        let whole = |e: &Entry| e.start.is_multiple_of(4096) && e.end.is_multiple_of(4096);
+        !(2..=4).contains(&self.isolation)
+            || self.tracked > 1
+            || self.release > 1
+            || !self.ram.iter().all(whole)
+    }
+}
+
+impl Change {
+    /// Whether there is a page from 2^52 on: the original takes it for another one.
+    fn is_high(&self) -> bool {
+        let pages = super::predict::numbers(&self.list.bytes());
+        pages.iter().any(|page| page >> 52 != 0)
+    }
+
+    fn line(&self) -> String {
+        let to = match self.visibility {
+            0 => "private".to_string(),
+            1 => "shared".to_string(),
+            unfit => unfit.to_string(),
+        };
+        format!(
+            "change_host_visibility {} {to} {}",
+            self.vtl,
+            self.list.text()
+        )
+    }
+
+    fn line_failing(&self, failures: &BTreeMap<u64, (u16, u64)>) -> String {
+        let mut line = self.line();
+        for (place, (code, processed)) in failures {
+            line += &format!(" fail={place}:{code}:{processed}");
+        }
+        line
+    }
+
+    /// With its whole pages by their numbers: the original reads no raw bytes.
+    fn by_numbers(&self) -> Self {
+        Self {
+            list: List::Pages(super::predict::numbers(&self.list.bytes())),
+            ..self.clone()
+        }
+    }
+
+    fn call(&self) -> Call {
+        Call::Change {
+            vtl: self.vtl,
+            visibility: self.visibility,
+            list: self.list.bytes(),
+        }
+    }
+}
+
+impl Act {
+    pub fn line(&self) -> String {
+        match &self.what {
+            What::Trace(on) => format!("trace {}", u8::from(*on)),
+            What::Build(build) => {
+                let entry = |e: &Entry| format!("{}-{}:{}", e.start, e.end, e.node);
+                let ram: Vec<_> = build.ram.iter().map(entry).collect();
+                let ram = if ram.is_empty() {
+                    ".".to_string()
+                } else {
+                    ram.join(",")
+                };
+                let isolation = match build.isolation {
+                    2 => "snp".to_string(),
+                    3 => "tdx".to_string(),
+                    4 => "cca".to_string(),
+                    unfit => unfit.to_string(),
+                };
+                let (tracked, release) = (build.tracked, build.release);
+                format!("build iso={isolation} tracked={tracked} release={release} ram={ram}")
+            }
+            What::Call { change, failures } => change.line_failing(failures),
+            What::Start(change) => change.line(),
+            What::Done => "answer done".to_string(),
+            What::Failed { code, processed } => format!("answer failed {code} {processed}"),
+        }
+    }
+
+    fn lend_line(&self) -> Option<String> {
+        let given = NAMES.iter().zip(self.lend);
+        let words: String = given
+            .filter_map(|(name, len)| len.map(|len| format!(" {name}={len}")))
+            .collect();
+        (!words.is_empty()).then(|| format!("lend{words}"))
+    }
+
+    /// All its lines: a call that is stopped at its first operation is stepped.
+    pub fn lines(&self) -> Vec<String> {
+        let stepped = matches!(self.what, What::Start(_));
+        let mut lines = Vec::new();
+        if stepped {
+            lines.push("step 1".to_string());
+        }
+        lines.extend(self.lend_line());
+        lines.push(self.line());
+        if stepped {
+            lines.push("step 0".to_string());
+        }
+        lines
+    }
+}
+
+/// A call that was stepped and hasn't ended.
+struct Open {
+    change: Change,
+    /// What it asked for so far, as the port wrote it.
+    asked: Vec<String>,
+    failures: BTreeMap<u64, (u16, u64)>,
+}
+
+struct Run<'a> {
+    port: port::Session,
+    original: oracle::Session,
+    /// What is lent, as predicted; none where nothing is built.
+    world: Option<World>,
+    trace: bool,
+    open: Option<Open>,
+    /// Whether the original still answers: it is gone once it panicked.
+    lives: bool,
+    coverage: &'a mut Coverage,
+}
+
+/// Boxed: it is seldom.
+type Same = Result<(), Box<Difference>>;
+
+/// Runs a case and gives the first difference.
+pub fn run(acts: &[Act], coverage: &mut Coverage) -> Option<Difference> {
+    let mut run = Run {
+        port: port::Session::new(),
+        original: oracle::Session::new(2),
+        world: None,
+        trace: false,
+        open: None,
+        lives: false,
+        coverage,
+    };
+    let mut acts = acts.iter().enumerate();
+    acts.find_map(|(place, act)| run.act(place, act).err().map(|difference| *difference))
+}
+
+/// What a line leads to.
+struct Awaited {
+    /// The line, or `bad`.
+    line: String,
+    last: Given,
+    /// The operations that the line itself asked for.
+    asked: u64,
+    kind: Kind,
+}
+
+#[derive(Debug, Clone, Copy, PartialEq, Eq)]
+enum Kind {
+    Bad,
+    Refused,
+    Asks,
+    /// It ended, by any number that the original has too, or by a halt.
+    Ended,
+}
+
+impl Run<'_> {
+    fn send(&mut self, line: &str) -> String {
+        self.port.line(line).unwrap_or("no answer".to_string())
+    }
+
+    fn ask_original(&mut self, line: &str) -> String {
+        self.original.line(line).unwrap_or("no answer".to_string())
+    }
+
+    fn act(&mut self, place: usize, act: &Act) -> Same {
+        let stepped = matches!(act.what, What::Start(_));
+        if stepped {
+            self.expect(place, "step 1", "ok | ops=0")?;
+        }
+        let lent = self.lend(place, act)?;
+        let line = act.line();
+        let given = self.send(&line);
+        if let What::Trace(on) = act.what {
+            self.trace = on;
+            let original = self.ask_original(&line);
+            if given != "ok | ops=0" || original != given {
+                return differ(place, line, given, Some(original), "ok".to_string());
+            }
+            return Ok(());
+        }
+        let awaited = self.await_line(act, &lent);
+        self.count(act, &awaited);
+        let same = match awaited.kind {
+            Kind::Bad => given.starts_with("bad "),
+            _ => given == awaited.line,
+        };
+        let original = self.original_of(act, &awaited, &given);
+        let same_as_original = original.as_ref().is_none_or(|(port, other)| port == other);
+        if !same || !same_as_original {
+            let original = original.map(|(_, answer)| answer);
+            return differ(place, line, given, original, awaited.line);
+        }
+        if stepped {
+            self.expect(place, "step 0", "ok | ops=0")?;
+        }
+        self.compare_maps(place)
+    }
+
+    fn expect(&mut self, place: usize, line: &str, awaited: &str) -> Same {
+        let given = self.send(line);
+        if given != awaited {
+            return differ(place, line.to_string(), given, None, awaited.to_string());
+        }
+        Ok(())
+    }
+
+    /// What is lent to the next line: nothing, if the lend line is wrong.
+    fn lend(&mut self, place: usize, act: &Act) -> Result<Lend, Box<Difference>> {
+        let nothing = [None; 9];
+        let Some(line) = act.lend_line() else {
+            return Ok(nothing);
+        };
+        let mut right = [None; 9];
+        if let Some(world) = &self.world {
+            for (right, map) in right.iter_mut().zip(&world.maps) {
+                *right = Some(map.len() as u64);
+            }
+        }
+        right[6..].copy_from_slice(&[STATE, PAGES, TABLES].map(|len| Some(len as u64)));
+        let fits = act
+            .lend
+            .iter()
+            .zip(right)
+            .any(|(l, r)| l.is_some() && *l == r)
+            || act.lend[6] == Some(REGISTRAR_STATE);
+        if !fits {
+            self.expect(place, &line, "ok | ops=0")?;
+            return Ok(act.lend);
+        }
+        let given = self.send(&line);
+        match given.starts_with("bad ") {
+            true => Ok(nothing),
+            false => differ(place, line, given, None, "bad".to_string()).map(|()| nothing),
+        }
+    }
+
+    fn await_line(&mut self, act: &Act, lent: &Lend) -> Awaited {
+        if let What::Build(build) = &act.what {
+            return self.await_build(build, lent);
+        }
+        let Some(world) = &mut self.world else {
+            return awaited_bad();
+        };
+        let mut spare;
+        let world = match lent.iter().any(|len| len.is_some()) {
+            false => world,
+            true => {
+                spare = lent_world(world, lent);
+                &mut spare
+            }
+        };
+        let none = BTreeMap::new();
+        let (first, failures, steps) = match &act.what {
+            What::Call { change, failures } => (change.call(), failures, false),
+            What::Start(change) => (change.call(), &none, true),
+            What::Done => (Call::Done, &none, true),
+            What::Failed { code, processed } => (
+                Call::Failed {
+                    code: *code,
+                    processed: *processed,
+                },
+                &none,
+                true,
+            ),
+            What::Build(_) | What::Trace(_) => unreachable!("they are seen to"),
+        };
+        let mut last = world.call(&first);
+        let mut ops = Vec::new();
+        let mut refused = Vec::new();
+        while last.operation != 0 {
+            let op = operation(world, &last);
+            ops.push(match self.trace {
+                true => format!("{op} {{{}}}", maps(world)),
+                false => op,
+            });
+            if steps {
+                break;
+            }
+            let place = ops.len() as u64;
+            last = match failures.get(&place) {
+                None => world.call(&Call::Done),
+                Some(&(code, processed)) => match world.call(&Call::Failed { code, processed }) {
+                    given if given.number == 21 => {
+                        refused.push(place.to_string());
+                        world.call(&Call::Done)
+                    }
+                    given => given,
+                },
+            };
+        }
+        let (result, kind) = result(&last);
+        let mut line = format!("{result} | ops={}", ops.len());
+        if !ops.is_empty() {
+            line += &format!(" | {}", ops.join("; "));
+        }
+        if kind == Kind::Ended && last.count != 0 {
+            line += &format!(" | count={}", last.count);
+        }
+        if !refused.is_empty() {
+            line += &format!(" | refused21={}", refused.join(","));
+        }
+        Awaited {
+            line,
+            last,
+            asked: ops.len() as u64,
+            kind,
+        }
+    }
+
+    fn await_build(&mut self, build: &Build, lent: &Lend) -> Awaited {
+        let ram: Vec<u64> = build
+            .ram
+            .iter()
+            .flat_map(|e| [e.start, e.end, e.node])
+            .collect();
+        let mut world = World {
+            state: vec![0; STATE],
+            pages: vec![0; PAGES],
+            tables: vec![0; TABLES],
+            ..World::default()
+        };
+        if layout_refusal(&ram).is_none() {
+            let marks = (ram[ram.len() - 2] / 32_768) as usize;
+            let permissions = if build.tracked == 1 { marks } else { 0 };
+            for (i, map) in world.maps.iter_mut().enumerate() {
+                let len = if i < 2 { marks } else { permissions };
+                map.resize(len, 0);
+                // Where tracked is unfit no length of a permission map is right.
+                let right = i < 2 || build.tracked < 2;
+                if right && lent[i] == Some(len as u64) {
+                    return awaited_bad();
+                }
+            }
+        }
+        if lent.iter().any(|len| len.is_some()) {
+            world = lent_world(&world, lent);
+        }
+        let last = world.call(&Call::Build {
+            ram,
+            isolation: build.isolation,
+            tracked: build.tracked,
+            release: build.release,
+        });
+        self.world = (last.number == 0).then_some(world);
+        let (result, kind) = match last.number {
+            0 => ("ok".to_string(), Kind::Ended),
+            2 => ("err BadAlignment #2".to_string(), Kind::Ended),
+            number => (format!("refused {number}"), Kind::Refused),
+        };
+        Awaited {
+            line: format!("{result} | ops=0"),
+            last,
+            asked: 0,
+            kind,
+        }
+    }
+
+    /// Where the call is in document 01's domain and has ended: what the port gave for all of it,
+    /// as the original writes it, and what the original gives.
+    fn original_of(
+        &mut self,
+        act: &Act,
+        awaited: &Awaited,
+        given: &str,
+    ) -> Option<(String, String)> {
+        let is_build = matches!(act.what, What::Build(_));
+        if is_build && awaited.kind != Kind::Bad {
+            self.open = None;
+            self.lives = awaited.kind == Kind::Ended;
+        }
+        match awaited.kind {
+            Kind::Bad | Kind::Refused => None,
+            Kind::Asks => {
+                let op = given.rsplit(" | ").next().unwrap_or(given).to_string();
+                match (&act.what, &mut self.open) {
+                    (What::Start(change), open) => {
+                        *open = Some(Open {
+                            change: change.clone(),
+                            asked: vec![op],
+                            failures: BTreeMap::new(),
+                        });
+                    }
+                    (what, Some(open)) => {
+                        open.note(what);
+                        open.asked.push(op);
+                    }
+                    (_, None) => (),
+                }
+                None
+            }
+            Kind::Ended => {
+                let (line, from_port) = match (&act.what, self.open.take()) {
+                    (What::Done | What::Failed { .. }, Some(mut open)) => {
+                        open.note(&act.what);
+                        let line = open.change.by_numbers().line_failing(&open.failures);
+                        let result = plain_result(given);
+                        let (count, asked) = (open.asked.len(), open.asked.join("; "));
+                        (line, format!("{result} | ops={count} | {asked}"))
+                    }
+                    (What::Call { change, failures }, _) => {
+                        (change.by_numbers().line_failing(failures), plain(given))
+                    }
+                    _ => (act.line(), plain(given)),
+                };
+                let strange = match &act.what {
+                    What::Call { change, .. } | What::Start(change) => change.is_high(),
+                    What::Build(build) => build.is_strange(),
+                    _ => false,
+                };
+                if !self.lives || strange {
+                    return None;
+                }
+                let answer = self.ask_original(&line);
+                let answer = without_more(&answer);
+                if answer.starts_with("panic") {
+                    self.lives = false;
+                }
+                self.coverage.with_original += 1;
+                self.coverage.predicted_alone -= 1;
+                self.coverage.operations += awaited.asked;
+                let from_port = match answer.contains("flags=?") {
+                    true => without_flags(&from_port),
+                    false => from_port,
+                };
+                Some((from_port, answer))
+            }
+        }
+    }
+
+    /// The maps and tables; the original's too, unless a call is half way.
+    fn compare_maps(&mut self, place: usize) -> Same {
+        for line in ["dump", "tables"] {
+            let given = self.send(line);
+            let Some(world) = &self.world else {
+                if given.starts_with("bad ") {
+                    continue;
+                }
+                return differ(place, line.to_string(), given, None, "bad".to_string());
+            };
+            let predicted = match line {
+                "dump" => format!("ok {} | ops=0", maps(world)),
+                _ => "ok enabled=0 default0=15 default1=- overlays0=[] overlays1=[] locks0=[] \
+                      locks1=[] | ops=0"
+                    .to_string(),
+            };
+            // What a panic left behind is shown too.
+            let asked = self.open.is_none() && world.state[0] < 2;
+            let original = asked.then(|| self.ask_original(line));
+            if given != predicted || original.as_ref().is_some_and(|answer| *answer != given) {
+                return differ(place, line.to_string(), given, original, predicted);
+            }
+        }
+        Ok(())
+    }
+
+    fn count(&mut self, act: &Act, awaited: &Awaited) {
+        let (name, stepped) = match &act.what {
+            What::Trace(_) => ("trace", ""),
+            What::Build(_) => ("build", ""),
+            What::Call { change, .. } => (change_name(change), ""),
+            What::Start(change) => (change_name(change), ", stepped"),
+            What::Done => ("answer done", ""),
+            What::Failed { .. } => ("answer failed", ""),
+        };
+        let last = &awaited.last;
+        let world = self.world.as_ref();
+        let isolation = match world.map(|world| world.state[16]) {
+            Some(2) => " (snp)",
+            Some(3) => " (tdx)",
+            Some(4) => " (cca)",
+            _ => "",
+        };
+        let given = match (awaited.kind, last.number) {
+            (Kind::Bad, _) => "bad".to_string(),
+            (Kind::Refused, number) => format!("refused {number}"),
+            (Kind::Asks, _) => format!("asks {}{isolation}", OPERATIONS[last.operation as usize]),
+            (Kind::Ended, 0) => format!("ok{isolation}{}", many(last.count)),
+            (Kind::Ended, 20) => {
+                let kind = match &act.what {
+                    What::Failed { .. } => String::new(),
+                    _ => awaited
+                        .line
+                        .split(" | ")
+                        .nth(2)
+                        .and_then(|ops| ops.rsplit("; ").next())
+                        .and_then(|op| op.split_ascii_whitespace().next())
+                        .map_or(String::new(), |op| format!(" at {op}")),
+                };
+                format!("halts{isolation}{kind}")
+            }
+            (Kind::Ended, number) => format!("#{number}{isolation}{}", many(last.count)),
+        };
+        self.coverage.meet(format!("{name}{stepped}: {given}"));
+        if let What::Call { change, .. } | What::Start(change) = &act.what {
+            let pages = change.list.bytes().len() / 8;
+            let size = match pages {
+                0 | 1 | 511 | 512 => pages.to_string(),
+                513.. => "over 512".to_string(),
+                _ => "2 to 510".to_string(),
+            };
+            self.coverage.meet(format!("a list of {size} pages"));
+        }
+        self.coverage.predicted_alone += 1;
+    }
+}
+
+fn many(count: u64) -> &'static str {
+    match count {
+        0 => "",
+        1..=9 => ", up to 9 operations",
+        10..=99 => ", 10 operations or more",
+        _ => ", 100 operations or more",
+    }
+}
+
+fn change_name(change: &Change) -> &'static str {
+    match change.visibility {
+        0 => "to private",
+        1 => "to shared",
+        _ => "to no visibility",
+    }
+}
+
+impl Open {
+    /// A failed answer that was taken.
+    fn note(&mut self, what: &What) {
+        if let What::Failed { code, processed } = what {
+            let place = self.asked.len() as u64;
+            self.failures.insert(place, (*code, *processed));
+        }
+    }
+}
+
+fn awaited_bad() -> Awaited {
+    Awaited {
+        line: "bad".to_string(),
+        last: Given::default(),
+        asked: 0,
+        kind: Kind::Bad,
+    }
+}
+
+/// With buffers of other lengths, filled as `lend` fills them.
+fn lent_world(world: &World, lent: &Lend) -> World {
+    let mut world = world.clone();
+    for (map, len) in world.maps.iter_mut().zip(lent) {
+        if let Some(len) = len {
+            *map = vec![0xA5; *len as usize];
+        }
+    }
+    let words = [&mut world.state, &mut world.pages, &mut world.tables];
+    for (buffer, len) in words.into_iter().zip(&lent[6..]) {
+        if let Some(len) = len {
+            *buffer = vec![0xA5A5_A5A5_A5A5_A5A5; *len as usize];
+        }
+    }
+    world
+}
+
+const OPERATIONS: [&str; 9] = [
+    "nothing",
+    "Wait",
+    "FlushAll",
+    "Protect",
+    "Invalidate",
+    "Release",
+    "Modify",
+    "Accept",
+    "Zero",
+];
+
+fn operation(world: &World, given: &Given) -> String {
+    let name = OPERATIONS[given.operation as usize];
+    let pages = match given.pages {
+        0 => "none".to_string(),
+        1 => given.first.to_string(),
+        count => format!("{}-{}", given.first, given.first + count - 1),
+    };
+    match given.operation {
+        1 | 2 => name.to_string(),
+        3 => {
+            let (vtl, flags) = (given.vtl, given.flags);
+            let operand = match given.operand {
+                0 => String::new(),
+                operand => format!(" operand={operand}"),
+            };
+            format!("{name} vtl={vtl} flags={flags}{operand} pages={pages}")
+        }
+        6 => {
+            let to = if given.shared == 1 {
+                "shared"
+            } else {
+                "private"
+            };
+            let pages = match &world.pages[..given.pages as usize] {
+                [] => "none".to_string(),
+                pages => runs(pages),
+            };
+            format!("{name} to={to} pages={pages}")
+        }
+        _ => format!("{name} pages={pages}"),
+    }
+}
+
+/// The maps as a dump has them: short ones byte by byte, long ones by their runs.
+fn maps(world: &World) -> String {
+    let tracked = world.state[17] == 1;
+    let shown = NAMES.iter().zip(&world.maps).enumerate();
+    let shown = shown.map(|(i, (name, map))| match i < 2 || tracked {
+        false => format!("{name}=-"),
+        true if map.len() > 65_536 => format!("{name}={}", sparse(map)),
+        true => {
+            let digits: String = map.iter().map(|byte| format!("{byte:02X}")).collect();
+            format!("{name}={digits}")
+        }
+    });
+    shown.collect::<Vec<_>>().join(" ")
+}
+
+/// Nonzero runs, in which four or more equal bytes are counted.
+fn sparse(map: &[u8]) -> String {
+    let mut shown = Vec::new();
+    let mut i = 0;
+    let mut mixed: Option<(usize, String)> = None;
+    while i < map.len() {
+        let equal = map[i..].iter().take_while(|byte| **byte == map[i]).count();
+        if map[i] == 0 || equal >= 4 {
+            shown.extend(mixed.take().map(|(at, digits)| format!("{at}:{digits}")));
+            if map[i] != 0 {
+                shown.push(format!("{i}:{:02X}x{equal}", map[i]));
+            }
+        } else {
+            let (_, digits) = mixed.get_or_insert((i, String::new()));
+            (0..equal).for_each(|_| *digits += &format!("{:02X}", map[i]));
+        }
+        i += equal;
+    }
+    shown.extend(mixed.map(|(at, digits)| format!("{at}:{digits}")));
+    format!("sparse({})[{}]", map.len(), shown.join(";"))
+}
+
+fn result(last: &Given) -> (String, Kind) {
+    let &Given { code, index, .. } = last;
+    match last.number {
+        0 if last.operation == 0 => ("ok".to_string(), Kind::Ended),
+        0 => ("asked".to_string(), Kind::Asks),
+        number @ (7 | 10 | 11 | 15 | 16) => (format!("err {code} {index} #{number}"), Kind::Ended),
+        20 if last.count != 0 => ("halted".to_string(), Kind::Ended),
+        number => (format!("refused {number}"), Kind::Refused),
+    }
+}
+
+fn differ(
+    place: usize,
+    line: String,
+    port: String,
+    original: Option<String>,
+    predicted: String,
+) -> Same {
+    Err(Box::new(Difference {
+        place,
+        line,
+        port,
+        original,
+        predicted,
+    }))
+}
+
+/// The port's RESULT as the original writes it: without 01's number, a halt as a panic.
+fn plain_result(given: &str) -> String {
+    let result = given.split(" | ").next().unwrap_or(given);
+    let result = result.split(" #").next().unwrap_or(result);
+    match result {
+        "halted" => "panic".to_string(),
+        other => other.to_string(),
+    }
+}
+
+/// The port's line as the original writes it: without its count, and what can't fail by its name.
+fn plain(given: &str) -> String {
+    let mut parts = vec![plain_result(given)];
+    for part in given.split(" | ").skip(1) {
+        match part.strip_prefix("refused21=") {
+            Some(places) => parts.push(format!("cannot-fail={places}")),
+            None if part.starts_with("count=") => (),
+            None => parts.push(part.to_string()),
+        }
+    }
+    parts.join(" | ")
+}
+
+/// The original's line without a panic's text and without what it hands over besides.
+fn without_more(answer: &str) -> String {
+    let answer = match answer.split_once(" | ") {
+        Some((result, rest)) if result.starts_with("panic") => format!("panic | {rest}"),
+        _ => answer.to_string(),
+    };
+    let mut kept = String::new();
+    let mut rest = answer.as_str();
+    // ` attr=N mask=N`, up to a blank, a semicolon or the end.
+    while let Some((before, more)) = rest.split_once(" attr=") {
+        kept += before;
+        let (_, mask) = more.split_once(" mask=").unwrap_or((more, ""));
+        let end = mask.find([' ', ';']).unwrap_or(mask.len());
+        rest = &mask[end..];
+    }
+    kept + rest
+}
+
+/// Flags that the original doesn't hand over.
+fn without_flags(line: &str) -> String {
+    let words = line
+        .split(' ')
+        .map(|word| match word.starts_with("flags=") {
+            true => "flags=?",
+            false => word,
+        });
+    words.collect::<Vec<_>>().join(" ")
+}
+
+impl Simpler for Act {
+    fn simpler(&self) -> Vec<Self> {
+        let lend = self.lend;
+        let mut acts = Vec::new();
+        let mut with = |what: What| acts.push(Act { what, lend });
+        match &self.what {
+            What::Build(build) => {
+                for place in 0..build.ram.len() {
+                    let mut fewer = build.clone();
+                    fewer.ram.remove(place);
+                    with(What::Build(fewer));
+                }
+                for place in 0..build.ram.len() {
+                    let entry = build.ram[place];
+                    let end = entry.start.saturating_add(32_768);
+                    if end < entry.end {
+                        let mut smaller = build.clone();
+                        smaller.ram[place].end = end;
+                        with(What::Build(smaller));
+                    }
+                }
+                for (tracked, release) in [(0, build.release), (build.tracked, 0)] {
+                    if (tracked, release) < (build.tracked, build.release) {
+                        with(What::Build(Build {
+                            tracked,
+                            release,
+                            ..build.clone()
+                        }));
+                    }
+                }
+            }
+            What::Call { change, failures } => {
+                for place in failures.keys() {
+                    let mut fewer = failures.clone();
+                    fewer.remove(place);
+                    with(What::Call {
+                        change: change.clone(),
+                        failures: fewer,
+                    });
+                }
+                for change in shorter(change) {
+                    with(What::Call {
+                        change,
+                        failures: failures.clone(),
+                    });
+                }
+            }
+            What::Start(change) => {
+                with(What::Call {
+                    change: change.clone(),
+                    failures: BTreeMap::new(),
+                });
+                for change in shorter(change) {
+                    with(What::Start(change));
+                }
+            }
+            What::Failed { processed, .. } if *processed > 0 => with(What::Failed {
+                code: 5,
+                processed: processed / 2,
+            }),
+            What::Failed { .. } => with(What::Done),
+            What::Trace(_) | What::Done => (),
+        }
+        if self.lend != [None; 9] {
+            acts.push(Act {
+                what: self.what.clone(),
+                lend: [None; 9],
+            });
+        }
+        acts
+    }
+}
+
+fn shorter(change: &Change) -> Vec<Change> {
+    let List::Pages(pages) = &change.list else {
+        return vec![change.by_numbers()];
+    };
+    let mut changes = Vec::new();
+    for size in [256, 64, 16, 4, 1] {
+        let mut from = 0;
+        while from + size <= pages.len() {
+            let list = List::Pages([&pages[..from], &pages[from + size..]].concat());
+            changes.push(Change {
+                list,
+                ..change.clone()
+            });
+            from += size;
+        }
+    }
+    changes
+}

@@ -1,0 +1,549 @@
+//! Any words in any lengths: the library's entries against the predictor, every buffer compared.
+
+use super::predict::Call;
+use super::predict::Given;
+use super::predict::PAGES;
+use super::predict::STATE;
+use super::predict::TABLES;
+use super::predict::World;
+use crate::coverage::Coverage;
+use crate::random::Random;
+use crate::run::Difference;
+use crate::shrink::Simpler;
+use underhill_mem_port::raw::protector as entries;
+use underhill_mem_port::raw::protector::Lent;
+use underhill_mem_port::raw::protector::Maps;
+use underhill_mem_port::raw::protector::Reply;
+
+/// The buffers by number: six maps, then state, pages and tables.
+const BUFFERS: [&str; 9] = [
+    "private", "shared", "read", "write", "kx", "ux", "state", "pages", "tables",
+];
+
+/// Kept on both sides of every buffer.
+const GUARD: usize = 8;
+const GUARD_BYTE: u8 = 0x5A;
+const GUARD_WORD: u64 = 0x5A0F_F012_3443_215A;
+
+#[derive(Debug, Clone, PartialEq, Eq)]
+pub enum Act {
+    /// A buffer of that length is lent from now on, cut or filled up with zeros.
+    Resize {
+        buffer: usize,
+        len: usize,
+    },
+    /// Words (bytes, of a map) that no call left there. What lies past the end is dropped.
+    Put {
+        buffer: usize,
+        at: usize,
+        words: Vec<u64>,
+    },
+    Call(Call),
+}
+
+impl Act {
+    pub fn line(&self) -> String {
+        match self {
+            Act::Resize { buffer, len } => format!("{} has {len}", BUFFERS[*buffer]),
+            Act::Put { buffer, at, words } => {
+                format!("{} from {at} on holds {words:?}", BUFFERS[*buffer])
+            }
+            Act::Call(call) => format!("{call:?}"),
+        }
+    }
+
+    fn apply(&self, world: &mut World) {
+        match self {
+            Act::Call(_) => (),
+            Act::Resize { buffer, len } => match buffer {
+                0..6 => world.maps[*buffer].resize(*len, 0),
+                6 => world.state.resize(*len, 0),
+                7 => world.pages.resize(*len, 0),
+                _ => world.tables.resize(*len, 0),
+            },
+            Act::Put { buffer, at, words } => match buffer {
+                0..6 => {
+                    let bytes = words.iter().map(|&word| word as u8);
+                    let places = world.maps[*buffer].iter_mut().skip(*at);
+                    places.zip(bytes).for_each(|(place, byte)| *place = byte);
+                }
+                _ => {
+                    let buffer = match buffer {
+                        6 => &mut world.state,
+                        7 => &mut world.pages,
+                        _ => &mut world.tables,
+                    };
+                    let places = buffer.iter_mut().skip(*at);
+                    places.zip(words).for_each(|(place, word)| *place = *word);
+                }
+            },
+        }
+    }
+}
+
+fn guarded<T: Copy>(inner: &[T], guard: T) -> Vec<T> {
+    [&[guard; GUARD], inner, &[guard; GUARD]].concat()
+}
+
+/// The buffer between its guards, if they are whole.
+fn unguarded<T: Copy + PartialEq>(buffer: &[T], guard: T) -> Option<Vec<T>> {
+    let (front, rest) = buffer.split_at(GUARD);
+    let (inner, back) = rest.split_at(rest.len() - GUARD);
+    let whole = front.iter().chain(back).all(|item| *item == guard);
+    whole.then(|| inner.to_vec())
+}
+
+fn inner<T>(buffer: &mut [T]) -> &mut [T] {
+    let end = buffer.len() - GUARD;
+    &mut buffer[GUARD..end]
+}
+
+/// Makes the call by the library's entry; none if it wrote beside a buffer.
+fn library(world: &World, call: &Call) -> Option<(World, Reply)> {
+    let mut maps = world.maps.each_ref().map(|map| guarded(map, GUARD_BYTE));
+    let mut state = guarded(&world.state, GUARD_WORD);
+    let mut pages = guarded(&world.pages, GUARD_WORD);
+    let mut tables = guarded(&world.tables, GUARD_WORD);
+    let [private, shared, read, write, kernel, user] = maps.each_mut().map(|map| inner(map));
+    let lent = Lent {
+        maps: Maps {
+            private,
+            shared,
+            read,
+            write,
+            kernel,
+            user,
+        },
+        state: inner(&mut state),
+        pages: inner(&mut pages),
+        tables: inner(&mut tables),
+    };
+    let reply = match call {
+        Call::Build {
+            ram,
+            isolation,
+            tracked,
+            release,
+        } => entries::build(ram, *isolation, *tracked, *release, lent),
+        Call::Change {
+            vtl,
+            visibility,
+            list,
+        } => entries::change_host_visibility(lent, *vtl, *visibility, list),
+        Call::Done => entries::answer_done(lent),
+        Call::Failed { code, processed } => entries::answer_failed(lent, *code, *processed),
+    };
+    let mut after = World {
+        maps: Default::default(),
+        state: unguarded(&state, GUARD_WORD)?,
+        pages: unguarded(&pages, GUARD_WORD)?,
+        tables: unguarded(&tables, GUARD_WORD)?,
+    };
+    for (after, map) in after.maps.iter_mut().zip(&maps) {
+        *after = unguarded(map, GUARD_BYTE)?;
+    }
+    Some((after, reply))
+}
+
+fn given(reply: &Reply) -> Given {
+    Given {
+        number: reply.number,
+        code: reply.code,
+        index: reply.index,
+        count: reply.count,
+        operation: reply.operation,
+        vtl: reply.vtl,
+        flags: reply.flags,
+        operand: reply.operand,
+        first: reply.first,
+        pages: reply.pages,
+        shared: reply.shared,
+    }
+}
+
+/// What of two worlds differs, as the first has it.
+fn unlike(one: &World, other: &World) -> String {
+    let maps = one.maps.iter().zip(&other.maps);
+    let maps = maps.map(|(a, b)| (a != b).then(|| first_unlike(a, b)));
+    let words = [
+        (&one.state, &other.state),
+        (&one.pages, &other.pages),
+        (&one.tables, &other.tables),
+    ];
+    let words = words.map(|(a, b)| (a != b).then(|| first_unlike(a, b)));
+    let all = BUFFERS.iter().zip(maps.chain(words));
+    let shown = all.filter_map(|(name, unlike)| unlike.map(|text| format!(" {name}{text}")));
+    shown.collect()
+}
+
+fn first_unlike<T: PartialEq + std::fmt::Debug>(a: &[T], b: &[T]) -> String {
+    match a.iter().zip(b).position(|(a, b)| a != b) {
+        Some(place) => format!("[{place}]={:?}", a[place]),
+        None => format!(" has {}", a.len()),
+    }
+}
+
+/// Runs a case and gives the first difference.
+pub fn run(acts: &[Act], coverage: &mut Coverage) -> Option<Difference> {
+    let mut world = World::default();
+    for (place, act) in acts.iter().enumerate() {
+        act.apply(&mut world);
+        let Act::Call(call) = act else { continue };
+        let mut predicted = world.clone();
+        let awaited = predicted.call(call);
+        count(call, &world, &awaited, coverage);
+        let differ = |port: String, predicted: String| {
+            Some(Difference {
+                place,
+                line: act.line(),
+                port,
+                original: None,
+                predicted,
+            })
+        };
+        let Some((after, reply)) = library(&world, call) else {
+            return differ("a write beside a buffer".to_string(), "none".to_string());
+        };
+        let reply = given(&reply);
+        if reply != awaited || after != predicted {
+            return differ(
+                format!("{reply:?}{}", unlike(&after, &predicted)),
+                format!("{awaited:?}{}", unlike(&predicted, &after)),
+            );
+        }
+        world = after;
+    }
+    None
+}
+
+fn count(call: &Call, world: &World, awaited: &Given, coverage: &mut Coverage) {
+    let name = match call {
+        Call::Build { .. } => "build",
+        Call::Change { .. } => "change_host_visibility",
+        Call::Done => "answer done",
+        Call::Failed { .. } => "answer failed",
+    };
+    let phase = match world.state.first() {
+        Some(&phase @ 2..=12) => format!(" at phase {phase}"),
+        Some(0) | None => String::new(),
+        Some(1) => " halted".to_string(),
+        Some(_) => " at no phase".to_string(),
+    };
+    let given = match (awaited.number, awaited.operation) {
+        (0, 0) => "ok".to_string(),
+        (0, operation) => format!("asks {operation}"),
+        (20, _) if awaited.count != 0 => "halts".to_string(),
+        (number, _) => format!("number {number}"),
+    };
+    coverage.meet(format!("raw {name}{phase}: {given}"));
+    coverage.predicted_alone += 1;
+}
+
+/// Small layouts, forged words and calls.
+pub fn case(random: &mut Random) -> Vec<Act> {
+    let mut acts = Vec::new();
+    let ram = ram(random);
+    let bytes = ram.chunks_exact(3).last().map_or(0, |e| e[1] / 32_768) as usize;
+    let tracked = random.below(2);
+    let permissions = if tracked == 1 { bytes } else { 0 };
+    let lens = [
+        bytes,
+        bytes,
+        permissions,
+        permissions,
+        permissions,
+        permissions,
+        STATE,
+        PAGES,
+        TABLES,
+    ];
+    for (buffer, len) in lens.into_iter().enumerate() {
+        acts.push(Act::Resize { buffer, len });
+    }
+    if random.chance(50) {
+        // A build leaves nothing of what was there.
+        for buffer in 0..9 {
+            let words = (0..random.below(40)).map(|_| random.bits()).collect();
+            acts.push(Act::Put {
+                buffer,
+                at: random.below(8) as usize,
+                words,
+            });
+        }
+    }
+    acts.push(Act::Call(build(random, &ram, tracked)));
+    let forges = random.chance(70);
+    let pages = pages_of(&ram);
+    for _ in 0..random.within(1, 12) {
+        if forges && random.chance(60) {
+            for _ in 0..random.within(1, 6) {
+                acts.push(forge(random, &pages, bytes));
+            }
+        }
+        let lent = random.chance(6).then(|| {
+            let buffer = random.below(9) as usize;
+            let right = lens[buffer];
+            let len = random.pick(&[right + 1, right.saturating_sub(1), 0, right / 2]);
+            acts.push(Act::Resize { buffer, len });
+            (buffer, right)
+        });
+        acts.push(Act::Call(call(random, &ram, tracked, &pages)));
+        if let Some((buffer, len)) = lent {
+            acts.push(Act::Resize { buffer, len });
+        }
+    }
+    acts
+}
+
+fn ram(random: &mut Random) -> Vec<u64> {
+    let mut words = Vec::new();
+    let mut at = random.below(3) * 32_768;
+    let most = random.pick(&[1, 3, 8, 32]);
+    for _ in 0..random.within(1, most) {
+        let end = at + 32_768 * random.within(1, 4);
+        words.extend([at, end, random.below(4)]);
+        at = end + 32_768 * random.below(3);
+    }
+    words
+}
+
+fn pages_of(ram: &[u64]) -> Vec<u64> {
+    let entries = ram.chunks_exact(3);
+    entries.flat_map(|e| e[0] / 4096..e[1] / 4096).collect()
+}
+
+/// A word: any, or a telling one.
+fn word(random: &mut Random) -> u64 {
+    match random.below(7) {
+        0 => random.bits(),
+        1 => random.below(4),
+        2 => 1 << random.below(64),
+        3 => random.below(64) * 32_768,
+        4 => u64::MAX - random.below(3),
+        5 => random.within(500, 530),
+        _ => random.below(20),
+    }
+}
+
+fn page(random: &mut Random, pages: &[u64]) -> u64 {
+    match random.below(12) {
+        0 => word(random),
+        1 => random.below(400),
+        _ => random.pick(pages),
+    }
+}
+
+/// Words where a call reads them.
+fn forge(random: &mut Random, pages: &[u64], bytes: usize) -> Act {
+    let put = |buffer: usize, at: u64, words: Vec<u64>| Act::Put {
+        buffer,
+        at: at as usize,
+        words,
+    };
+    match random.below(15) {
+        0..=2 => put(6, 0, vec![random.below(15)]),
+        3 => {
+            let n = random.pick(&[0, 1, 2, 7, 511, 512, 513, 600, u64::MAX]);
+            let at = random.below(n.min(520) + 3);
+            put(6, 3, vec![n, at])
+        }
+        4 => {
+            let n = random.below(20);
+            let request = [random.below(3), random.below(3), n, random.below(n + 2)];
+            let (stopped, failed) = (random.below(3), random.below(3));
+            let (index, code, count) = (word(random), word(random), word(random));
+            put(
+                6,
+                1,
+                [&request[..], &[stopped, failed, index, code, count]].concat(),
+            )
+        }
+        5 => put(6, random.below(10), vec![word(random)]),
+        6 => put(
+            6,
+            16,
+            vec![random.within(1, 6), random.below(3), random.below(3)],
+        ),
+        7 => put(6, 19, vec![random.pick(&[0, 1, 1, 2])]),
+        8 => put(6, 20, vec![random.below(18), random.below(18)]),
+        9 => match random.below(4) {
+            0 => put(
+                6,
+                31,
+                vec![random.pick(&[0, 1, 2, 31, 32, 33, 1 << 63, u64::MAX / 3 + 1])],
+            ),
+            1 => put(6, random.within(32, 127), vec![word(random)]),
+            2 => put(6, random.below(130), vec![word(random)]),
+            _ => put(6, random.within(10, 30), vec![word(random)]),
+        },
+        10 => {
+            let buffer = random.below(6) as usize;
+            let at = random.below(bytes as u64 + 1);
+            let words = (0..random.within(1, 20)).map(|_| random.bits()).collect();
+            put(buffer, at, words)
+        }
+        11..=12 => {
+            let at = random.pick(&[0, 0, 0, 1, 7, 500, 512, 515]);
+            let mut words = Vec::new();
+            for _ in 0..random.within(1, 12) {
+                let first = page(random, pages);
+                words.extend((0..random.pick(&[1, 1, 3])).map(|i| first.wrapping_add(i)));
+            }
+            put(7, at, words)
+        }
+        13 => {
+            let mut words = vec![random.pick(&[0, 1, 2, 3, 128, 129, u64::MAX])];
+            for _ in 0..random.below(4) {
+                words.extend([page(random, pages), 15, 15, 1, 0]);
+            }
+            put(8, 641 * random.below(2), words)
+        }
+        _ => {
+            let lists = random.below(4);
+            let mut words = vec![random.pick(&[lists, lists, 64, 65, u64::MAX])];
+            for _ in 0..lists {
+                let len = random.below(4);
+                words.push(random.pick(&[len, len, len, 1088, u64::MAX]));
+                words.extend((0..len).map(|_| page(random, pages)));
+            }
+            put(8, 1282 + 1089 * random.below(2), words)
+        }
+    }
+}
+
+fn build(random: &mut Random, ram: &[u64], tracked: u64) -> Call {
+    let mut call = Call::Build {
+        ram: ram.to_vec(),
+        isolation: random.within(2, 4),
+        tracked,
+        release: random.below(2),
+    };
+    if let (
+        true,
+        Call::Build {
+            ram,
+            isolation,
+            tracked,
+            release,
+        },
+    ) = (random.chance(10), &mut call)
+    {
+        for _ in 0..random.within(1, 2) {
+            match random.below(6) {
+                0 => *isolation = word(random),
+                1 => *tracked = word(random),
+                2 => *release = word(random),
+                3 => ram.push(word(random)),
+                4 => ram.truncate(random.below(ram.len() as u64 + 1) as usize),
+                _ => {
+                    let place = random.below(ram.len().max(1) as u64) as usize;
+                    if let Some(spoilt) = ram.get_mut(place) {
+                        *spoilt = word(random);
+                    }
+                }
+            }
+        }
+    }
+    call
+}
+
+fn call(random: &mut Random, ram: &[u64], tracked: u64, pages: &[u64]) -> Call {
+    match random.below(100) {
+        0..=1 => build(random, ram, tracked),
+        2..=64 => Call::Done,
+        65..=79 => Call::Failed {
+            code: random.bits() as u16,
+            processed: random.pick(&[0, 1, 2, 3, 5, 100, 511, 512, 513, u64::MAX]),
+        },
+        _ => {
+            let mut vtl = random.below(2);
+            let mut visibility = random.below(2);
+            let mut list: Vec<u8> = Vec::new();
+            let most = random.pick(&[0, 1, 3, 10, 60, 512, 513]);
+            let first = random.below(pages.len() as u64) as usize;
+            let mut chosen: Vec<u64> = match random.below(3) {
+                0 => (0..most).map(|_| page(random, pages)).collect(),
+                _ => pages.iter().skip(first).take(most).copied().collect(),
+            };
+            if random.chance(30) {
+                chosen.reverse();
+            }
+            if random.chance(80) {
+                let mut seen = std::collections::BTreeSet::new();
+                chosen.retain(|page| seen.insert(*page));
+            }
+            list.extend(chosen.iter().flat_map(|page| page.to_le_bytes()));
+            if random.chance(4) {
+                list.extend((0..random.within(1, 9)).map(|i| i as u8));
+            }
+            if random.chance(4) {
+                vtl = word(random);
+            }
+            if random.chance(4) {
+                visibility = word(random);
+            }
+            Call::Change {
+                vtl,
+                visibility,
+                list,
+            }
+        }
+    }
+}
+
+impl Simpler for Act {
+    fn simpler(&self) -> Vec<Self> {
+        match self {
+            Act::Resize { .. } => Vec::new(),
+            Act::Put { buffer, at, words } => {
+                let put = |words: &[u64]| Act::Put {
+                    buffer: *buffer,
+                    at: *at,
+                    words: words.to_vec(),
+                };
+                let count = words.len();
+                let mut simpler = Vec::new();
+                if count > 1 {
+                    simpler.extend([put(&words[..count / 2]), put(&words[..count - 1])]);
+                }
+                for place in 0..count.min(64) {
+                    if words[place] != 0 {
+                        let mut words = words.clone();
+                        words[place] = 0;
+                        simpler.push(put(&words));
+                    }
+                }
+                simpler
+            }
+            Act::Call(Call::Change {
+                vtl,
+                visibility,
+                list,
+            }) => shorter(list)
+                .into_iter()
+                .map(|list| {
+                    Act::Call(Call::Change {
+                        vtl: *vtl,
+                        visibility: *visibility,
+                        list,
+                    })
+                })
+                .collect(),
+            Act::Call(_) => Vec::new(),
+        }
+    }
+}
+
+/// A list without some of its pages.
+fn shorter(list: &[u8]) -> Vec<Vec<u8>> {
+    let pages = list.len() / 8;
+    let mut lists = Vec::new();
+    for size in [256, 64, 16, 4, 1] {
+        let mut from = 0;
+        while from + size <= pages {
+            lists.push([&list[..from * 8], &list[(from + size) * 8..]].concat());
+            from += size;
+        }
+    }
+    lists
+}
