@@ -1,12 +1,15 @@
 //! Scripts of the protector's calls, put to the port, the original and the predictor.
 
+use super::predict::Answer;
 use super::predict::Call;
 use super::predict::Given;
 use super::predict::PAGES;
+use super::predict::Query;
 use super::predict::STATE;
 use super::predict::TABLES;
 use super::predict::World;
 use super::predict::layout_refusal;
+use super::predict::numbers;
 use crate::case::Entry;
 use crate::coverage::Coverage;
 use crate::run::Difference;
@@ -62,6 +65,7 @@ pub enum What {
         code: u16,
         processed: u64,
     },
+    Query(Query),
 }
 
 /// Lengths of buffers lent in the place of the protector's own, by `NAMES`.
@@ -126,7 +130,7 @@ impl Build {
 impl Change {
     /// Whether there is a page from 2^52 on: the original takes it for another one.
     fn is_high(&self) -> bool {
-        let pages = super::predict::numbers(&self.list.bytes());
+        let pages = numbers(&self.list.bytes());
         pages.iter().any(|page| page >> 52 != 0)
     }
 
@@ -154,7 +158,7 @@ impl Change {
     /// With its whole pages by their numbers: the original reads no raw bytes.
     fn by_numbers(&self) -> Self {
         Self {
-            list: List::Pages(super::predict::numbers(&self.list.bytes())),
+            list: List::Pages(numbers(&self.list.bytes())),
             ..self.clone()
         }
     }
@@ -193,6 +197,7 @@ impl Act {
             What::Start(change) => change.line(),
             What::Done => "answer done".to_string(),
             What::Failed { code, processed } => format!("answer failed {code} {processed}"),
+            What::Query(query) => query_line(query, false),
         }
     }
 
@@ -302,6 +307,9 @@ impl Run<'_> {
             }
             return Ok(());
         }
+        if let What::Query(query) = &act.what {
+            return self.query(place, query, &lent, given);
+        }
         let awaited = self.await_line(act, &lent);
         self.count(act, &awaited);
         let same = match awaited.kind {
@@ -386,7 +394,7 @@ impl Run<'_> {
                 &none,
                 true,
             ),
-            What::Build(_) | What::Trace(_) => unreachable!("they are seen to"),
+            What::Build(_) | What::Trace(_) | What::Query(_) => unreachable!("they are seen to"),
         };
         let mut last = world.call(&first);
         let mut ops = Vec::new();
@@ -429,6 +437,49 @@ impl Run<'_> {
             asked: ops.len() as u64,
             kind,
         }
+    }
+
+    /// A query or a fault, answered by the port.
+    fn query(&mut self, place: usize, query: &Query, lent: &Lend, given: String) -> Same {
+        let line = query_line(query, false);
+        let (name, _) = line.split_once(' ').unwrap_or((&line, ""));
+        let Some(world) = &self.world else {
+            self.coverage.meet(format!("{name}: bad"));
+            self.coverage.predicted_alone += 1;
+            return match given.starts_with("bad ") {
+                true => Ok(()),
+                false => differ(place, line, given, None, "bad".to_string()),
+            };
+        };
+        let awaited = lent_world(world, lent).query(query);
+        let result = query_result(query, &awaited);
+        let predicted = format!("{result} | ops=0");
+        let kind = match (awaited.number, query) {
+            (0, Query::Fault { .. }) => format!(" {}", FAULTS[awaited.value as usize]),
+            (0, _) => " ok".to_string(),
+            (number, _) => format!(" number {number}"),
+        };
+        self.coverage.meet(format!("{name}:{kind}"));
+        // The original is asked where document 01's domain has the call and nothing is half way.
+        let in_domain = match query {
+            Query::Visibility { list, .. } => {
+                [0, 7].contains(&awaited.number) && numbers(list).iter().all(|page| page >> 52 == 0)
+            }
+            Query::Fault { .. } => awaited.number == 0,
+            Query::Lower { gpn, .. } => [0, 7].contains(&awaited.number) && gpn >> 52 == 0,
+            Query::Access { .. } => [0, 24].contains(&awaited.number),
+        };
+        let asked = in_domain && self.lives && self.open.is_none() && world.state[0] == 0;
+        let original = asked.then(|| self.ask_original(&query_line(query, true)));
+        match asked {
+            true => self.coverage.with_original += 1,
+            false => self.coverage.predicted_alone += 1,
+        }
+        let plain = without_number(&predicted);
+        if given != predicted || original.as_ref().is_some_and(|answer| *answer != plain) {
+            return differ(place, line, given, original, predicted);
+        }
+        self.compare_maps(place)
     }
 
     fn await_build(&mut self, build: &Build, lent: &Lend) -> Awaited {
@@ -524,6 +575,7 @@ impl Run<'_> {
                     (What::Call { change, failures }, _) => {
                         (change.by_numbers().line_failing(failures), plain(given))
                     }
+                    (What::Start(change), _) => (change.by_numbers().line(), plain(given)),
                     _ => (act.line(), plain(given)),
                 };
                 let strange = match &act.what {
@@ -579,7 +631,7 @@ impl Run<'_> {
 
     fn count(&mut self, act: &Act, awaited: &Awaited) {
         let (name, stepped) = match &act.what {
-            What::Trace(_) => ("trace", ""),
+            What::Trace(_) | What::Query(_) => ("line", ""),
             What::Build(_) => ("build", ""),
             What::Call { change, .. } => (change_name(change), ""),
             What::Start(change) => (change_name(change), ", stepped"),
@@ -626,6 +678,72 @@ impl Run<'_> {
         }
         self.coverage.predicted_alone += 1;
     }
+}
+
+const FAULTS: [&str; 5] = [
+    "Retry",
+    "NotMapped",
+    "NotShared",
+    "NotPrivate",
+    "VtlProtected",
+];
+
+/// A query's line; for the original whole pages by their numbers.
+fn query_line(query: &Query, for_original: bool) -> String {
+    let word = |number: u64, words: &[&str]| match words.get(number as usize) {
+        Some(word) => word.to_string(),
+        None => number.to_string(),
+    };
+    match query {
+        Query::Visibility { list, out } => {
+            let ragged = !list.len().is_multiple_of(8);
+            let list = match ragged && !for_original {
+                true => List::Bytes(list.clone()),
+                false => List::Pages(numbers(list)),
+            };
+            format!("query_host_visibility {} {out}", list.text())
+        }
+        Query::Fault {
+            mapping,
+            view,
+            address,
+            writes,
+            failure,
+        } => format!(
+            "page_fault {} {} {address} {writes} {failure}",
+            word(*mapping, &["encrypted", "shared"]),
+            word(*view, &["read", "kx", "ux"])
+        ),
+        Query::Lower { vtl, gpn } => format!("query_lower_vtl_permissions {vtl} {gpn}"),
+        Query::Access { gpn } => format!("query_access_permission {gpn}"),
+    }
+}
+
+fn query_result(query: &Query, given: &Answer) -> String {
+    let digits: String = given
+        .out
+        .iter()
+        .map(|byte| match byte {
+            0 => '0',
+            1 => '1',
+            _ => '_',
+        })
+        .collect();
+    match (query, given.number) {
+        (Query::Visibility { .. }, 0) => format!("ok out=[{digits}]"),
+        (Query::Visibility { .. }, 7) => format!("err 8 {} #7 out=[{digits}]", given.index),
+        (Query::Fault { .. }, 0) => format!("ok {}", FAULTS[given.value as usize]),
+        (_, 0) => format!("ok {}", given.value),
+        (_, 7) => "err 8 #7".to_string(),
+        (_, 24) => "err NoPermissionsTracked #24".to_string(),
+        (_, number) => format!("refused {number}"),
+    }
+}
+
+/// Without 01's number.
+fn without_number(line: &str) -> String {
+    let words = line.split(' ').filter(|word| !word.starts_with('#'));
+    words.collect::<Vec<_>>().join(" ")
 }
 
 fn many(count: u64) -> &'static str {
@@ -903,7 +1021,18 @@ impl Simpler for Act {
                 processed: processed / 2,
             }),
             What::Failed { .. } => with(What::Done),
-            What::Trace(_) | What::Done => (),
+            What::Query(Query::Visibility { list, out }) => {
+                let pages = Change {
+                    vtl: 0,
+                    visibility: 0,
+                    list: List::Pages(numbers(list)),
+                };
+                for change in shorter(&pages) {
+                    let list = change.list.bytes();
+                    with(What::Query(Query::Visibility { list, out: *out }));
+                }
+            }
+            What::Trace(_) | What::Done | What::Query(_) => (),
         }
         if self.lend != [None; 9] {
             acts.push(Act {

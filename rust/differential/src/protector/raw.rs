@@ -1,10 +1,14 @@
 //! Any words in any lengths: the library's entries against the predictor, every buffer compared.
 
+use super::predict::Answer;
 use super::predict::Call;
 use super::predict::Given;
 use super::predict::PAGES;
+use super::predict::Query;
 use super::predict::STATE;
 use super::predict::TABLES;
+#[cfg(feature = "queries")]
+use super::predict::UNTOUCHED;
 use super::predict::World;
 use crate::coverage::Coverage;
 use crate::random::Random;
@@ -39,6 +43,7 @@ pub enum Act {
         words: Vec<u64>,
     },
     Call(Call),
+    Query(Query),
 }
 
 impl Act {
@@ -49,12 +54,13 @@ impl Act {
                 format!("{} from {at} on holds {words:?}", BUFFERS[*buffer])
             }
             Act::Call(call) => format!("{call:?}"),
+            Act::Query(query) => format!("{query:?}"),
         }
     }
 
     fn apply(&self, world: &mut World) {
         match self {
-            Act::Call(_) => (),
+            Act::Call(_) | Act::Query(_) => (),
             Act::Resize { buffer, len } => match buffer {
                 0..6 => world.maps[*buffer].resize(*len, 0),
                 6 => world.state.resize(*len, 0),
@@ -188,10 +194,6 @@ pub fn run(acts: &[Act], coverage: &mut Coverage) -> Option<Difference> {
     let mut world = World::default();
     for (place, act) in acts.iter().enumerate() {
         act.apply(&mut world);
-        let Act::Call(call) = act else { continue };
-        let mut predicted = world.clone();
-        let awaited = predicted.call(call);
-        count(call, &world, &awaited, coverage);
         let differ = |port: String, predicted: String| {
             Some(Difference {
                 place,
@@ -201,6 +203,22 @@ pub fn run(acts: &[Act], coverage: &mut Coverage) -> Option<Difference> {
                 predicted,
             })
         };
+        let call = match act {
+            Act::Call(call) => call,
+            Act::Query(query) => {
+                let awaited = world.query(query);
+                count_query(query, &awaited, coverage);
+                let given = ask(&world, query);
+                if given != awaited {
+                    return differ(format!("{given:?}"), format!("{awaited:?}"));
+                }
+                continue;
+            }
+            _ => continue,
+        };
+        let mut predicted = world.clone();
+        let awaited = predicted.call(call);
+        count(call, &world, &awaited, coverage);
         let Some((after, reply)) = library(&world, call) else {
             return differ("a write beside a buffer".to_string(), "none".to_string());
         };
@@ -214,6 +232,82 @@ pub fn run(acts: &[Act], coverage: &mut Coverage) -> Option<Difference> {
         world = after;
     }
     None
+}
+
+/// Puts a query to the library's entry.
+#[cfg(feature = "queries")]
+fn ask(world: &World, query: &Query) -> Answer {
+    use underhill_mem_port::raw::protector::Seen;
+    let [private, shared, read, write, kernel, user] = &world.maps;
+    let seen = Seen {
+        private,
+        shared,
+        read,
+        write,
+        kernel,
+        user,
+        state: &world.state,
+    };
+    let value = match query {
+        Query::Visibility { list, out } => {
+            let mut buffer = guarded(&vec![UNTOUCHED; *out], GUARD_BYTE);
+            let out = inner(&mut buffer);
+            let reply = entries::query_host_visibility(&world.state, shared, list, out);
+            let (index, code) = (reply.index, reply.code);
+            let plain = Reply {
+                number: reply.number,
+                code,
+                index,
+                ..Reply::default()
+            };
+            return Answer {
+                // Nothing else is in such a reply.
+                number: if reply == plain {
+                    reply.number
+                } else {
+                    u64::MAX
+                },
+                value: code,
+                index,
+                out: unguarded(&buffer, GUARD_BYTE).unwrap_or_default(),
+            };
+        }
+        &Query::Fault {
+            mapping,
+            view,
+            address,
+            writes,
+            failure,
+        } => entries::page_fault(seen, mapping, view, address, writes, failure),
+        &Query::Lower { vtl, gpn } => entries::query_lower_vtl_permissions(seen, vtl, gpn),
+        &Query::Access { gpn } => entries::query_access_permission(seen, gpn),
+    };
+    Answer {
+        number: value.number,
+        value: value.value,
+        ..Answer::default()
+    }
+}
+
+#[cfg(not(feature = "queries"))]
+fn ask(_: &World, _: &Query) -> Answer {
+    unreachable!("no query is made up")
+}
+
+fn count_query(query: &Query, awaited: &Answer, coverage: &mut Coverage) {
+    let name = match query {
+        Query::Visibility { .. } => "query_host_visibility",
+        Query::Fault { .. } => "page_fault",
+        Query::Lower { .. } => "query_lower_vtl_permissions",
+        Query::Access { .. } => "query_access_permission",
+    };
+    let given = match (query, awaited.number) {
+        (Query::Fault { .. }, 0) => format!("answer {}", awaited.value),
+        (_, 0) => "ok".to_string(),
+        (_, number) => format!("number {number}"),
+    };
+    coverage.meet(format!("raw {name}: {given}"));
+    coverage.predicted_alone += 1;
 }
 
 fn count(call: &Call, world: &World, awaited: &Given, coverage: &mut Coverage) {
@@ -287,7 +381,10 @@ pub fn case(random: &mut Random) -> Vec<Act> {
             acts.push(Act::Resize { buffer, len });
             (buffer, right)
         });
-        acts.push(Act::Call(call(random, &ram, tracked, &pages)));
+        acts.push(match cfg!(feature = "queries") && random.chance(25) {
+            true => Act::Query(query(random, &pages)),
+            false => Act::Call(call(random, &ram, tracked, &pages)),
+        });
         if let Some((buffer, len)) = lent {
             acts.push(Act::Resize { buffer, len });
         }
@@ -447,6 +544,44 @@ fn build(random: &mut Random, ram: &[u64], tracked: u64) -> Call {
     call
 }
 
+fn query(random: &mut Random, pages: &[u64]) -> Query {
+    let gpn = page(random, pages);
+    let unfit = random.chance(5);
+    let mut small = |end: u64| match unfit && random.chance(40) {
+        true => word(random),
+        false => random.below(end),
+    };
+    match small(4) {
+        0 => {
+            let most = random.pick(&[0, 1, 5, 40, 512, 513]);
+            let mut list: Vec<u8> = (0..most)
+                .flat_map(|_| page(random, pages).to_le_bytes())
+                .collect();
+            if random.chance(60) {
+                let pages = (0..most).map(|_| random.pick(pages));
+                list = pages.flat_map(|page| page.to_le_bytes()).collect();
+            }
+            if random.chance(5) {
+                list.push(1);
+            }
+            let out = match random.below(3) {
+                0 => random.below(20) as usize,
+                _ => list.len() / 8,
+            };
+            Query::Visibility { list, out }
+        }
+        1 => Query::Lower { vtl: small(2), gpn },
+        2 => Query::Access { gpn },
+        _ => Query::Fault {
+            mapping: small(2),
+            view: small(3),
+            writes: small(2),
+            failure: small(2),
+            address: gpn.wrapping_mul(4096) + random.below(4096),
+        },
+    }
+}
+
 fn call(random: &mut Random, ram: &[u64], tracked: u64, pages: &[u64]) -> Call {
     match random.below(100) {
         0..=1 => build(random, ram, tracked),
@@ -529,7 +664,11 @@ impl Simpler for Act {
                     })
                 })
                 .collect(),
-            Act::Call(_) => Vec::new(),
+            Act::Query(Query::Visibility { list, out }) => shorter(list)
+                .into_iter()
+                .map(|list| Act::Query(Query::Visibility { list, out: *out }))
+                .collect(),
+            Act::Call(_) | Act::Query(_) => Vec::new(),
         }
     }
 }
