@@ -1,6 +1,8 @@
-//! Times the port against the original in one run, on the same calls, with backends that do
-//! nothing. Build it with --release.
+//! The registrar's rows.
 
+use crate::heading;
+use crate::median;
+use crate::show;
 use memory_range::MemoryRange;
 use std::hint::black_box;
 use std::time::Duration;
@@ -165,12 +167,8 @@ const ROWS: [Row; 10] = [
     },
 ];
 
-fn main() {
-    recorder::set_idle(true);
-    println!(
-        "{:58} {:>12} {:>12} {:>8}",
-        "granularity 2 MiB; median of a call", "port ns", "Rust ns", "ratio"
-    );
+pub fn run() {
+    heading("granularity 2 MiB; median of a call");
     for row in &ROWS {
         let (mut ports, mut originals) = (Vec::new(), Vec::new());
         for _ in 0..row.rounds {
@@ -178,9 +176,7 @@ fn main() {
             originals.push(time(row, &mut original(row)));
         }
         let each = f64::from(row.times);
-        let (port, original) = (median(ports) / each, median(originals) / each);
-        let ratio = port / original;
-        println!("{:58} {port:12.0} {original:12.0} {ratio:8.3}", row.name);
+        show(row.name, median(ports) / each, median(originals) / each);
     }
 }
 
@@ -215,10 +211,4 @@ fn time(row: &Row, subject: &mut dyn Subject) -> Duration {
         assert!(black_box((row.call)(subject)), "{}", row.name);
     }
     began.elapsed()
-}
-
-/// In nanoseconds.
-fn median(mut times: Vec<Duration>) -> f64 {
-    times.sort();
-    times[times.len() / 2].as_nanos() as f64
 }
