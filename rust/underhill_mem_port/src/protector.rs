@@ -443,7 +443,9 @@ impl HardwareIsolatedMemoryProtector {
         list.clear();
         // What is longer is refused by 5 whatever it holds, so no more is copied.
         let gpns = &gpns[..gpns.len().min(513)];
-        list.extend(gpns.iter().flat_map(|gpn| gpn.to_le_bytes()));
+        for gpn in gpns {
+            list.extend_from_slice(&gpn.to_le_bytes());
+        }
         let (vtl, to) = (u64::from(vtl as u8), u64::from(to as u8));
         let reply = raw::change_host_visibility(self.lent(), vtl, to, &list);
         self.list = list;
