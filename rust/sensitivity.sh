@@ -2,13 +2,14 @@
 # Shows that the differential run would see a fault: each edit below changes one operand in a copy of
 # the original's source, and each must be reported as a difference.
 #
-#   ./sensitivity.sh [CALLS]
+#   ./sensitivity.sh [CALLS [FILE]]
 #
-# UNDERHILL_MEM_SRC names the folder with the original's three files, as for the oracle.
+# FILE takes the edits of that file alone. UNDERHILL_MEM_SRC names the folder with the original's three files, as for the oracle.
 set -euo pipefail
 cd "$(dirname "${BASH_SOURCE[0]}")"
 
 calls=${1:-20000}
+only=${2:-}
 source=${UNDERHILL_MEM_SRC:-$PWD/../../shared/docs/src/openhcl/underhill_mem/src}
 [ -f "$source/registrar.rs" ] || { echo "sensitivity.sh: the original's source is not in $source (UNDERHILL_MEM_SRC)" >&2; exit 2; }
 copy=$(mktemp -d)
@@ -28,13 +29,27 @@ edits=(
     'registrar.rs|for registered_chunk in start / self.granularity..chunk {|for registered_chunk in start / self.granularity + 1..chunk {'
     'registrar.rs|.find(\|entry\| entry.range.overlaps(\&edge))|.find(\|entry\| entry.range.overlaps(\&span))'
     'registrar.rs|if state.failed.get_mut(chunk) {|if state.failed.get_mut(chunk) \&\& chunk != 1 {'
+    'lib.rs|if shared \&\& vtl == GuestVtl::Vtl0 {|if shared \&\& vtl == GuestVtl::Vtl1 {'
+    'lib.rs|if inner.valid_shared.check_valid(gpn) != shared {|if inner.valid_shared.check_valid(gpn) != shared \|\| gpn == 9 {'
+    'lib.rs|.position(\|gpn\| *gpn == failed_gpns[0])|.position(\|gpn\| *gpn == gpns[0])'
+    'lib.rs|for lower_vtl in [GuestVtl::Vtl0, GuestVtl::Vtl1] {|for lower_vtl in [GuestVtl::Vtl1, GuestVtl::Vtl0] {'
+    'lib.rs|let (successful_gpns, failed_gpns) = gpns.split_at(err.processed);|let (successful_gpns, failed_gpns) = gpns.split_at(err.processed / 2);'
+    'lib.rs|return Err((HvError::OperationDenied, 0));|return Err((HvError::OperationDenied, 1));'
+    'lib.rs|if self.acceptor.isolation == IsolationType::Snp {|if self.acceptor.isolation == IsolationType::Tdx {'
+    'lib.rs|clear_bitmap.update_valid(range, true);|clear_bitmap.update_valid(range, false);'
+    'lib.rs|if self.flags.tdx_page_release_required {|if !self.flags.tdx_page_release_required {'
+    'lib.rs|.pvalidate_pages(range, false, false).unwrap()|.pvalidate_pages(range, true, false).unwrap()'
+    'mapping.rs|b \&= !(1 << (gpn % Self::PAGES_PER_CHUNK));|b \&= !(1 << (gpn / Self::PAGES_PER_CHUNK % 8));'
+    'mapping.rs|(aligned_range.len() / Self::BYTES_PER_CHUNK) as usize,|(aligned_range.len() / Self::BYTES_PER_CHUNK).min(2) as usize,'
 )
 
-missed=0
+missed=0 tried=0
 for edit in "${edits[@]}"; do
     # A bar that stands in the line itself is written \|
     protected=${edit//'\|'/$'\x01'}
     IFS='|' read -r file from to <<<"$protected"
+    if [ -n "$only" ] && [ "$file" != "$only" ]; then continue; fi
+    tried=$((tried + 1))
     from=${from//$'\x01'/'|'} to=${to//$'\x01'/'|'}
     from=${from//'\&'/'&'} to=${to//'\&'/'&'}
     cp "$source"/*.rs "$copy/"
@@ -55,5 +70,5 @@ for edit in "${edits[@]}"; do
         echo "seen: ${said#*$'\n'differential: }"
     fi
 done
-echo "sensitivity: ${#edits[@]} edits, $missed missed"
+echo "sensitivity: $tried edits, $missed missed"
 [ "$missed" -eq 0 ]
