@@ -259,7 +259,6 @@ impl Protector {
     }
 }
 
-#[cfg(feature = "queries")]
 mod queries {
     use super::*;
     use underhill_mem_port::raw::protector::Seen;

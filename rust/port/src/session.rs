@@ -24,14 +24,6 @@ const UNSERVED: &[&str] = &[
     "vtl1_protections_enabled",
     "default_vtl0_protections",
     "permissions",
-    #[cfg(not(feature = "queries"))]
-    "query_host_visibility",
-    #[cfg(not(feature = "queries"))]
-    "query_lower_vtl_permissions",
-    #[cfg(not(feature = "queries"))]
-    "query_access_permission",
-    #[cfg(not(feature = "queries"))]
-    "page_fault",
 ];
 
 /// A conversation: at most one protector and one registrar.
@@ -83,13 +75,9 @@ impl Session {
         match name {
             "build" => self.protector.build(args, run),
             "change_host_visibility" => self.protector.change_host_visibility(args, run),
-            #[cfg(feature = "queries")]
             "query_host_visibility" => self.protector.query_host_visibility(args, run),
-            #[cfg(feature = "queries")]
             "query_lower_vtl_permissions" => self.protector.query_lower_vtl_permissions(args, run),
-            #[cfg(feature = "queries")]
             "query_access_permission" => self.protector.query_access_permission(args, run),
-            #[cfg(feature = "queries")]
             "page_fault" => self.protector.page_fault(args, run),
             "answer" => self.protector.answer(args, run),
             "dump" => self.protector.dump(args),

@@ -59,22 +59,18 @@ mod registrar;
 
 pub use protector::Backend;
 pub use protector::ChangeError;
-#[cfg(feature = "queries")]
 pub use protector::Fault;
 pub use protector::Flags;
 pub use protector::GuestVtl;
 pub use protector::HardwareIsolatedMemoryProtector;
 pub use protector::IsolationType;
-#[cfg(feature = "queries")]
 pub use protector::Mapping;
 pub use protector::ModifyError;
 pub use protector::Operation;
 pub use protector::PageRun;
 pub use protector::Progress;
 pub use protector::Protect;
-#[cfg(feature = "queries")]
 pub use protector::QueryError;
-#[cfg(feature = "queries")]
 pub use protector::View;
 pub use protector::Visibility;
 pub use refusal::Refusal;

@@ -497,11 +497,9 @@ impl HardwareIsolatedMemoryProtector {
     }
 }
 
-#[cfg(feature = "queries")]
 pub use queries::*;
 
 /// Queries and faults: they change nothing and ask for nothing.
-#[cfg(feature = "queries")]
 mod queries {
     use super::*;
     use crate::raw::protector::Seen;

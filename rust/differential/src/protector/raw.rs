@@ -7,7 +7,6 @@ use super::predict::PAGES;
 use super::predict::Query;
 use super::predict::STATE;
 use super::predict::TABLES;
-#[cfg(feature = "queries")]
 use super::predict::UNTOUCHED;
 use super::predict::World;
 use crate::coverage::Coverage;
@@ -235,7 +234,6 @@ pub fn run(acts: &[Act], coverage: &mut Coverage) -> Option<Difference> {
 }
 
 /// Puts a query to the library's entry.
-#[cfg(feature = "queries")]
 fn ask(world: &World, query: &Query) -> Answer {
     use underhill_mem_port::raw::protector::Seen;
     let [private, shared, read, write, kernel, user] = &world.maps;
@@ -287,11 +285,6 @@ fn ask(world: &World, query: &Query) -> Answer {
         value: value.value,
         ..Answer::default()
     }
-}
-
-#[cfg(not(feature = "queries"))]
-fn ask(_: &World, _: &Query) -> Answer {
-    unreachable!("no query is made up")
 }
 
 fn count_query(query: &Query, awaited: &Answer, coverage: &mut Coverage) {
@@ -381,7 +374,7 @@ pub fn case(random: &mut Random) -> Vec<Act> {
             acts.push(Act::Resize { buffer, len });
             (buffer, right)
         });
-        acts.push(match cfg!(feature = "queries") && random.chance(25) {
+        acts.push(match random.chance(25) {
             true => Act::Query(query(random, &pages)),
             false => Act::Call(call(random, &ram, tracked, &pages)),
         });

@@ -30,7 +30,6 @@ pub struct Reply {
 /// What a query of one page or a fault gives.
 #[repr(C)]
 #[derive(Debug, Clone, Copy, PartialEq, Eq, Default)]
-#[cfg(feature = "queries")]
 pub struct Value {
     /// Document 01's number; 0 where none.
     pub number: u64,
@@ -101,7 +100,6 @@ pub fn map_bytes(last_end: u64) -> u64 {
 
 mod entries {
     use super::Reply;
-    #[cfg(feature = "queries")]
     use super::Value;
 
     // A slice crosses as its pointer and its length.
@@ -202,7 +200,6 @@ mod entries {
         ) -> Reply;
     }
 
-    #[cfg(feature = "queries")]
     unsafe extern "C" {
         pub fn protector_query_host_visibility(
             state: *const u64,
@@ -345,7 +342,6 @@ pub fn answer_failed(lent: Lent<'_>, code: u16, processed: u64) -> Reply {
 
 /// What a query that writes nothing is lent.
 #[derive(Debug, Clone, Copy)]
-#[cfg(feature = "queries")]
 pub struct Seen<'a> {
     pub private: &'a [u8],
     pub shared: &'a [u8],
@@ -357,7 +353,6 @@ pub struct Seen<'a> {
 }
 
 /// Calls an entry with what is seen, and the words behind.
-#[cfg(feature = "queries")]
 macro_rules! look {
     ($entry:ident, $seen:expr, [$($behind:expr),*]) => {{
         let Seen { private, shared, read, write, kernel, user, state } = $seen;
@@ -386,7 +381,6 @@ macro_rules! look {
 }
 
 /// Writes a byte a page to `out`, as far as it goes: 0 private, 1 shared.
-#[cfg(feature = "queries")]
 pub fn query_host_visibility(state: &[u64], shared: &[u8], list: &[u8], out: &mut [u8]) -> Reply {
     // SAFETY: as above; `out` is borrowed exclusively.
     unsafe {
@@ -406,7 +400,6 @@ pub fn query_host_visibility(state: &[u64], shared: &[u8], list: &[u8], out: &mu
 /// `mapping` is 0 for the encrypted one, 1 for the shared; `view` is 0 for read, 1 for kernel
 /// execute, 2 for user execute; `writes` and `failure` are 0 or 1. The answer is 0 for Retry, 1
 /// for NotMapped, 2 for NotShared, 3 for NotPrivate, 4 for VtlProtected.
-#[cfg(feature = "queries")]
 pub fn page_fault(
     seen: Seen<'_>,
     mapping: u64,
@@ -423,13 +416,11 @@ pub fn page_fault(
 }
 
 /// The flags that a VTL has on a page, as far as lower VTLs decide.
-#[cfg(feature = "queries")]
 pub fn query_lower_vtl_permissions(seen: Seen<'_>, vtl: u64, gpn: u64) -> Value {
     look!(protector_query_lower_vtl_permissions, seen, [vtl, gpn])
 }
 
 /// The flags of a page in the permission maps.
-#[cfg(feature = "queries")]
 pub fn query_access_permission(seen: Seen<'_>, gpn: u64) -> Value {
     look!(protector_query_access_permission, seen, [gpn])
 }
