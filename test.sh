@@ -9,6 +9,11 @@ if [ ! -d "${UNDERHILL_MEM_SRC:-../shared/docs/src/openhcl/underhill_mem/src}" ]
     left_out=(--exclude oracle --exclude underhill_mem_source --exclude differential)
 fi
 cargo test --offline --quiet --manifest-path rust/Cargo.toml --workspace "${left_out[@]}"
+if [ ${#left_out[@]} -eq 0 ]; then
+    cargo run --offline --quiet --release --manifest-path rust/Cargo.toml -p differential -- --calls 100000 --seed 1
+else
+    echo "differential: not run"
+fi
 
 rt fmt --check
 rt ci
