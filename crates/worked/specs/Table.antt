@@ -1,5 +1,5 @@
 -- The worked examples of document 01, computed by the definitions: RAM pages 0 to 15 and 32 to 39.
-use mathlib.Core.Bool.{false}
+use mathlib.Core.Bool.{true}
 use mathlib.Core.List.{List, [], _∷_}
 use mathlib.Core.Path.{_≡_, refl}
 use Prim.Native.Nat.{ℕ, _+_, _*_, _^_}
@@ -9,9 +9,18 @@ use Rattle.layout.specs.Layout.{entriesOf, ramByte, ordered, aligned, refusalOf
 use Rattle.permissions.specs.declared.GuestVtl.the-variants.{Vtl0, Vtl1}
 use Rattle.permissions.specs.Flags.{flagsOf}
 use Rattle.permissions.specs.Rmpadjust.{operandOf}
-use Rattle.mapping.specs.Maps.{Maps, maps, built, mapsFit}
+use Rattle.mapping.specs.Maps.{maps, built, mapsFit}
 use Rattle.fault.specs.declared.PageFaultAction.the-variants.{NotShared, NotPrivate}
 use Rattle.fault.specs.Fault.{faultOf, faultRefusal, pageFault}
+use Rattle.pages.specs.Pages.{numberOf, numberAt, numbersFrom, among, repeats}
+use Rattle.pages.specs.Runs.{runsOf}
+use Rattle.request.specs.Request.{pick, pickPlaces, stopAt}
+use Rattle.overlays.specs.Overlays.{placeFrom}
+use Rattle.locks.specs.Locks.{listsFrom, held}
+use Rattle.protector_state.specs.State.{firstPhases, phaseOf}
+use Rattle.protector.specs.Calls.{firstRefusal, visibilityRefusal, visibilityOf}
+use Rattle.visibility_claims.specs.Whole.{one, inTurn, perRun, wholeShare, returned, modified, wholeReturn}
+use Rattle.visibility_claims.specs.Table.{P2, Visibility, visibility}
 use Rattle.chunks.specs.Chunks.{powerFrom, pieces, firstNotOf, entryWith}
 use Rattle.registrar_steps.specs.Steps.{registerFrom, lookAt, allFrom}
 use Rattle.registrar_state.specs.declared.Reply.{Reply}
@@ -32,10 +41,6 @@ whole = 0xff ∷ 0xff ∷ 0x00 ∷ 0x00 ∷ 0xff ∷ []
 
 abbrev clear : List ℕ
 clear = 0 ∷ 0 ∷ 0 ∷ 0 ∷ 0 ∷ []
-
--- the marks after P2, permissions not tracked
-abbrev afterP2 : Maps
-afterP2 = maps (0xf7 ∷ 0xf9 ∷ 0x00 ∷ 0x00 ∷ 0xff ∷ []) (0x08 ∷ 0x06 ∷ 0x00 ∷ 0x00 ∷ 0x00 ∷ []) [] [] [] []
 
 -- the registrar as built over it, at offset 2^40 and granularity 65,536
 abbrev registrar : World
@@ -64,6 +69,7 @@ unaligned =
 pub record Worked : Type 0 where
   pub fit : refusalOf ram ≡ 0
   pub P1 : built entries (maps lent lent lent lent lent lent) ≡ maps whole clear whole whole whole whole
+  pub P2-to-P5 : Visibility
   pub P6-refused : refusalOf (0 ∷ 28672 ∷ 0 ∷ []) ≡ 2
   pub P6-taken : refusalOf (0 ∷ 32768 ∷ 0 ∷ []) ≡ 0
   pub P7-vtl0 : operandOf Vtl0 (flagsOf 5) ≡ 2306
@@ -73,15 +79,16 @@ pub record Worked : Type 0 where
   pub P8-registered : doneOf (registerOf registrar 4096 0 .world) ≡ outcome (builtState ram (2 ^ 40) 65536) (1 ∷ []) (0 ∷ []) (simple 0 0 1 0 0 0)
   pub P9-asked : allOf registrar 65536 0 .reply ≡ simple 0 1 0 (2 ^ 40) (2 ^ 40 + 65536) 0
   pub P9-unaligned : doneOf (allOf registrar 65536 0 .world) ≡ outcome (builtState ram (2 ^ 40) 65536) (1 ∷ []) (0 ∷ []) unaligned
-  pub P10-private : pageFault entries afterP2 false 0 0 (3 * 4096) 0 1 ≡ NotPrivate
-  pub P10-shared : pageFault entries afterP2 false 1 0 (4 * 4096) 0 1 ≡ NotShared
+  pub P10-private : pageFault entries (P2 .maps) true 0 0 (3 * 4096) 0 1 ≡ NotPrivate
+  pub P10-shared : pageFault entries (P2 .maps) true 1 0 (4 * 4096) 0 1 ≡ NotShared
 
 pub worked : Worked
-unfolding word writtenFrom entriesOf ramByte ordered aligned refusalOf spans spansFrom operandOf mapsFit faultOf faultRefusal pageFault powerFrom pieces firstNotOf entryWith registerFrom lookAt allFrom registerRefusal registerOf allRefusal allOf answerRefusal doneOf
+unfolding word writtenFrom entriesOf ramByte ordered aligned refusalOf spans spansFrom operandOf mapsFit faultOf faultRefusal pageFault powerFrom pieces firstNotOf entryWith registerFrom lookAt allFrom registerRefusal registerOf allRefusal allOf answerRefusal doneOf numberOf numberAt numbersFrom among repeats runsOf pick pickPlaces stopAt placeFrom listsFrom held phaseOf firstPhases firstRefusal visibilityRefusal visibilityOf one inTurn perRun wholeShare returned modified wholeReturn
 worked =
     record {
       fit = refl;
       P1 = refl;
+      P2-to-P5 = visibility;
       P6-refused = refl;
       P6-taken = refl;
       P7-vtl0 = refl;
