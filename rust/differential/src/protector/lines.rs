@@ -117,6 +117,24 @@ fn runs(pages: &[u64]) -> String {
 }
 
 impl Build {
+    pub(super) fn line(&self) -> String {
+        let entry = |e: &Entry| format!("{}-{}:{}", e.start, e.end, e.node);
+        let ram: Vec<_> = self.ram.iter().map(entry).collect();
+        let ram = if ram.is_empty() {
+            ".".to_string()
+        } else {
+            ram.join(",")
+        };
+        let isolation = match self.isolation {
+            2 => "snp".to_string(),
+            3 => "tdx".to_string(),
+            4 => "cca".to_string(),
+            unfit => unfit.to_string(),
+        };
+        let (tracked, release) = (self.tracked, self.release);
+        format!("build iso={isolation} tracked={tracked} release={release} ram={ram}")
+    }
+
     /// Whether it has numbers that the original can't be handed.
     fn is_strange(&self) -> bool {
         let whole = |e: &Entry| e.start.is_multiple_of(4096) && e.end.is_multiple_of(4096);
@@ -129,7 +147,7 @@ impl Build {
 
 impl Change {
     /// Whether there is a page from 2^52 on: the original takes it for another one.
-    fn is_high(&self) -> bool {
+    pub(super) fn is_high(&self) -> bool {
         let pages = numbers(&self.list.bytes());
         pages.iter().any(|page| page >> 52 != 0)
     }
@@ -147,7 +165,7 @@ impl Change {
         )
     }
 
-    fn line_failing(&self, failures: &BTreeMap<u64, (u16, u64)>) -> String {
+    pub(super) fn line_failing(&self, failures: &BTreeMap<u64, (u16, u64)>) -> String {
         let mut line = self.line();
         for (place, (code, processed)) in failures {
             line += &format!(" fail={place}:{code}:{processed}");
@@ -156,14 +174,14 @@ impl Change {
     }
 
     /// With its whole pages by their numbers: the original reads no raw bytes.
-    fn by_numbers(&self) -> Self {
+    pub(super) fn by_numbers(&self) -> Self {
         Self {
             list: List::Pages(numbers(&self.list.bytes())),
             ..self.clone()
         }
     }
 
-    fn call(&self) -> Call {
+    pub(super) fn call(&self) -> Call {
         Call::Change {
             vtl: self.vtl,
             visibility: self.visibility,
@@ -176,23 +194,7 @@ impl Act {
     pub fn line(&self) -> String {
         match &self.what {
             What::Trace(on) => format!("trace {}", u8::from(*on)),
-            What::Build(build) => {
-                let entry = |e: &Entry| format!("{}-{}:{}", e.start, e.end, e.node);
-                let ram: Vec<_> = build.ram.iter().map(entry).collect();
-                let ram = if ram.is_empty() {
-                    ".".to_string()
-                } else {
-                    ram.join(",")
-                };
-                let isolation = match build.isolation {
-                    2 => "snp".to_string(),
-                    3 => "tdx".to_string(),
-                    4 => "cca".to_string(),
-                    unfit => unfit.to_string(),
-                };
-                let (tracked, release) = (build.tracked, build.release);
-                format!("build iso={isolation} tracked={tracked} release={release} ram={ram}")
-            }
+            What::Build(build) => build.line(),
             What::Call { change, failures } => change.line_failing(failures),
             What::Start(change) => change.line(),
             What::Done => "answer done".to_string(),
@@ -274,7 +276,7 @@ struct Awaited {
 }
 
 #[derive(Debug, Clone, Copy, PartialEq, Eq)]
-enum Kind {
+pub(super) enum Kind {
     Bad,
     Refused,
     Asks,
@@ -811,7 +813,7 @@ const OPERATIONS: [&str; 9] = [
     "Zero",
 ];
 
-fn operation(world: &World, given: &Given) -> String {
+pub(super) fn operation(world: &World, given: &Given) -> String {
     let name = OPERATIONS[given.operation as usize];
     let pages = match given.pages {
         0 => "none".to_string(),
@@ -845,7 +847,7 @@ fn operation(world: &World, given: &Given) -> String {
 }
 
 /// The maps as a dump has them: short ones byte by byte, long ones by their runs.
-fn maps(world: &World) -> String {
+pub(super) fn maps(world: &World) -> String {
     let tracked = world.state[17] == 1;
     let shown = NAMES.iter().zip(&world.maps).enumerate();
     let shown = shown.map(|(i, (name, map))| match i < 2 || tracked {
@@ -881,7 +883,7 @@ fn sparse(map: &[u8]) -> String {
     format!("sparse({})[{}]", map.len(), shown.join(";"))
 }
 
-fn result(last: &Given) -> (String, Kind) {
+pub(super) fn result(last: &Given) -> (String, Kind) {
     let &Given { code, index, .. } = last;
     match last.number {
         0 if last.operation == 0 => ("ok".to_string(), Kind::Ended),
@@ -909,7 +911,7 @@ fn differ(
 }
 
 /// The port's RESULT as the original writes it: without 01's number, a halt as a panic.
-fn plain_result(given: &str) -> String {
+pub(super) fn plain_result(given: &str) -> String {
     let result = given.split(" | ").next().unwrap_or(given);
     let result = result.split(" #").next().unwrap_or(result);
     match result {
@@ -932,7 +934,7 @@ fn plain(given: &str) -> String {
 }
 
 /// The original's line without a panic's text and without what it hands over besides.
-fn without_more(answer: &str) -> String {
+pub(super) fn without_more(answer: &str) -> String {
     let answer = match answer.split_once(" | ") {
         Some((result, rest)) if result.starts_with("panic") => format!("panic | {rest}"),
         _ => answer.to_string(),
@@ -950,7 +952,7 @@ fn without_more(answer: &str) -> String {
 }
 
 /// Flags that the original doesn't hand over.
-fn without_flags(line: &str) -> String {
+pub(super) fn without_flags(line: &str) -> String {
     let words = line
         .split(' ')
         .map(|word| match word.starts_with("flags=") {
@@ -1044,7 +1046,7 @@ impl Simpler for Act {
     }
 }
 
-fn shorter(change: &Change) -> Vec<Change> {
+pub(super) fn shorter(change: &Change) -> Vec<Change> {
     let List::Pages(pages) = &change.list else {
         return vec![change.by_numbers()];
     };

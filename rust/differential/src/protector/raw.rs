@@ -104,7 +104,7 @@ fn inner<T>(buffer: &mut [T]) -> &mut [T] {
 }
 
 /// Makes the call by the library's entry; none if it wrote beside a buffer.
-fn library(world: &World, call: &Call) -> Option<(World, Reply)> {
+pub(super) fn library(world: &World, call: &Call) -> Option<(World, Reply)> {
     let mut maps = world.maps.each_ref().map(|map| guarded(map, GUARD_BYTE));
     let mut state = guarded(&world.state, GUARD_WORD);
     let mut pages = guarded(&world.pages, GUARD_WORD);
@@ -150,7 +150,7 @@ fn library(world: &World, call: &Call) -> Option<(World, Reply)> {
     Some((after, reply))
 }
 
-fn given(reply: &Reply) -> Given {
+pub(super) fn given(reply: &Reply) -> Given {
     Given {
         number: reply.number,
         code: reply.code,
