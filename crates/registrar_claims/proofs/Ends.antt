@@ -1,6 +1,6 @@
 -- Every request ends: each answer that is taken lowers the number `left`, and nothing refused changes it. Assumes nothing.
 use native.Mathlib.Omega.{arith}
-use mathlib.Core.Path.{_≡_, refl, sym, ap}
+use mathlib.Core.Path.{_≡_, refl, sym, ap, _∙_}
 use mathlib.Core.Logic.{_⊎_, inl, inr, ⊎-elim}
 use mathlib.Core.Bool.{Bool, true, false, not, cond, _||_, _&&_}
 use mathlib.Core.List.{List, [], _∷_}
@@ -22,7 +22,7 @@ use Rattle.registrar_steps.specs.declared.Look.{Look}
 use Rattle.registrar_steps.specs.declared.Look.the-variants.{Nothing, Edge, FailedBefore, Stretch}
 use Rattle.registrar_steps.specs.Steps.{Seen, idle, asks, ends, more, ramFrom, passes, pieceOf, registerFrom, stretchIn, lookAt, found, allFrom}
 use Rattle.registrar_state.specs.World.{World, Outcome, outcome, requestOf, withRequest, offsetOf, granularityOf, entriesIn, seenIn, flatOf, decided, buildRefusal, buildOf, lengthsFit, callRefusal, chunksFit, registerRefusal, allRefusal, marked, carriedOut, registerPlan, allPlan, registerOf, allOf, answerRefusal, failedOf, restOf, hasRest, donePlan, afterTaken, doneOf}
-use Rattle.registrar_claims.specs.Runs.{Call, Build, RegisterRange, RegisterAll, AnswerDone, AnswerFailed, give, notRefused, leftOf, left, after, takenIn, isAnswer, onlyAnswers}
+use Rattle.registrar_claims.specs.Runs.{Call, Build, RegisterRange, RegisterAll, AnswerDone, AnswerFailed, give, notRefused, leftOf, left, after, takenIn, isAnswer, onlyAnswers, answering}
 use Rattle.registrar_claims.proofs.Refusals.{answer-taken, refused-keeps}
 use Rattle.registrar_claims.proofs.Built.{Sound, built-sound, call-sound, always-sound}
 
@@ -247,6 +247,26 @@ pub every-request-ends : (w : World) (ram : List ℕ) (o g : ℕ) (xs ys : List 
 every-request-ends w ram o g xs ys z a l =
     let v : World = after (buildOf w ram o g .world) xs in
     none-left (requestOf (after v ys .state)) (omega (arith, answers-lower ys v (always-sound xs (buildOf w ram o g .world) (built-sound w ram o g z)) a))
+
+-- THE CLAIM: and so do as many answers as `left` says, in any order, none of them refused while the request is under way
+answers-end-from : (ys : List Call) (w : World) → Sound w → answering w ys → left w ≤ length ys → requestOf (after w ys .state) .kind ≡ 0
+unfolding after answering
+answers-end-from [] w s u h = none-left (requestOf (w .state)) h
+answers-end-from (y ∷ ys) w s u h =
+    go (notRefused (give w y .reply .number)) refl (eqb (requestOf (w .state) .kind) 0) refl (answers-end-from ys (give w y .world) (call-sound w y s) (u .2))
+  where
+    go : (t : Bool) → notRefused (give w y .reply .number) ≡ t → (b : Bool) → eqb (requestOf (w .state) .kind) 0 ≡ b
+        → (left (give w y .world) ≤ length ys → requestOf (after (give w y .world) ys .state) .kind ≡ 0) → requestOf (after (give w y .world) ys .state) .kind ≡ 0
+    go true e b d more = more (omega (arith, h, answer-lowers w y s (u .0) e))
+    go false e false d more = false≢true (sym e ∙ u .1 (eqb-false _ _ d))
+    go false e true d more =
+        let z : left w ≡ 0 = ap (λ (t : Bool). cond t 0 (suc ((2 ^ 64 - requestOf (w .state) .to) * 2 ^ 65 + (2 ^ 64 - requestOf (w .state) .end)))) d in
+        more (omega (arith, z, ap left (refused-keeps w y e)))
+
+pub answers-end : (w : World) (ram : List ℕ) (o g : ℕ) (xs ys : List Call) → let v : World = after (buildOf w ram o g .world) xs in
+    buildRefusal w ram o g ≡ 0 → answering v ys → left v ≤ length ys → requestOf (after v ys .state) .kind ≡ 0
+answers-end w ram o g xs ys z a l =
+    answers-end-from ys (after (buildOf w ram o g .world) xs) (always-sound xs (buildOf w ram o g .world) (built-sound w ram o g z)) a l
 
 -- and until then register and register_all_aligned are refused
 busy-refused : (w : World) (rest : ℕ) (o : Outcome) → (requestOf (w .state) .kind ≡ 0 → ⊥) → notRefused (decided w (callRefusal w rest) o .reply .number) ≡ false

@@ -1,4 +1,5 @@
 -- Calls and their answers as a history: document 01, "The request under way".
+use mathlib.Core.Path.{_≡_}
 use mathlib.Core.Bool.{Bool, true, false, not, cond, _||_, _&&_}
 use mathlib.Core.List.{List, [], _∷_}
 use Prim.Native.Nat.{ℕ, suc, _+_, _-_, _*_, _^_}
@@ -63,6 +64,12 @@ isAnswer AnswerFailed = true
 unfoldable pub onlyAnswers : World → List Call → Bool
 onlyAnswers w [] = true
 onlyAnswers w (x ∷ xs) = (isAnswer x || not (notRefused (give w x .reply .number))) && onlyAnswers (give w x .world) xs
+
+-- answers alone, none of them refused while something is asked
+unfoldable pub answering : World → List Call → Type 0
+answering w [] = Unit {0}
+answering w (x ∷ xs) =
+    (isAnswer x ≡ true) × ((requestOf (w .state) .kind ≡ 0 → ⊥) → notRefused (give w x .reply .number) ≡ true) × answering (give w x .world) xs
 
 -- ---- a whole call under a list of answers, done or not: the ranges that it asks for, and what it gives last
 

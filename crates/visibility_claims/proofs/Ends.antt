@@ -1,14 +1,15 @@
 -- Every request ends: each answer that is taken lowers the number `left`, and nothing refused changes it. Assumes nothing.
 use native.Mathlib.Omega.{arith}
-use mathlib.Core.Path.{_≡_, refl, ap, ap₂}
+use mathlib.Core.Path.{_≡_, refl, sym, ap, ap₂, _∙_}
 use mathlib.Core.Logic.{⊎-elim}
-use mathlib.Core.Bool.{Bool, true, false, cond, _&&_}
+use mathlib.Core.Bool.{Bool, true, false, not, cond, _&&_}
 use mathlib.Core.List.{List, [], _∷_}
 use Prim.Native.Nat.{ℕ, suc, _+_, _-_, _*_, _≤_, _<_}
 use lib.Dec.{eqb, ltb, leb}
-use lib.ListN.{getD, drop}
-use borrow.Author.Tests.{eqb-true, ltb-true, leb-false}
+use lib.ListN.{length, getD, drop}
+use borrow.Author.Tests.{eq-eqb, eqb-true, ltb-true, leb-false}
 use Rattle.laws.specs.Bools.{false≢true, and-left, lt-or-le}
+use Rattle.laws.specs.Refusal.{unless}
 use Rattle.permissions.specs.declared.OptionFlags.{OptionFlags}
 use Rattle.permissions.specs.declared.OptionFlags.the-variants.{Some, None}
 use Rattle.request.specs.Request.{runEnd}
@@ -20,12 +21,12 @@ use Rattle.acceptor.specs.declared.Request.{Request}
 use Rattle.acceptor.specs.declared.Writes.{Writes}
 use Rattle.acceptor.specs.declared.Step.{Step}
 use Rattle.acceptor.specs.Steps.{isSnp, isCca, releases, noWrites, setShared, setPrivate, setPermissions, ask, end, halt, shareRun, defaultRun, returnRun, afterFlush, afterWait, afterModify, afterAccept, afterDefault0, cutAt, failedModify, doneOf, failedOf}
-use Rattle.protector_state.specs.State.{phaseIn, requestOf, settingsOf}
+use Rattle.protector_state.specs.State.{stateLen, phaseIn, requestOf, settingsOf}
 use Rattle.protector.specs.World.{World, fits, statusOf, takes}
-use Rattle.protector.specs.Calls.{carriedOut, answerDone, answerFailed}
+use Rattle.protector.specs.Calls.{carriedOut, answerRefusal, answerDone, answerFailed}
 use Rattle.visibility_claims.specs.Whole.{Given, Succeeds, Fails}
 use Rattle.visibility_claims.specs.Calls.{answerOf, takenBy}
-use Rattle.visibility_claims.specs.Ends.{left, leftIn, underWay, afterAll, takenOf}
+use Rattle.visibility_claims.specs.Ends.{left, leftIn, underWay, afterAll, takenOf, unrefused}
 use Rattle.visibility_claims.proofs.Calls.{few-done, few-failed, phase-read, request-read}
 use Rattle.visibility_claims.proofs.Refusals.{answer-takes}
 
@@ -212,3 +213,58 @@ ends w gs h = go (underWay (afterAll w gs)) refl
     go true e =
         let v : List ℕ = afterAll w gs .state in
         absurd (omega (arith, all-lower w gs, some-left (phaseIn v) (requestOf v .n) (requestOf v .at) e))
+
+-- where nothing is under way, nothing is to come
+none-left : (p : Phase) (n a : ℕ) → eqb (statusOf p) 19 ≡ false → left p n a ≡ 0
+none-left at.Idle n a e = refl
+none-left at.Halted n a e = refl
+none-left at.Wait n a e = false≢true (sym e)
+none-left at.FlushAll n a e = false≢true (sym e)
+none-left at.ProtectNone0 n a e = false≢true (sym e)
+none-left at.ProtectNone1 n a e = false≢true (sym e)
+none-left at.Invalidate n a e = false≢true (sym e)
+none-left at.Release n a e = false≢true (sym e)
+none-left at.Modify n a e = false≢true (sym e)
+none-left at.Accept n a e = false≢true (sym e)
+none-left at.Zero n a e = false≢true (sym e)
+none-left at.ProtectDefault0 n a e = false≢true (sym e)
+none-left at.ProtectDefault1 n a e = false≢true (sym e)
+
+-- THE CLAIM: from any state, as many answers as the number says, none of them refused while the request is under way, end it
+pub every-request-ends : (w : World) (gs : List Given) → unrefused w gs → leftIn w ≤ length gs → underWay (afterAll w gs) ≡ false
+unfolding afterAll unrefused
+every-request-ends w [] u h = go (underWay w) refl
+  where
+    go : (b : Bool) → underWay w ≡ b → b ≡ false
+    go false e = refl
+    go true e = absurd (omega (arith, h, some-left (phaseIn (w .state)) (requestOf (w .state) .n) (requestOf (w .state) .at) e))
+every-request-ends w (g ∷ gs) u h = go (takenBy g w) refl (underWay w) refl (every-request-ends (answerOf g w .world) gs (u .1))
+  where
+    go : (b : Bool) → takenBy g w ≡ b → (c : Bool) → underWay w ≡ c
+        → (leftIn (answerOf g w .world) ≤ length gs → underWay (afterAll (answerOf g w .world) gs) ≡ false) → underWay (afterAll (answerOf g w .world) gs) ≡ false
+    go true e c d more = more (omega (arith, h, taken-lowers w g e))
+    go false e true d more = false≢true (sym e ∙ u .0 d)
+    go false e false d more =
+        let z : leftIn w ≡ 0 = none-left (phaseIn (w .state)) (requestOf (w .state) .n) (requestOf (w .state) .at) d in
+        let k : leftIn (answerOf g w .world) ≡ leftIn w = ap leftIn (untaken-keeps w g e) in
+        more (omega (arith, z, k))
+
+-- done is refused by no request that is under way, where what is lent has its lengths
+pub done-taken : (w : World) → length (w .state) ≡ stateLen → fits w ≡ true → underWay w ≡ true → takenBy Succeeds w ≡ true
+unfolding answerRefusal
+done-taken w a b c = rw (eq-eqb (length (w .state)) stateLen a, b) (go (phaseIn (w .state)) c)
+  where
+    go : (p : Phase) → eqb (statusOf p) 19 ≡ true → eqb (unless (not (eqb (statusOf p) 20)) 20 (unless (takes p false) 21 0)) 0 ≡ true
+    go at.Idle e = e
+    go at.Halted e = e
+    go at.Wait e = refl
+    go at.FlushAll e = refl
+    go at.ProtectNone0 e = refl
+    go at.ProtectNone1 e = refl
+    go at.Invalidate e = refl
+    go at.Release e = refl
+    go at.Modify e = refl
+    go at.Accept e = refl
+    go at.Zero e = refl
+    go at.ProtectDefault0 e = refl
+    go at.ProtectDefault1 e = refl

@@ -1,5 +1,6 @@
 -- The number that every taken answer lowers: document 01, "The request under way", on when a call is under way.
-use mathlib.Core.Bool.{Bool, cond}
+use mathlib.Core.Path.{_≡_}
+use mathlib.Core.Bool.{Bool, true, cond}
 use mathlib.Core.List.{List, [], _∷_}
 use Prim.Native.Nat.{ℕ, suc, _+_, _-_, _*_}
 use lib.Dec.{eqb}
@@ -41,3 +42,8 @@ afterAll w (g ∷ gs) = afterAll (answerOf g w .world) gs
 unfoldable pub takenOf : World → List Given → ℕ
 takenOf w [] = 0
 takenOf w (g ∷ gs) = cond (takenBy g w) 1 0 + takenOf (answerOf g w .world) gs
+
+-- while a request is under way, none of the answers is refused
+unfoldable pub unrefused : World → List Given → Type 0
+unrefused w [] = Unit {0}
+unrefused w (g ∷ gs) = (underWay w ≡ true → takenBy g w ≡ true) × unrefused (answerOf g w .world) gs
