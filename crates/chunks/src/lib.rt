@@ -94,7 +94,7 @@ fn chunk_end(c: u64, g: u64, end: u64) -> u64
     (c + 1) * g
 }
 
-// The first RAM of chunk c from address x on: empty where there is none. Past the chunk no span is looked at.
+// The first RAM of chunk c from address x on: empty where there is none.
 pub fn next_ram(ram: &[u64], g: u64, c: u64, x: u64) -> MemoryRange
     ensures { λ r. ⌜ r ≡ firstOf (pieces x ((c + 1) * g) (spans (entriesOf (now (ram .entry))))) ⌝ }
 {
