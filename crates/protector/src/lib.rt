@@ -6,7 +6,7 @@ ghost use lib.ListN.{length};
 ghost use Rattle.layout.specs.Layout.{entriesOf, mapLen};
 ghost use Rattle.mapping.specs.Maps.{maps, marksFit};
 ghost use Rattle.pages.specs.Pages.{pagesOf};
-ghost use Rattle.protector_state.specs.State.{stateLen, withRequest};
+ghost use Rattle.protector_state.specs.State.{stateLen, withRequest, entriesIn};
 ghost use Rattle.protector_state.specs.Reply.{flatOf};
 ghost use Rattle.protector.specs.World.{pagesLen, tablesLen, overlaysOf, locksOf, isLocked, lengthsFit, statusOf, takes, putPlaces, applied};
 ghost use Rattle.protector.specs.Calls.{permissionMapsFit, buildRefusal, pageRefusal, firstRefusal, visibilityRefusal, looksAt, answerRefusal};
@@ -149,6 +149,21 @@ fn pages_refusal(ram: &[u64], overlays: &[u64], locks: &[u64], share: bool, list
     0
 }
 
+// The same, by the layout of the state and the tables of a VTL.
+fn listed_refusal(state: &[u64], tables: &[u64], vtl: GuestVtl, share: bool, list: &[u8]) -> u64
+    requires { ⌜ (length (now state) ≡ stateLen) × (length (now tables) ≡ tablesLen) ⌝ }
+    ensures { λ r. ⌜ r ≡ firstRefusal (pageRefusal (entriesIn (now (state .entry))) (overlaysOf (now (tables .entry)) vtl) (locksOf (now (tables .entry)) vtl) share) (pagesOf (now (list .entry))) ⌝ }
+{
+    let ram = protector_state::ram_of(state);
+    pages_refusal(
+        ram,
+        overlays_of(tables, vtl),
+        locks_of(tables, vtl),
+        share,
+        list,
+    )
+}
+
 // The number that refuses a visibility change: 0 where none does.
 pub fn visibility_refusal(
     state: &[u64],
@@ -203,13 +218,7 @@ pub fn visibility_refusal(
         return 8;
     }
     let v = permissions::vtl_of(vtl);
-    pages_refusal(
-        protector_state::ram_of(state),
-        overlays_of(tables, v),
-        locks_of(tables, v),
-        visibility == 1,
-        list,
-    )
+    listed_refusal(state, tables, v, visibility == 1, list)
 }
 
 // Whether a visibility change looks at the permission maps.

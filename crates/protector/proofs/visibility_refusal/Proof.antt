@@ -5,9 +5,13 @@ use borrow.Author.Tests.{eq-eqb, ne-eqb, lt-ltb, le-ltb, not-true, not-false}
 use Rattle.laws.specs.Refusal.{refuses, passes}
 use mathlib.Core.Bool.{not}
 use Rattle.protector.specs.World.{statusOf}
-use Rattle.protector.specs.Calls.{visibilityRefusal}
+use Rattle.protector.specs.Calls.{visibilityRefusal, pageRefusal, firstRefusal}
+use Rattle.pages.specs.Pages.{pagesOf}
+use Rattle.protector.specs.World.{overlaysOf, locksOf}
+use Rattle.permissions.specs.declared.GuestVtl.{GuestVtl}
 use lib.Dec.{eqb}
 use native.Mathlib.Omega.{arith}
+use Rattle.protector_state.specs.State.{entriesIn}
 use Rattle.protector.proofs.visibility_refusal.Statement.{statement}
 use Rattle.protector.proofs.visibility_refusal.Tie as tie
 use Rattle.protector.proofs.Laws as laws
@@ -68,21 +72,12 @@ returns-8 c = passes _ _ _ _ (eq-eqb _ _ (c .before .before .before .before .bef
 vtl-of-requires : tie.Need-vtl-of-requires
 vtl-of-requires c κs = search needs
 
-ram-of-requires : tie.Need-ram-of-requires
-ram-of-requires c κs = search needs
-
-overlays-of-requires : tie.Need-overlays-of-requires
-overlays-of-requires c κs = let a = c .before .before .before .before .before .before .before .before .before .before .before .before .before .before .before .before .before .before .before .before .args in laws.tables-fit (a .state .now) (a .private) (a .shared) (a .read) (a .write) (a .kernel) (a .user) (a .pages) _ (sym (c .before .before .before .before .before .before .before .before .before .before .before .before .lengths-fit .ensures) ∙ not-false _ (c .before .before .before .before .before .before .before .before .before .before .before .if3 .left))
-
-locks-of-requires : tie.Need-locks-of-requires
-locks-of-requires c κs = let a = c .before .before .before .before .before .before .before .before .before .before .before .before .before .before .before .before .before .before .before .before .before .args in laws.tables-fit (a .state .now) (a .private) (a .shared) (a .read) (a .write) (a .kernel) (a .user) (a .pages) _ (sym (c .before .before .before .before .before .before .before .before .before .before .before .before .before .lengths-fit .ensures) ∙ not-false _ (c .before .before .before .before .before .before .before .before .before .before .before .before .if3 .left))
-
-pages-refusal-requires : tie.Need-pages-refusal-requires
-pages-refusal-requires c κs = search needs
+listed-refusal-requires : tie.Need-listed-refusal-requires
+listed-refusal-requires c κs = let a = c .before .before .before .before .before .before .before .before .before .before .before .before .before .before .before .before .before .before .before .args in (c .before .before .before .before .before .before .before .before .before .before .before .before .before .before .before .if1 .left, laws.tables-fit (a .state .now) (a .private) (a .shared) (a .read) (a .write) (a .kernel) (a .user) (a .pages) _ (sym (c .before .before .before .before .before .before .before .before .before .before .before .lengths-fit .ensures) ∙ not-false _ (c .before .before .before .before .before .before .before .before .before .before .if3 .left)))
 
 returns-9 : tie.Need-returns-9
 unfolding visibilityRefusal
-returns-9 c = passes _ _ _ _ (eq-eqb _ _ (c .before .before .before .before .before .before .before .before .before .before .before .before .before .before .before .before .before .before .before .if1 .left)) (passes _ _ _ _ (eq-eqb _ _ (sym (c .before .before .before .before .before .before .before .before .before .before .before .before .before .before .before .before .before .status .ensures ∙ ap statusOf (c .before .before .before .before .before .before .before .before .before .before .before .before .before .before .before .before .before .before .phase .ensures)) ∙ c .before .before .before .before .before .before .before .before .before .before .before .before .before .before .before .before .if2 .left)) (passes _ _ _ _ (sym (c .before .before .before .before .before .before .before .before .before .before .before .before .before .before .before .lengths-fit .ensures) ∙ not-false _ (c .before .before .before .before .before .before .before .before .before .before .before .before .before .before .if3 .left)) (passes _ _ _ _ (ap not (sym (c .before .before .before .before .before .before .before .before .before .before .before .before .before .is-long .ensures) ∙ c .before .before .before .before .before .before .before .before .before .before .before .before .if4 .left)) (passes _ _ _ _ (ap not (sym (c .before .before .before .before .before .before .before .before .before .before .before .has-repeat .ensures) ∙ c .before .before .before .before .before .before .before .before .before .before .if5 .left)) (passes _ _ _ _ (sym (c .before .before .before .before .before .before .before .before .before .is-vtl .ensures) ∙ not-false _ (c .before .before .before .before .before .before .before .before .if6 .left)) (passes _ _ _ _ (lt-ltb (c .before .before .before .before .before .before .before .before .before .before .before .before .before .before .before .before .before .before .before .before .before .before .before .args .visibility) 2 (omega arith)) (passes _ _ _ _ (ap not (sym (c .before .before .before .before .before .before .is-ragged .ensures) ∙ c .before .before .before .before .before .if8 .left)) (c .pages-refusal .ensures ∙ laws.tables-are (c .before .before .before .before .before .before .before .before .before .before .before .before .before .before .before .before .before .before .before .before .before .before .before .args .tables .now) (c .before .before .before .before .before .before .before .before .before .before .before .before .before .before .before .before .before .before .before .before .before .before .before .args .state .now) _ _ _ (c .before .before .before .before .vtl-of .result) _ (c .before .before .before .ram-of .ensures) (c .before .before .overlays-of .ensures) (c .before .locks-of .ensures) (c .before .before .before .before .vtl-of .ensures) (eqb (c .before .before .before .before .before .before .before .before .before .before .before .before .before .before .before .before .before .before .before .before .before .before .before .args .visibility) 1) (c .before .before .before .before .before .before .before .before .before .before .before .before .before .before .before .before .before .before .before .before .before .before .before .args .list .now)))))))))
+returns-9 c = passes _ _ _ _ (eq-eqb _ _ (c .before .before .before .before .before .before .before .before .before .before .before .before .before .before .before .before .if1 .left)) (passes _ _ _ _ (eq-eqb _ _ (sym (c .before .before .before .before .before .before .before .before .before .before .before .before .before .before .status .ensures ∙ ap statusOf (c .before .before .before .before .before .before .before .before .before .before .before .before .before .before .before .phase .ensures)) ∙ c .before .before .before .before .before .before .before .before .before .before .before .before .before .if2 .left)) (passes _ _ _ _ (sym (c .before .before .before .before .before .before .before .before .before .before .before .before .lengths-fit .ensures) ∙ not-false _ (c .before .before .before .before .before .before .before .before .before .before .before .if3 .left)) (passes _ _ _ _ (ap not (sym (c .before .before .before .before .before .before .before .before .before .before .is-long .ensures) ∙ c .before .before .before .before .before .before .before .before .before .if4 .left)) (passes _ _ _ _ (ap not (sym (c .before .before .before .before .before .before .before .before .has-repeat .ensures) ∙ c .before .before .before .before .before .before .before .if5 .left)) (passes _ _ _ _ (sym (c .before .before .before .before .before .before .is-vtl .ensures) ∙ not-false _ (c .before .before .before .before .before .if6 .left)) (passes _ _ _ _ (lt-ltb (c .before .before .before .before .before .before .before .before .before .before .before .before .before .before .before .before .before .before .before .before .args .visibility) 2 (omega arith)) (passes _ _ _ _ (ap not (sym (c .before .before .before .is-ragged .ensures) ∙ c .before .before .if8 .left)) (c .listed-refusal .ensures ∙ ap (λ (v : GuestVtl). firstRefusal (pageRefusal (entriesIn (c .before .before .before .before .before .before .before .before .before .before .before .before .before .before .before .before .before .before .before .before .args .state .now)) (overlaysOf (c .before .before .before .before .before .before .before .before .before .before .before .before .before .before .before .before .before .before .before .before .args .tables .now) v) (locksOf (c .before .before .before .before .before .before .before .before .before .before .before .before .before .before .before .before .before .before .before .before .args .tables .now) v) (eqb (c .before .before .before .before .before .before .before .before .before .before .before .before .before .before .before .before .before .before .before .before .args .visibility) 1)) (pagesOf (c .before .before .before .before .before .before .before .before .before .before .before .before .before .before .before .before .before .before .before .before .args .list .now))) (c .before .vtl-of .ensures)))))))))
 
 pub visibility-refusal-spec : {M : Type 1} → statement M
 visibility-refusal-spec =
@@ -104,8 +99,5 @@ visibility-refusal-spec =
     is-ragged-requires
     returns-8
     vtl-of-requires
-    ram-of-requires
-    overlays-of-requires
-    locks-of-requires
-    pages-refusal-requires
+    listed-refusal-requires
     returns-9)
