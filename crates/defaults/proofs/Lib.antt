@@ -1,0 +1,10 @@
+pub mod Spans
+pub mod Whole
+pub mod Split
+pub mod Bytes
+pub mod Next
+pub mod Locked
+pub mod Renewal
+pub mod Visits
+pub mod Table
+pub mod Examples

@@ -1,0 +1,32 @@
+-- `defaults::step` meets its contract. Assumes nothing.
+use native.Mathlib.Omega.{arith}
+use mathlib.Core.Path.{sym, _∙_}
+use Prim.Native.Nat.{_-_}
+use Rattle.defaults.specs.Pieces.{is}
+use Rattle.defaults.proofs.Spans as spans
+use Rattle.defaults.proofs.Bytes as laws
+use borrow.Author.Needs.{needs}
+use Rattle.defaults.proofs.step.Statement.{statement}
+use Rattle.defaults.proofs.step.Tie as tie
+use Rattle.defaults.proofs.step.Reads as reads
+use Rattle.defaults.proofs.step.Lts as lts
+use Rattle.defaults.proofs.is_state.Reads as is-state-reads
+use Rattle.defaults.proofs.is_whole.Reads as is-whole-reads
+
+is-whole-requires : tie.Need-is-whole-requires
+is-whole-requires c κs = search needs
+
+returns : tie.Need-returns
+returns c = let h = c .before .is-whole .ensures (c .if1 .taken) in (h .0, h .1, λ e. absurd (omega (arith, e)))
+
+is-state-requires : tie.Need-is-state-requires
+is-state-requires c κs = search needs
+
+returns-2 : tie.Need-returns-2
+returns-2 c = let a = c .before .before .before .before .before .args in (omega (arith, c .before .before .before .before .before .pre), laws.one-span (is (a .state) (a .map .now)) (a .p) (sym (c .before .is-state .ensures) ∙ c .if2 .taken), λ e. absurd (omega (arith, e)))
+
+returns-3 : tie.Need-returns-3
+returns-3 c = let a = c .before .before .before .before .before .args in (omega (arith, c .before .before .before .before .before .pre), laws.no-span (is (a .state) (a .map .now)) (a .p), λ e. sym (c .before .is-state .ensures) ∙ c .if2 .left)
+
+pub step-spec : {M : Type 1} → statement M
+step-spec = tie.close (tie.spec is-whole-requires returns is-state-requires returns-2 returns-3)

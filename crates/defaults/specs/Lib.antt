@@ -1,0 +1,4 @@
+pub mod Pieces
+pub mod Barred
+pub mod Renewed
+pub mod Visit
