@@ -67,6 +67,8 @@ pub enum Operation {
     },
     Accept(PageRun),
     Zero(PageRun),
+    Flush(GuestVtl),
+    TlbWait(GuestVtl),
 }
 
 // What a call gives: a finished one with the count of its operations.

@@ -1,6 +1,6 @@
 -- Laws of the tests of a call. Assumes nothing.
-use mathlib.Core.Path.{_≡_, refl, ap, _∙_}
-use mathlib.Core.Bool.{Bool, true, cond, _&&_}
+use mathlib.Core.Path.{_≡_, refl, sym, ap, _∙_}
+use mathlib.Core.Bool.{Bool, true, false, cond, _&&_}
 use mathlib.Core.List.{List}
 use Prim.Native.Nat.{ℕ, _+_, _≤_, _<_}
 use native.Mathlib.Numerals.{add-one}
@@ -17,6 +17,15 @@ use Rattle.acceptor.specs.declared.Writes.{Writes}
 use Rattle.protector_state.specs.State.{settingsOf, ramOf, entriesIn}
 use Rattle.protector.specs.World.{pagesLen, tablesLen, overlaysOf, locksOf, lengthsFit, putPlaces, applied}
 use Rattle.protector.specs.Calls.{pageRefusal, firstRefusal}
+
+-- ---- a choice by a test t that the code made as b
+
+module _ {A : Type 0} (b t : Bool) (x y r : A) (e : b ≡ t) where
+  pub chose : b ≡ true → r ≡ x → r ≡ cond t x y
+  chose h q = q ∙ ap (λ (k : Bool). cond k x y) (sym h ∙ e)
+
+  pub chose-not : b ≡ false → r ≡ y → r ≡ cond t x y
+  chose-not h q = q ∙ ap (λ (k : Bool). cond k x y) (sym h ∙ e)
 
 -- ---- the first page that is refused
 

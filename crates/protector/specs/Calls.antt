@@ -8,18 +8,27 @@ use Rattle.laws.specs.Refusal.{unless}
 use Rattle.layout.specs.declared.MemoryRangeWithNode.{MemoryRangeWithNode}
 use Rattle.layout.specs.Layout.{entriesOf, refusalOf, isRam, mapLen}
 use Rattle.permissions.specs.declared.GuestVtl.{GuestVtl}
-use Rattle.permissions.specs.Flags.{fitVtl, vtlOf, fitIsolation, fitBool, boolOf}
+use Rattle.permissions.specs.declared.HvMapGpaFlags.{HvMapGpaFlags}
+use Rattle.permissions.specs.Flags.{fitVtl, vtlOf, fitIsolation, flagsOf, fitBool, boolOf}
 use Rattle.permissions.specs.HvError.{codeOf}
-use Rattle.mapping.specs.Maps.{marksFit, permissionLen, permissionsFit, built}
+use Rattle.mapping.specs.Maps.{Maps, marksFit, permissionLen, permissionsFit, built}
+use Rattle.pages.specs.declared.PageRun.{PageRun}
 use Rattle.pages.specs.Pages.{pagesOf, isLong, repeats, isRagged}
 use Rattle.request.specs.Request.{pick, tableOf, stopAt, isOpen, wanted}
 use Rattle.overlays.specs.Overlays.{isOverlay}
+use Rattle.defaults.specs.Pieces.{nextPiece}
 use Rattle.acceptor.specs.declared.Settings.{Settings}
 use Rattle.acceptor.specs.declared.Step.{Step}
 use Rattle.acceptor.specs.Steps.{isVtl0, startOf, doneOf, failedOf}
+use Rattle.changes.specs.declared.Stage.{Stage}
+use Rattle.changes.specs.declared.Stage.the-variants as stage
+use Rattle.changes.specs.declared.Change.{Change}
+use Rattle.changes.specs.declared.ChangeStep.{ChangeStep}
+use Rattle.changes.specs.Changes as changes
 use Rattle.protector_state.specs.State.{stateLen, phaseIn, requestOf, withRequest, settingsOf, entriesIn, builtState}
 use Rattle.protector_state.specs.Reply.{finished, flatOf}
-use Rattle.protector.specs.World.{World, Outcome, outcome, pagesLen, tablesLen, overlaysOf, locksOf, isLocked, fits, statusOf, takes, applied}
+use Rattle.change_state.specs.State.{stageIn, isChanging, changeIn, withChange}
+use Rattle.protector.specs.World.{World, Outcome, outcome, pagesLen, tablesLen, overlaysOf, locksOf, isLocked, fits, statusIn, takesIn, applied, permittedRun, entered}
 
 -- a call refused by the number n changes nothing; else it gives what it does
 abbrev pub refusedBy : World → ℕ → Outcome
@@ -33,6 +42,15 @@ unfoldable pub carriedOut : World → List ℕ → Step → Outcome
 carriedOut w table s =
     outcome (applied table (s .writes) (w .maps)) (withRequest (s .phase) (s .request) (w .state)) table (w .tables)
     (flatOf (settingsOf (w .state) .isolation) (s .answer))
+
+-- the same of another change
+abbrev pub withPermissions : Maps → PageRun → HvMapGpaFlags → Maps
+withPermissions m r f = record { private = m .private; shared = m .shared; permissions = permittedRun r f (m .permissions) }
+
+unfoldable pub carriedChange : World → List ℕ → ChangeStep → Outcome
+carriedChange w table x =
+    outcome (withPermissions (w .maps) (x .written) (flagsOf (x .change .flags))) (withChange (x .stage) (x .change) (w .state)) table
+    (entered (x .entry) (x .change) (w .tables)) (flatOf (settingsOf (w .state) .isolation) (x .answer))
 
 -- ---- build: 1, 2, 3, 4, 8; where `tracked` is unfit no permission map has a length to be tested
 
@@ -82,7 +100,7 @@ firstRefusal f (p ∷ ps) = cond (eqb (f p) 0) (firstRefusal f ps) (f p)
 unfoldable pub visibilityRefusal : List ℕ → Bool → List ℕ → ℕ → ℕ → List ℕ → ℕ
 visibilityRefusal s fit tables vtl visibility l =
     unless (eqb (length s) stateLen) 4
-    (unless (eqb (statusOf (phaseIn s)) 0) (statusOf (phaseIn s))
+    (unless (eqb (statusIn s) 0) (statusIn s)
     (unless fit 4
     (unless (not (isLong l)) 5
     (unless (not (repeats (pagesOf l))) 6
@@ -120,17 +138,50 @@ visibilityOf w vtl visibility l = decided w (visibilityRefusal (w .state) (fits 
 unfoldable pub answerRefusal : List ℕ → Bool → Bool → ℕ
 answerRefusal s fit failed =
     unless (eqb (length s) stateLen) 4
-    (unless (not (eqb (statusOf (phaseIn s)) 20)) 20
+    (unless (not (eqb (statusIn s) 20)) 20
     (unless fit 4
-    (unless (takes (phaseIn s) failed) 21
+    (unless (takesIn s failed) 21
     0)))
 
+-- what waits is a default change's Protect: its next piece
+abbrev pub pieceAfter : Stage → List ℕ → List ℕ → List MemoryRangeWithNode → ℕ → PageRun
+pieceAfter stage.Idle private overlays es p = changes.noRun
+pieceAfter stage.Halted private overlays es p = changes.noRun
+pieceAfter stage.ProtectPages private overlays es p = changes.noRun
+pieceAfter stage.ProtectRam private overlays es p = nextPiece private overlays es p
+pieceAfter stage.ProtectNew private overlays es p = changes.noRun
+pieceAfter stage.ProtectOld private overlays es p = changes.noRun
+pieceAfter stage.Wait private overlays es p = changes.noRun
+pieceAfter stage.Flush private overlays es p = changes.noRun
+pieceAfter stage.TlbWait private overlays es p = changes.noRun
+
+abbrev pub nextIn : List ℕ → List ℕ → List ℕ → PageRun
+nextIn private s tables = pieceAfter (stageIn s) private (overlaysOf tables (changeIn s .vtl)) (entriesIn s) (changeIn s .at)
+
+-- what the answer leads such a change to
+unfoldable pub afterDone : List ℕ → List ℕ → List ℕ → List ℕ → ChangeStep
+afterDone private s pages tables = changes.doneOf (settingsOf s .tracked) (stageIn s) (changeIn s) pages (nextIn private s tables)
+
+unfoldable pub afterFailed : List ℕ → ChangeStep
+afterFailed s = changes.failedOf (stageIn s) (changeIn s)
+
+-- an answer that is taken: of a visibility change, or of another
+abbrev pub visibilityDone : World → Outcome
+visibilityDone w = carriedOut w (w .pages) (doneOf (settingsOf (w .state)) (phaseIn (w .state)) (requestOf (w .state)) (w .pages))
+
+abbrev pub visibilityFailed : World → ℕ → ℕ → Outcome
+visibilityFailed w code processed =
+    carriedOut w (w .pages) (failedOf (settingsOf (w .state)) (phaseIn (w .state)) (requestOf (w .state)) (w .pages) code processed)
+
+abbrev pub changeDone : World → Outcome
+changeDone w = carriedChange w (w .pages) (afterDone (w .maps .private) (w .state) (w .pages) (w .tables))
+
+abbrev pub changeFailed : World → Outcome
+changeFailed w = carriedChange w (w .pages) (afterFailed (w .state))
+
 unfoldable pub answerDone : World → Outcome
-answerDone w =
-    decided w (answerRefusal (w .state) (fits w) false)
-    (carriedOut w (w .pages) (doneOf (settingsOf (w .state)) (phaseIn (w .state)) (requestOf (w .state)) (w .pages)))
+answerDone w = decided w (answerRefusal (w .state) (fits w) false) (cond (isChanging (w .state)) (changeDone w) (visibilityDone w))
 
 unfoldable pub answerFailed : World → ℕ → ℕ → Outcome
 answerFailed w code processed =
-    decided w (answerRefusal (w .state) (fits w) true)
-    (carriedOut w (w .pages) (failedOf (settingsOf (w .state)) (phaseIn (w .state)) (requestOf (w .state)) (w .pages) code processed))
+    decided w (answerRefusal (w .state) (fits w) true) (cond (isChanging (w .state)) (changeFailed w) (visibilityFailed w code processed))

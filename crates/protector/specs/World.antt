@@ -1,6 +1,6 @@
 -- What the protector is lent, and the tests that all its calls share (01, "Overlays and locks", "From the input" 4, "From the state" 19 and 20).
-use mathlib.Core.Bool.{Bool, true, false, not, _&&_}
-use mathlib.Core.List.{List}
+use mathlib.Core.Bool.{Bool, true, false, cond, not, _&&_}
+use mathlib.Core.List.{List, _++_}
 use Prim.Native.Nat.{ℕ, _+_, _*_}
 use lib.Dec.{eqb}
 use lib.ListN.{length, drop, take}
@@ -8,16 +8,23 @@ use Rattle.permissions.specs.declared.GuestVtl.{GuestVtl}
 use Rattle.permissions.specs.declared.HvMapGpaFlags.{HvMapGpaFlags}
 use Rattle.permissions.specs.Flags.{vtlNumber}
 use Rattle.layout.specs.Layout.{mapLen}
-use Rattle.mapping.specs.Maps.{Permissions, Maps, perms, marksFit, permissionLen, permissionsFit}
-use Rattle.overlays.specs.Overlays.{isOverlay}
+use Rattle.mapping.specs.Maps.{Permissions, Maps, perms, marksFit, permissionLen, permissionsFit, permitted}
+use Rattle.pages.specs.declared.PageRun.{PageRun}
+use Rattle.overlays.specs.Overlays.{isOverlay, placeOf, entry, addWords, removeWords}
 use Rattle.locks.specs.Locks.{listsOf, held}
 use Rattle.request.specs.Request.{put}
 use Rattle.acceptor.specs.declared.Phase.{Phase}
 use Rattle.acceptor.specs.declared.Phase.the-variants.{Idle, Halted, Wait, FlushAll, ProtectNone0, ProtectNone1, Invalidate, Release, Modify, Accept, Zero, ProtectDefault0, ProtectDefault1}
 use Rattle.acceptor.specs.declared.Places.{Places}
 use Rattle.acceptor.specs.declared.Writes.{Writes}
+use Rattle.changes.specs.declared.Stage.{Stage}
+use Rattle.changes.specs.declared.Stage.the-variants as stage
+use Rattle.changes.specs.declared.Entry.{Entry}
+use Rattle.changes.specs.declared.Entry.the-variants.{Keep, Add, Remove}
+use Rattle.changes.specs.declared.Change.{Change}
 use Rattle.protector_state.specs.declared.Reply.{Reply}
-use Rattle.protector_state.specs.State.{settingsOf, entriesIn}
+use Rattle.protector_state.specs.State.{phaseIn, settingsOf, entriesIn}
+use Rattle.change_state.specs.State.{stageIn, isChanging}
 
 -- the six maps, the state block, the table of the request's pages, and the tables of overlays and locks
 pub record World : Type 0 where
@@ -84,6 +91,9 @@ statusOf Zero = 19
 statusOf ProtectDefault0 = 19
 statusOf ProtectDefault1 = 19
 
+abbrev pub statusIn : List ℕ → ℕ
+statusIn s = cond (isChanging s) 19 (statusOf (phaseIn s))
+
 -- whether an answer is taken (21 else): nothing waits, or what waits cannot fail
 abbrev pub takes : Phase → Bool → Bool
 takes Idle failed = false
@@ -100,7 +110,22 @@ takes Zero failed = true
 takes ProtectDefault0 failed = true
 takes ProtectDefault1 failed = true
 
--- ---- what a step writes: the marks and the permissions of places of the table
+-- of a change other than of visibility, a Protect alone can fail
+abbrev pub takesAt : Stage → Bool → Bool
+takesAt stage.Idle failed = false
+takesAt stage.Halted failed = false
+takesAt stage.ProtectPages failed = true
+takesAt stage.ProtectRam failed = true
+takesAt stage.ProtectNew failed = true
+takesAt stage.ProtectOld failed = true
+takesAt stage.Wait failed = not failed
+takesAt stage.Flush failed = not failed
+takesAt stage.TlbWait failed = not failed
+
+abbrev pub takesIn : List ℕ → Bool → Bool
+takesIn s failed = cond (isChanging s) (takesAt (stageIn s) failed) (takes (phaseIn s) failed)
+
+-- ---- what a step of a visibility change writes: the marks and the permissions of places of the table
 
 abbrev pub putPlaces : List ℕ → Places → Bool → List ℕ → List ℕ
 putPlaces t a s m = put t (a .from) (a .to) s m
@@ -117,3 +142,21 @@ applied t w m =
       shared = putPlaces t (w .shared) (w .state) (m .shared);
       permissions = putPermissions t (w .permissions) (w .flags) (m .permissions);
     }
+
+-- ---- what a step of another change writes: the permissions of a run of pages, and an overlay entry
+
+abbrev pub permittedRun : PageRun → HvMapGpaFlags → Permissions → Permissions
+permittedRun r f m = permitted (r .first) (r .first + r .count) f m
+
+-- the tables with other overlays of a VTL
+abbrev pub withOverlays : List ℕ → GuestVtl → List ℕ → List ℕ
+withOverlays t v o = take (641 * vtlNumber v) t ++ (o ++ drop (641 * vtlNumber v + 641) t)
+
+-- the overlays of a VTL without a page's first
+abbrev pub withoutPage : List ℕ → ℕ → List ℕ
+withoutPage o p = cond (isOverlay o p) (removeWords o (placeOf o p)) o
+
+unfoldable pub entered : Entry → Change → List ℕ → List ℕ
+entered Keep q t = t
+entered Add q t = withOverlays t (q .vtl) (addWords (overlaysOf t (q .vtl)) (entry (q .at) (q .previous) (q .flags) 1 (q .source)))
+entered Remove q t = withOverlays t (q .vtl) (withoutPage (overlaysOf t (q .vtl)) (q .at))

@@ -1,4 +1,4 @@
-// The protector's tests of a call, and the one function that writes the maps.
+// The protector's tests of a call, and the one function that writes marks.
 ghost use mathlib.Core.Path.{_≡_};
 ghost use mathlib.Core.Bool.{_&&_};
 ghost use lib.Dec.{eqb};
@@ -8,18 +8,19 @@ ghost use Rattle.mapping.specs.Maps.{maps, marksFit};
 ghost use Rattle.pages.specs.Pages.{pagesOf};
 ghost use Rattle.protector_state.specs.State.{stateLen, withRequest, entriesIn};
 ghost use Rattle.protector_state.specs.Reply.{flatOf};
-ghost use Rattle.protector.specs.World.{pagesLen, tablesLen, overlaysOf, locksOf, isLocked, lengthsFit, statusOf, takes, putPlaces, applied};
+ghost use Rattle.protector.specs.World.{pagesLen, tablesLen, overlaysOf, locksOf, isLocked, lengthsFit, statusOf, statusIn, takes, takesAt, takesIn, putPlaces, applied};
 ghost use Rattle.protector.specs.Calls.{permissionMapsFit, buildRefusal, pageRefusal, firstRefusal, visibilityRefusal, looksAt, answerRefusal};
 use acceptor::Phase;
 use acceptor::Places;
 use acceptor::Settings;
 use acceptor::Step;
 use acceptor::Writes;
+use changes::Stage;
 use permissions::GuestVtl;
 use protector_state::Reply;
 
 // The tables of one VTL.
-fn overlays_of(tables: &[u64], vtl: GuestVtl) -> &[u64]
+pub fn overlays_of(tables: &[u64], vtl: GuestVtl) -> &[u64]
     requires { ⌜ length (now tables) ≡ tablesLen ⌝ }
     ensures { λ r. ⌜ now r ≡ overlaysOf (now (tables .entry)) vtl ⌝ }
 {
@@ -29,7 +30,7 @@ fn overlays_of(tables: &[u64], vtl: GuestVtl) -> &[u64]
     }
 }
 
-fn locks_of(tables: &[u64], vtl: GuestVtl) -> &[u64]
+pub fn locks_of(tables: &[u64], vtl: GuestVtl) -> &[u64]
     requires { ⌜ length (now tables) ≡ tablesLen ⌝ }
     ensures { λ r. ⌜ now r ≡ locksOf (now (tables .entry)) vtl ⌝ }
 {
@@ -39,7 +40,7 @@ fn locks_of(tables: &[u64], vtl: GuestVtl) -> &[u64]
     }
 }
 
-fn is_locked(overlays: &[u64], locks: &[u64], gpn: u64) -> bool
+pub fn is_locked(overlays: &[u64], locks: &[u64], gpn: u64) -> bool
     ensures { λ r. ⌜ r ≡ isLocked (now (overlays .entry)) (now (locks .entry)) gpn ⌝ }
 {
     if locks::holds(locks, gpn) {
@@ -50,7 +51,7 @@ fn is_locked(overlays: &[u64], locks: &[u64], gpn: u64) -> bool
 }
 
 // Whether what is lent beside the state block has its lengths.
-fn lengths_fit(
+pub fn lengths_fit(
     state: &[u64],
     private: u64,
     shared: u64,
@@ -75,7 +76,7 @@ fn lengths_fit(
     tables == 3460
 }
 
-pub fn status(phase: Phase) -> u64
+fn phase_status(phase: Phase) -> u64
     ensures { λ r. ⌜ r ≡ statusOf phase ⌝ }
 {
     match phase {
@@ -93,6 +94,17 @@ pub fn status(phase: Phase) -> u64
         Phase::ProtectDefault0 => 19,
         Phase::ProtectDefault1 => 19,
     }
+}
+
+// 20 where halted, 19 while an operation is outstanding.
+pub fn status(state: &[u64]) -> u64
+    requires { ⌜ length (now state) ≡ stateLen ⌝ }
+    ensures { λ r. ⌜ r ≡ statusIn (now (state .entry)) ⌝ }
+{
+    if change_state::is_changing(state) {
+        return 19;
+    }
+    phase_status(protector_state::phase(state))
 }
 
 // Whether an answer, a failure or not, is one to the operation outstanding.
@@ -114,6 +126,33 @@ fn is_taken(phase: Phase, failed: bool) -> bool
         Phase::ProtectDefault0 => true,
         Phase::ProtectDefault1 => true,
     }
+}
+
+fn is_taken_at(stage: Stage, failed: bool) -> bool
+    ensures { λ r. ⌜ r ≡ takesAt stage failed ⌝ }
+{
+    match stage {
+        Stage::Idle => false,
+        Stage::Halted => false,
+        Stage::ProtectPages => true,
+        Stage::ProtectRam => true,
+        Stage::ProtectNew => true,
+        Stage::ProtectOld => true,
+        Stage::Wait => !failed,
+        Stage::Flush => !failed,
+        Stage::TlbWait => !failed,
+    }
+}
+
+// The same by the state.
+fn takes(state: &[u64], failed: bool) -> bool
+    requires { ⌜ length (now state) ≡ stateLen ⌝ }
+    ensures { λ r. ⌜ r ≡ takesIn (now (state .entry)) failed ⌝ }
+{
+    if change_state::is_changing(state) {
+        return is_taken_at(change_state::stage(state), failed);
+    }
+    is_taken(protector_state::phase(state), failed)
 }
 
 fn page_refusal(ram: &[u64], overlays: &[u64], locks: &[u64], share: bool, gpn: u64) -> u64
@@ -150,7 +189,7 @@ fn pages_refusal(ram: &[u64], overlays: &[u64], locks: &[u64], share: bool, list
 }
 
 // The same, by the layout of the state and the tables of a VTL.
-fn listed_refusal(state: &[u64], tables: &[u64], vtl: GuestVtl, share: bool, list: &[u8]) -> u64
+pub fn listed_refusal(state: &[u64], tables: &[u64], vtl: GuestVtl, share: bool, list: &[u8]) -> u64
     requires { ⌜ (length (now state) ≡ stateLen) × (length (now tables) ≡ tablesLen) ⌝ }
     ensures { λ r. ⌜ r ≡ firstRefusal (pageRefusal (entriesIn (now (state .entry))) (overlaysOf (now (tables .entry)) vtl) (locksOf (now (tables .entry)) vtl) share) (pagesOf (now (list .entry))) ⌝ }
 {
@@ -184,7 +223,7 @@ pub fn visibility_refusal(
     if state.len() != 128 {
         return 4;
     }
-    let busy = status(protector_state::phase(state));
+    let busy = status(state);
     if busy != 0 {
         return busy;
     }
@@ -252,8 +291,7 @@ pub fn answer_refusal(
     if state.len() != 128 {
         return 4;
     }
-    let phase = protector_state::phase(state);
-    if status(phase) == 20 {
+    if status(state) == 20 {
         return 20;
     }
     if !lengths_fit(
@@ -269,7 +307,7 @@ pub fn answer_refusal(
     ) {
         return 4;
     }
-    if is_taken(phase, failed) { 0 } else { 21 }
+    if takes(state, failed) { 0 } else { 21 }
 }
 
 fn set_marks(map: &mut [u8], pages: &[u64], places: Places, state: bool)

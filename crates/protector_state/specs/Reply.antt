@@ -11,7 +11,7 @@ use Rattle.permissions.specs.Rmpadjust.{operandOf}
 use Rattle.permissions.specs.HvError.{codeOf}
 use Rattle.pages.specs.declared.PageRun.{PageRun}
 use Rattle.acceptor.specs.declared.Operation.{Operation}
-use Rattle.acceptor.specs.declared.Operation.the-variants.{Wait, FlushAll, Protect, Invalidate, Release, Modify, Accept, Zero}
+use Rattle.acceptor.specs.declared.Operation.the-variants.{Wait, FlushAll, Protect, Invalidate, Release, Modify, Accept, Zero, Flush, TlbWait}
 use Rattle.acceptor.specs.declared.Answer.{Answer}
 use Rattle.acceptor.specs.declared.Answer.the-variants.{Done, AccessDenied, Failed, Halted, Ask, Refused}
 use Rattle.acceptor.specs.Steps.{isSnp}
@@ -22,9 +22,12 @@ abbrev pub finished : ℕ → ℕ → ℕ → ℕ → Reply
 finished number code index count =
     record { number = number; code = code; index = index; count = count; operation = 0; vtl = 0; flags = 0; operand = 0; first = 0; pages = 0; shared = 0 }
 
--- an operation on no page, and one on a run of pages
+-- an operation on no page, one on a VTL, and one on a run of pages
 abbrev pub plain : ℕ → Reply
 plain o = record { number = 0; code = 0; index = 0; count = 0; operation = o; vtl = 0; flags = 0; operand = 0; first = 0; pages = 0; shared = 0 }
+
+abbrev pub onVtl : ℕ → GuestVtl → Reply
+onVtl o v = record { number = 0; code = 0; index = 0; count = 0; operation = o; vtl = vtlNumber v; flags = 0; operand = 0; first = 0; pages = 0; shared = 0 }
 
 abbrev pub onRun : ℕ → PageRun → Reply
 onRun o r =
@@ -49,6 +52,8 @@ askedOf i (Release r) = onRun 5 r
 askedOf i (Modify s n) = modifies s n
 askedOf i (Accept r) = onRun 7 r
 askedOf i (Zero r) = onRun 8 r
+askedOf i (Flush v) = onVtl 9 v
+askedOf i (TlbWait v) = onVtl 10 v
 
 unfoldable pub flatOf : IsolationType → Answer → Reply
 flatOf i (Done n) = finished 0 0 0 n

@@ -1,5 +1,6 @@
--- The state block of the protector (01, "The request under way", "Defaults", "RAM layout"): 128 words. The request under way is in words 0 to 9, the
--- settings are in words 16 to 21, the number of RAM entries in word 31, the entries from word 32 on. A build leaves the others 0.
+-- The state block of the protector (01, "The request under way", "Defaults", "RAM layout"): 128 words. A visibility change under way is in words 0 to
+-- 9, another change in words 0 to 13, the settings are in words 16 to 21, the number of RAM entries in word 31, the entries from word 32 on. A build
+-- leaves the others 0.
 use mathlib.Core.Bool.{cond}
 use mathlib.Core.List.{List, [], _∷_, _++_}
 use Prim.Native.Nat.{ℕ, _-_, _*_, min}
@@ -19,7 +20,7 @@ use Rattle.acceptor.specs.declared.Settings.{Settings}
 abbrev pub stateLen : ℕ
 stateLen = 128
 
--- ---- the request under way
+-- ---- a visibility change under way
 
 abbrev pub phaseNumber : Phase → ℕ
 phaseNumber Idle = 0

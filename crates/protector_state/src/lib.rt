@@ -7,7 +7,7 @@ ghost use Rattle.acceptor.specs.Steps.{isSnp};
 ghost use Rattle.permissions.specs.HvError.{codeOf};
 ghost use Rattle.permissions.specs.Rmpadjust.{operandOf};
 ghost use Rattle.protector_state.specs.State.{stateLen, phaseNumber, firstPhases, phaseOf, phaseIn, requestOf, withRequest, optionOf, settingsOf, ramOf, builtState};
-ghost use Rattle.protector_state.specs.Reply.{finished, plain, onRun, protects, modifies, askedOf, flatOf};
+ghost use Rattle.protector_state.specs.Reply.{finished, plain, onVtl, onRun, protects, modifies, askedOf, flatOf};
 use acceptor::Answer;
 use acceptor::Operation;
 use acceptor::Phase;
@@ -21,7 +21,7 @@ use permissions::IsolationType;
 use permissions::OptionFlags;
 
 // What crosses: 01's number (0 where none), code, index and count of a call, and the operation asked for (0 where none):
-// 1 Wait, 2 FlushAll, 3 Protect, 4 Invalidate, 5 Release, 6 Modify, 7 Accept, 8 Zero.
+// 1 Wait, 2 FlushAll, 3 Protect, 4 Invalidate, 5 Release, 6 Modify, 7 Accept, 8 Zero, 9 Flush, 10 TlbWait.
 #[repr(C)]
 pub struct Reply {
     pub number: u64,
@@ -71,6 +71,24 @@ fn plain(operation: u64) -> Reply
         count: 0,
         operation: operation,
         vtl: 0,
+        flags: 0,
+        operand: 0,
+        first: 0,
+        pages: 0,
+        shared: 0,
+    }
+}
+
+fn on_vtl(operation: u64, vtl: GuestVtl) -> Reply
+    ensures { λ r. ⌜ r ≡ onVtl operation vtl ⌝ }
+{
+    Reply {
+        number: 0,
+        code: 0,
+        index: 0,
+        count: 0,
+        operation: operation,
+        vtl: permissions::vtl_number(vtl),
         flags: 0,
         operand: 0,
         first: 0,
@@ -156,7 +174,15 @@ fn asked(isolation: IsolationType, operation: Operation) -> Reply
         Operation::Modify { share, count } => modify(share, count),
         Operation::Accept(run) => on_run(7, run),
         Operation::Zero(run) => on_run(8, run),
+        Operation::Flush(vtl) => on_vtl(9, vtl),
+        Operation::TlbWait(vtl) => on_vtl(10, vtl),
     }
+}
+
+fn stopped(index: u64, count: u64) -> Reply
+    ensures { λ r. ⌜ r ≡ finished 15 (codeOf 15) index count ⌝ }
+{
+    finished(15, permissions::hv_error(15), index, count)
 }
 
 pub fn flatten(isolation: IsolationType, answer: Answer) -> Reply
@@ -164,9 +190,7 @@ pub fn flatten(isolation: IsolationType, answer: Answer) -> Reply
 {
     match answer {
         Answer::Done(count) => finished(0, 0, 0, count),
-        Answer::AccessDenied { index, count } => {
-            finished(15, permissions::hv_error(15), index, count)
-        }
+        Answer::AccessDenied { index, count } => stopped(index, count),
         Answer::Failed { code, index, count } => finished(16, code, index, count),
         Answer::Halted(count) => finished(20, 0, 0, count),
         Answer::Ask(operation) => asked(isolation, operation),

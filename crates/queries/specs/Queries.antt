@@ -20,9 +20,9 @@ use Rattle.fault.specs.Fault.{pageFault, faultNumber, faultValue}
 use Rattle.pages.specs.Pages.{pagesOf, isLong, isRagged}
 use Rattle.request.specs.Request.{stopAt}
 use Rattle.protector_state.specs.declared.Reply.{Reply}
-use Rattle.protector_state.specs.State.{stateLen, phaseIn, settingsOf, entriesIn}
+use Rattle.protector_state.specs.State.{stateLen, settingsOf, entriesIn}
 use Rattle.protector_state.specs.Reply.{finished}
-use Rattle.protector.specs.World.{statusOf}
+use Rattle.protector.specs.World.{statusIn}
 use Rattle.queries.specs.declared.Value.{Value}
 
 -- ---- query_host_visibility: 20, 19, 4, 5, 8, then 7 at its own index
@@ -30,7 +30,7 @@ use Rattle.queries.specs.declared.Value.{Value}
 unfoldable pub queryRefusal : List ℕ → ℕ → List ℕ → ℕ
 queryRefusal s shared l =
     unless (eqb (length s) stateLen) 4
-    (unless (eqb (statusOf (phaseIn s)) 0) (statusOf (phaseIn s))
+    (unless (eqb (statusIn s) 0) (statusIn s)
     (unless (eqb shared (mapLen (entriesIn s))) 4
     (unless (not (isLong l)) 5
     (unless (not (isRagged l)) 8

@@ -41,7 +41,7 @@ pub fn query_refusal(state: &[u64], shared: u64, list: &[u8]) -> u64
     if state.len() != 128 {
         return 4;
     }
-    let busy = protector::status(protector_state::phase(state));
+    let busy = protector::status(state);
     if busy != 0 {
         return busy;
     }

@@ -95,7 +95,7 @@ pub fn run_end(t: &[u64], n: u64, at: u64) -> u64
 }
 
 // The pages from `first` to `last`, with it.
-fn set_run(map: &mut [u8], first: u64, last: u64, state: bool)
+pub fn set_run(map: &mut [u8], first: u64, last: u64, state: bool)
     requires { ⌜ first ≤ last ⌝ }
     ensures { λ _. ⌜ now (map .exit) ≡ written 8 (between first (last + 1)) state (now (map .entry)) ⌝ }
 {

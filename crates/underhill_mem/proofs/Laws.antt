@@ -12,20 +12,22 @@ use Rattle.laws.specs.Refusal.{unless, passed, refused, answered}
 use Rattle.layout.specs.Layout.{entriesOf, refusalOf, mapLen}
 use Rattle.layout.proofs.Laws.{fit, entries-count}
 use Rattle.permissions.specs.declared.GuestVtl.{GuestVtl}
-use Rattle.permissions.specs.Flags.{fitIsolation}
+use Rattle.permissions.specs.Flags.{fitIsolation, flagsOf}
 use Rattle.permissions.specs.HvError.{codeOf}
-use Rattle.mapping.specs.Maps.{Maps, built, marksFit}
+use Rattle.mapping.specs.Maps.{Maps, Permissions, maps, perms, built, marksFit}
 use Rattle.pages.specs.Pages.{pagesOf, isLong}
 use Rattle.request.specs.Request.{pick, tableOf, stopAt, isOpen, wanted}
 use Rattle.acceptor.specs.declared.Settings.{Settings}
 use Rattle.acceptor.specs.declared.Step.{Step}
 use Rattle.acceptor.specs.Steps.{startOf}
+use Rattle.changes.specs.declared.ChangeStep.{ChangeStep}
 use Rattle.protector_state.specs.declared.Reply.{Reply}
-use Rattle.protector_state.specs.State.{stateLen, phaseIn, withRequest, settingsOf, builtState}
+use Rattle.protector_state.specs.State.{stateLen, withRequest, settingsOf, builtState}
 use Rattle.protector_state.specs.Reply.{finished, flatOf}
-use Rattle.protector.specs.World.{World, Outcome, outcome, pagesLen, tablesLen, statusOf, applied}
+use Rattle.change_state.specs.State.{withChange}
+use Rattle.protector.specs.World.{World, Outcome, outcome, pagesLen, tablesLen, statusIn, permittedRun, entered, applied}
 use Rattle.queries.specs.Queries.{queryRefusal, ramBefore, visibilities, filledBy, Query, query, queryTaken, queryOf}
-use Rattle.protector.specs.Calls.{decided, refusedBy, carriedOut, permissionMapsFit, buildFits, buildRefusal, buildTaken, visibilityRefusal, looksAt, visibilityTaken, answerRefusal}
+use Rattle.protector.specs.Calls.{decided, refusedBy, carriedOut, withPermissions, carriedChange, permissionMapsFit, buildFits, buildRefusal, buildTaken, visibilityRefusal, looksAt, visibilityTaken, answerRefusal}
 
 -- ---- a call refused, and one that isn't
 
@@ -58,13 +60,20 @@ module _ (s : List ℕ) (fits : Bool) (n : ℕ) (z : n ≡ 0) where
   unfolding visibilityRefusal
   visibility-passed tables vtl visibility l e =
       let a = passed (eqb (length s) stateLen) 3 _ (sym e ∙ z) in
-      let b = passed fits 3 _ (not-busy (statusOf (phaseIn s)) _ (a .1)) in
+      let b = passed fits 3 _ (not-busy (statusIn s) _ (a .1)) in
       let d = passed (not (isLong l)) 4 _ (b .1) in
       (eqb-true (length s) stateLen (a .0), b .0, long-le l (d .0))
 
   pub answer-passed : (failed : Bool) → n ≡ answerRefusal s fits failed → length s ≡ stateLen
   unfolding answerRefusal
   answer-passed failed e = eqb-true (length s) stateLen (passed (eqb (length s) stateLen) 3 _ (sym e ∙ z) .0)
+
+  pub answer-fits : (failed : Bool) → n ≡ answerRefusal s fits failed → fits ≡ true
+  unfolding answerRefusal
+  answer-fits failed e =
+      let a = passed (eqb (length s) stateLen) 3 _ (sym e ∙ z) in
+      let b = passed (not (eqb (statusIn s) 20)) 19 _ (a .1) in
+      passed fits 3 _ (b .1) .0
 
 pub build-passed : (ram : List ℕ) (isolation tracked release : ℕ) (w : World) (n : ℕ) → n ≡ 0
     → n ≡ buildRefusal ram isolation tracked release (buildFits (mapLen (entriesOf ram)) tracked w) → (length (w .state) ≡ stateLen) × (length ram ≤ 96)
@@ -97,6 +106,15 @@ pub carried : (w : World) (table : List ℕ) (set : Settings) (st x : Step) (m :
 unfolding carriedOut
 carried w table set st x m s r e d a b c =
     rw (a, b, c ∙ ap (λ (y : Settings). flatOf (y .isolation) (st .answer)) e) (ap (λ (y : Step). outcome (applied table (y .writes) (w .maps)) (withRequest (y .phase) (y .request) (w .state)) table (w .tables) (flatOf (settingsOf (w .state) .isolation) (y .answer))) d)
+
+pub changed : (w : World) (x : ChangeStep) (a b c d s t : List ℕ) (r : Reply)
+    → (perms a b c d ≡ permittedRun (x .written) (flagsOf (x .change .flags)) (w .maps .permissions)) × ((s ≡ withChange (x .stage) (x .change) (w .state)) × ((t ≡ entered (x .entry) (x .change) (w .tables)) × (r ≡ flatOf (settingsOf (w .state) .isolation) (x .answer))))
+    → outcome (maps (w .maps .private) (w .maps .shared) a b c d) s (w .pages) t r ≡ carriedChange w (w .pages) x
+unfolding carriedChange
+changed w x a b c d s t r h =
+    ap (λ (p : Permissions). outcome (record { private = w .maps .private; shared = w .maps .shared; permissions = p }) s (w .pages) t r) (h .0)
+    ∙ ap₂ (λ (y z : List ℕ). outcome (withPermissions (w .maps) (x .written) (flagsOf (x .change .flags))) y (w .pages) z r) (h .1 .0) (h .1 .1 .0)
+    ∙ ap (outcome (withPermissions (w .maps) (x .written) (flagsOf (x .change .flags))) (withChange (x .stage) (x .change) (w .state)) (w .pages) (entered (x .entry) (x .change) (w .tables))) (h .1 .1 .1)
 
 module _ (w : World) (v : GuestVtl) (share : Bool) (l : List ℕ) where
   pub visibility-made : (set : Settings) (looks : Bool) (stop count pc : ℕ) (table : List ℕ) (st : Step) (m : Maps) (s : List ℕ) (r : Reply) → set ≡ settingsOf (w .state) → looks ≡ looksAt set v share

@@ -1,4 +1,4 @@
-// The protector's entries. Every one takes any lengths, any numbers, any bytes and words.
+// The protector's entries: build, visibility changes, answers, queries and faults. Every one takes any lengths, any numbers, any bytes and words.
 ghost use mathlib.Core.Path.{_≡_};
 ghost use Rattle.mapping.specs.Maps.{maps};
 ghost use Rattle.protector.specs.World.{world, outcome};
@@ -137,6 +137,9 @@ pub extern "C" fn protector_answer_done(
     if n != 0 {
         return protector_state::refused(n);
     }
+    if change_state::is_changing(state) {
+        return protections::answer_done(private, read, write, kernel, user, state, pages, tables);
+    }
     let set = protector_state::settings(state);
     let phase = protector_state::phase(state);
     let q = protector_state::load(state);
@@ -186,6 +189,9 @@ pub extern "C" fn protector_answer_failed(
     );
     if n != 0 {
         return protector_state::refused(n);
+    }
+    if change_state::is_changing(state) {
+        return protections::answer_failed(read, write, kernel, user, state, tables);
     }
     let set = protector_state::settings(state);
     let phase = protector_state::phase(state);

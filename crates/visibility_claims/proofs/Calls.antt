@@ -4,7 +4,7 @@ use mathlib.Core.Path.{_≡_, refl, sym, ap, ap₂, _∙_, subst}
 use mathlib.Core.Bool.{Bool, true, false, not, cond, _&&_}
 use mathlib.Core.List.{List, [], _∷_, _++_}
 use Prim.Native.Nat.{ℕ, _≤_, min}
-use lib.Dec.{eqb, ltb}
+use lib.Dec.{eqb, leb, ltb}
 use lib.ListN.{length, take, drop, length-take, length-drop}
 use lib.Seq.{getD-drop, drop-drop}
 use borrow.Author.Tests.{eqb-true, eqb-false, eq-eqb, le-ltb, ltb-false}
@@ -23,7 +23,7 @@ use Rattle.request.proofs.Table.{in-use, length-table, length-pick, place-of, p
 use Rattle.acceptor.specs.declared.Phase.{Phase}
 use Rattle.acceptor.specs.declared.Phase.the-variants as at
 use Rattle.acceptor.specs.declared.Operation.{Operation}
-use Rattle.acceptor.specs.declared.Operation.the-variants.{Wait, FlushAll, Protect, Invalidate, Release, Modify, Accept, Zero}
+use Rattle.acceptor.specs.declared.Operation.the-variants.{Wait, FlushAll, Protect, Invalidate, Release, Modify, Accept, Zero, Flush, TlbWait}
 use Rattle.acceptor.specs.declared.Answer.{Answer}
 use Rattle.acceptor.specs.declared.Answer.the-variants.{Done, AccessDenied, Failed, Halted, Ask, Refused}
 use Rattle.acceptor.specs.declared.Settings.{Settings}
@@ -34,7 +34,8 @@ use Rattle.acceptor.specs.Steps.{ask, noRequest, end, halt, doneOf, failedOf, s
 use Rattle.protector_state.specs.declared.Reply.{Reply}
 use Rattle.protector_state.specs.State.{stateLen, phaseNumber, firstPhases, phaseOf, phaseIn, requestOf, requestWords, settingsOf, entriesIn}
 use Rattle.protector_state.specs.Reply.{askedOf, flatOf}
-use Rattle.protector.specs.World.{World, world, Outcome, outcome, fits, statusOf, takes, applied}
+use Rattle.change_state.specs.State.{isChanging}
+use Rattle.protector.specs.World.{World, world, Outcome, outcome, fits, statusOf, statusIn, takes, applied}
 use Rattle.protector.specs.Calls.{carriedOut, visibilityRefusal, stopOf, askedFor, tableFor, visibilityTaken, visibilityOf, answerRefusal, answerDone, answerFailed}
 use Rattle.visibility_claims.specs.Whole.{Given, Succeeds, Fails, wholeShare, wholeReturn}
 use Rattle.visibility_claims.specs.Runs.{Ran, askedBy, lastOf, before, run, whole}
@@ -84,6 +85,22 @@ phase-read at.Zero = refl
 phase-read at.ProtectDefault0 = refl
 phase-read at.ProtectDefault1 = refl
 
+-- a phase is no stage of another change
+pub no-change : (p : Phase) → (leb 13 (phaseNumber p) && ltb (phaseNumber p) 20) ≡ false
+no-change at.Idle = refl
+no-change at.Halted = refl
+no-change at.Wait = refl
+no-change at.FlushAll = refl
+no-change at.ProtectNone0 = refl
+no-change at.ProtectNone1 = refl
+no-change at.Invalidate = refl
+no-change at.Release = refl
+no-change at.Modify = refl
+no-change at.Accept = refl
+no-change at.Zero = refl
+no-change at.ProtectDefault0 = refl
+no-change at.ProtectDefault1 = refl
+
 bool-read : (b : Bool) → boolOf (digit b) ≡ b
 bool-read true = refl
 bool-read false = refl
@@ -117,6 +134,8 @@ asked-flat i (Ask o) = go o
     go (Modify share n) = refl
     go (Accept r) = refl
     go (Zero r) = refl
+    go (Flush v) = refl
+    go (TlbWait v) = refl
 
 says-flat : (i : IsolationType) (a : Answer) → Says i (lastOf a) (flatOf i a)
 unfolding flatOf askedOf
@@ -136,6 +155,8 @@ says-flat i (Ask o) = go o
     go (Modify share n) = refl
     go (Accept r) = refl
     go (Zero r) = refl
+    go (Flush v) = refl
+    go (TlbWait v) = refl
 
 replies-more : (i : IsolationType) (xs ys : List Operation) → replies i (xs ++ ys) ≡ replies i xs ++ replies i ys
 unfolding replies
@@ -163,9 +184,9 @@ taken-at at.Zero b = refl
 taken-at at.ProtectDefault0 b = refl
 taken-at at.ProtectDefault1 b = refl
 
-refusal-taken : (s : List ℕ) (p : Phase) (f b : Bool) → length s ≡ 128 → phaseIn s ≡ p → f ≡ true → eqb (answerRefusal s f b) 0 ≡ takes p b
+refusal-taken : (s : List ℕ) (p : Phase) (f b : Bool) → length s ≡ 128 → isChanging s ≡ false → phaseIn s ≡ p → f ≡ true → eqb (answerRefusal s f b) 0 ≡ takes p b
 unfolding answerRefusal
-refusal-taken s p f b l e d = rw (eq-eqb (length s) 128 l, e, d) (taken-at p b)
+refusal-taken s p f b l c e d = rw (eq-eqb (length s) 128 l, c, e, d) (taken-at p b)
 
 -- ---- the world that a step leaves: the words of its request before a tail that no answer changes
 
@@ -203,18 +224,18 @@ module _ (tail t tables : List ℕ) (long : length tail ≡ 118) where
     block = omega arith
 
     taken : (b : Bool) → eqb (answerRefusal (w .state) (fits w) b) 0 ≡ takes (x .phase) b
-    taken b = refusal-taken (w .state) (x .phase) (fits w) b block (phase-read (x .phase)) (fit-kept (x .writes) m ∙ f)
+    taken b = refusal-taken (w .state) (x .phase) (fits w) b block (no-change (x .phase)) (phase-read (x .phase)) (fit-kept (x .writes) m ∙ f)
 
     done-left : takes (x .phase) false ≡ true → answerDone w ≡ left (doneOf settings (x .phase) (x .request) t) (applied t (x .writes) m)
     unfolding answerDone carriedOut
     done-left e =
-        rw (taken false ∙ e)
+        rw (taken false ∙ e, no-change (x .phase))
         (ap₂ (λ (p : Phase) (q : Request). left (doneOf settings p q t) (applied t (x .writes) m)) (phase-read (x .phase)) (request-read (x .phase) (x .request) tail h))
 
     failed-left : (code k : ℕ) → takes (x .phase) true ≡ true → answerFailed w code k ≡ left (failedOf settings (x .phase) (x .request) t code k) (applied t (x .writes) m)
     unfolding answerFailed carriedOut
     failed-left code k e =
-        rw (taken true ∙ e)
+        rw (taken true ∙ e, no-change (x .phase))
         (ap₂ (λ (p : Phase) (q : Request). left (failedOf settings p q t code k) (applied t (x .writes) m)) (phase-read (x .phase)) (request-read (x .phase) (x .request) tail h))
 
   abbrev Same : Ran → Told → Type 0
@@ -286,7 +307,7 @@ taken-call : (w : World) (vtl visibility : ℕ) (l : List ℕ) → visibilityRef
 unfolding visibilityRefusal
 taken-call w vtl visibility l z =
     let a = passed (eqb (length (w .state)) stateLen) 3 _ z in
-    let b = status (statusOf (phaseIn (w .state))) _ (a .1) in
+    let b = status (statusIn (w .state)) _ (a .1) in
     let c = passed (fits w) 3 _ b in
     let d = passed (not (isLong l)) 4 _ (c .1) in
     record { block = eqb-true _ _ (a .0); fit = c .0; short = not-long (isLong l) refl (d .0) }

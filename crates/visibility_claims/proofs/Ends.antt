@@ -1,17 +1,22 @@
 -- Every request ends: each answer that is taken lowers the number `left`, and nothing refused changes it. Assumes nothing.
 use native.Mathlib.Omega.{arith}
-use mathlib.Core.Path.{_≡_, refl, sym, ap, ap₂, _∙_}
+use mathlib.Core.Path.{_≡_, refl, sym, ap, ap₂, _∙_, subst}
 use mathlib.Core.Logic.{⊎-elim}
 use mathlib.Core.Bool.{Bool, true, false, not, cond, _&&_}
 use mathlib.Core.List.{List, [], _∷_}
-use Prim.Native.Nat.{ℕ, suc, _+_, _-_, _*_, _≤_, _<_}
+use Prim.Native.Nat.{ℕ, zero, suc, _+_, _-_, _*_, _≤_, _<_, min, max}
+use native.Mathlib.Decide.{decLt}
 use lib.Dec.{eqb, ltb, leb}
 use lib.ListN.{length, getD, drop}
-use borrow.Author.Tests.{eq-eqb, eqb-true, ltb-true, leb-false}
-use Rattle.laws.specs.Bools.{false≢true, and-left, lt-or-le}
+use lib.Seq.{getD-drop, drop-drop}
+use borrow.Author.Tests.{eq-eqb, eqb-true, eqb-false, ltb-true, leb-true, leb-false}
+use Rattle.laws.specs.Bools.{false≢true, and-left, both-true, lt-or-le}
 use Rattle.laws.specs.Refusal.{unless}
 use Rattle.permissions.specs.declared.OptionFlags.{OptionFlags}
 use Rattle.permissions.specs.declared.OptionFlags.the-variants.{Some, None}
+use Rattle.layout.specs.declared.MemoryRangeWithNode.{MemoryRangeWithNode}
+use Rattle.pages.specs.declared.PageRun.{PageRun}
+use Rattle.defaults.specs.Pieces.{span, non, pieceOf, pageUp, pieceIn, nextOf, wanted}
 use Rattle.request.specs.Request.{runEnd}
 use Rattle.request.proofs.Runs.{end-none, end-after}
 use Rattle.acceptor.specs.declared.Phase.{Phase}
@@ -21,13 +26,21 @@ use Rattle.acceptor.specs.declared.Request.{Request}
 use Rattle.acceptor.specs.declared.Writes.{Writes}
 use Rattle.acceptor.specs.declared.Step.{Step}
 use Rattle.acceptor.specs.Steps.{isSnp, isCca, releases, noWrites, setShared, setPrivate, setPermissions, ask, end, halt, shareRun, defaultRun, returnRun, afterFlush, afterWait, afterModify, afterAccept, afterDefault0, cutAt, failedModify, doneOf, failedOf}
-use Rattle.protector_state.specs.State.{stateLen, phaseIn, requestOf, settingsOf}
-use Rattle.protector.specs.World.{World, fits, statusOf, takes}
-use Rattle.protector.specs.Calls.{carriedOut, answerRefusal, answerDone, answerFailed}
+use Rattle.changes.specs.declared.Stage.{Stage}
+use Rattle.changes.specs.declared.Stage.the-variants as stage
+use Rattle.changes.specs.declared.Entry.{Entry}
+use Rattle.changes.specs.declared.Entry.the-variants.{Keep, Add, Remove}
+use Rattle.changes.specs.declared.Change.{Change}
+use Rattle.changes.specs.declared.ChangeStep.{ChangeStep}
+use Rattle.changes.specs.Changes as changes
+use Rattle.protector_state.specs.State.{stateLen, firstPhases, phaseOf, phaseIn, requestOf, settingsOf, entriesIn}
+use Rattle.change_state.specs.State.{stageNumber, stageOf, stageIn, isChanging, changeIn, withChange}
+use Rattle.protector.specs.World.{World, overlaysOf, fits, statusOf, takes, takesAt}
+use Rattle.protector.specs.Calls.{carriedOut, carriedChange, answerRefusal, pieceAfter, nextIn, afterDone, afterFailed, visibilityDone, visibilityFailed, changeDone, changeFailed, answerDone, answerFailed}
 use Rattle.visibility_claims.specs.Whole.{Given, Succeeds, Fails}
 use Rattle.visibility_claims.specs.Calls.{answerOf, takenBy}
-use Rattle.visibility_claims.specs.Ends.{left, leftIn, underWay, afterAll, takenOf, unrefused}
-use Rattle.visibility_claims.proofs.Calls.{few-done, few-failed, phase-read, request-read}
+use Rattle.visibility_claims.specs.Ends.{left, leftAt, pageEnd, leftIn, underWay, afterAll, takenOf, unrefused}
+use Rattle.visibility_claims.proofs.Calls.{few-done, few-failed, no-change, phase-read, request-read}
 use Rattle.visibility_claims.proofs.Refusals.{answer-takes}
 
 -- what is left after a step is at most k
@@ -159,34 +172,274 @@ takes-some at.Zero b e = refl
 takes-some at.ProtectDefault0 b e = refl
 takes-some at.ProtectDefault1 b e = refl
 
+-- ---- another change: what is kept is read again
+
+stage-read : (g : Stage) → (leb 13 (stageNumber g) && ltb (stageNumber g) 20) ≡ true → stageOf (stageNumber g) ≡ g
+unfolding stageOf
+stage-read stage.Idle e = false≢true e
+stage-read stage.Halted e = false≢true e
+stage-read stage.ProtectPages e = refl
+stage-read stage.ProtectRam e = refl
+stage-read stage.ProtectNew e = refl
+stage-read stage.ProtectOld e = refl
+stage-read stage.Wait e = refl
+stage-read stage.Flush e = refl
+stage-read stage.TlbWait e = refl
+
+-- one that isn't under way leaves nothing to come
+stage-over : (g : Stage) (n a end n′ a′ : ℕ) → (leb 13 (stageNumber g) && ltb (stageNumber g) 20) ≡ false → left (phaseOf (stageNumber g)) n′ a′ ≡ leftAt g n a end
+unfolding phaseOf firstPhases
+stage-over stage.Idle n a end n′ a′ e = refl
+stage-over stage.Halted n a end n′ a′ e = refl
+stage-over stage.ProtectPages n a end n′ a′ e = false≢true (sym e)
+stage-over stage.ProtectRam n a end n′ a′ e = false≢true (sym e)
+stage-over stage.ProtectNew n a end n′ a′ e = false≢true (sym e)
+stage-over stage.ProtectOld n a end n′ a′ e = false≢true (sym e)
+stage-over stage.Wait n a end n′ a′ e = false≢true (sym e)
+stage-over stage.Flush n a end n′ a′ e = false≢true (sym e)
+stage-over stage.TlbWait n a end n′ a′ e = false≢true (sym e)
+
+-- its number names a stage
+stage-named : (n : ℕ) → 13 ≤ n → n < 20 → stageNumber (stageOf n) ≡ n
+unfolding stageOf
+stage-named n h k =
+    at-or 13 h refl λ h. at-or 14 h refl λ h. at-or 15 h refl λ h. at-or 16 h refl λ h. at-or 17 h refl λ h. at-or 18 h refl λ h. at-or 19 h refl λ h. absurd (omega arith)
+  where
+    Named : ℕ → Type 0
+    Named m = stageNumber (stageOf m) ≡ m
+
+    at-or : (m : ℕ) → m ≤ n → Named m → (suc m ≤ n → Named n) → Named n
+    at-or m h here next = elim (decLt m n) [ yes d ↦ next d | no d ↦ let e : m ≡ n = omega (arith, d) in subst Named e here ]
+
+in-range : (n : ℕ) → (leb 13 n && ltb n 20) ≡ true → (13 ≤ n) × (n < 20)
+in-range n e = let p = both-true (leb 13 n) (ltb n 20) e in (leb-true 13 n (p .0), ltb-true n 20 (p .1))
+
+stage-some : (g : Stage) (n a end : ℕ) → 13 ≤ stageNumber g → (0 < leftAt g n a end) × (takesAt g false ≡ true)
+stage-some stage.Idle n a end h = absurd (omega arith)
+stage-some stage.Halted n a end h = absurd (omega arith)
+stage-some stage.ProtectPages n a end h = (omega arith, refl)
+stage-some stage.ProtectRam n a end h = (omega arith, refl)
+stage-some stage.ProtectNew n a end h = (omega arith, refl)
+stage-some stage.ProtectOld n a end h = (omega arith, refl)
+stage-some stage.Wait n a end h = (omega arith, refl)
+stage-some stage.Flush n a end h = (omega arith, refl)
+stage-some stage.TlbWait n a end h = (omega arith, refl)
+
+changing-some : (s : List ℕ) (n a end : ℕ) → isChanging s ≡ true → (0 < leftAt (stageIn s) n a end) × (takesAt (stageIn s) false ≡ true)
+changing-some s n a end e =
+    let r = in-range (getD s 0 0) e in
+    stage-some (stageIn s) n a end (omega (arith, r .0, stage-named (getD s 0 0) (r .0) (r .1)))
+
+-- ---- each of its steps lowers the number
+
+-- what is left after a step is at most k
+record Least (end k : ℕ) (x : ChangeStep) : Type 0 where
+  few : x .change .n ≤ 512
+  within : leftAt (x .stage) (x .change .n) (x .change .at) end ≤ k
+
+choose : (end k : ℕ) (x y : ChangeStep) (b : Bool) → (b ≡ true → Least end k x) → (b ≡ false → Least end k y) → Least end k (cond b x y)
+choose end k x y true f g = f refl
+choose end k x y false f g = g refl
+
+span-within : (P : ℕ → Bool) (k a : ℕ) → span P a k ≤ k
+unfolding span
+span-within P zero a = omega arith
+span-within P (suc k) a = go (P a) (span-within P k (suc a))
+  where
+    go : (b : Bool) → span P (suc a) k ≤ k → cond b (suc (span P (suc a) k)) 0 ≤ suc k
+    go true h = omega arith
+    go false h = omega arith
+
+-- a piece lies from page a on, and ends no later than RAM
+record Ahead (a end : ℕ) (r : PageRun) : Type 0 where
+  from : a ≤ r .first
+  to : r .first + r .count ≤ end
+
+in-entry : (P : ℕ → Bool) (m a end : ℕ) → a ≤ m → (pieceOf P m end .count ≡ 0 → ⊥) → Ahead a end (pieceOf P m end)
+in-entry P m a end h d =
+    let k : ℕ = end - m in
+    let s : ℕ = span (non P) m k in
+    record {
+      from = omega (arith, h);
+      to = elim (decLt 0 (span P (m + s) (k - s))) [
+        | yes x ↦ omega (arith, x, span-within (non P) k m, span-within P (k - s) (m + s))
+        | no x ↦ absurd (d (omega (arith, x)))
+      ];
+    }
+
+piece-ahead : (P : ℕ → Bool) (es : List MemoryRangeWithNode) (a : ℕ) → (nextOf P es a .count ≡ 0 → ⊥) → Ahead a (pageEnd es) (nextOf P es a)
+unfolding nextOf pageEnd
+piece-ahead P [] a h = absurd (h refl)
+piece-ahead P (e ∷ es) a h = go (eqb (pieceIn P e a .count) 0) refl h (piece-ahead P es a)
+  where
+    go : (b : Bool) → eqb (pieceIn P e a .count) 0 ≡ b → (cond b (nextOf P es a) (pieceIn P e a) .count ≡ 0 → ⊥) → ((nextOf P es a .count ≡ 0 → ⊥) → Ahead a (pageEnd es) (nextOf P es a))
+        → Ahead a (max (pageUp (e .end)) (pageEnd es)) (cond b (nextOf P es a) (pieceIn P e a))
+    go true d h more = let x = more h in record { from = x .from; to = omega (arith, x .to) }
+    go false d h more =
+        let x = in-entry P (max (pageUp (e .start)) a) a (pageUp (e .end)) (omega arith) h in
+        record { from = x .from; to = omega (arith, x .to) }
+
+module _ (tracked : Bool) (q : Change) (t : List ℕ) (few : q .n ≤ 512) where
+  waited : (end k : ℕ) (e : Entry) → 3 ≤ k → Least end k (changes.wait q e)
+  unfolding changes.wait changes.ask
+  waited end k e h = record { few = few; within = h }
+
+  -- from the run after the one at place a on
+  pages-lower : (end a b : ℕ) → b ≡ runEnd t (q .n) a → Least end (q .n - suc a + 3) (changes.protectPages tracked q t b)
+  unfolding changes.protectPages changes.protect
+  pages-lower end a b e =
+      choose end (q .n - suc a + 3) _ _ (ltb b (q .n))
+      (λ h.
+      let l : b < q .n = ltb-true b (q .n) h in
+      record { few = few; within = ⊎-elim (λ k. omega (arith, l, e, end-after t (q .n) a k)) (λ k. absurd (omega (arith, l, e, end-none t (q .n) a k))) (lt-or-le a (q .n)) })
+      (λ h. waited end (q .n - suc a + 3) Keep (omega arith))
+
+  ram-lower : (end a : ℕ) (next : PageRun) → ((next .count ≡ 0 → ⊥) → Ahead a end next) → Least end (end - a + 3) (changes.protectRam tracked q next)
+  unfolding changes.protectRam changes.protect
+  ram-lower end a next f =
+      choose end (end - a + 3) _ _ (eqb (next .count) 0) (λ h. waited end (end - a + 3) Keep (omega arith))
+      (λ h.
+      let d : next .count ≡ 0 → ⊥ = eqb-false (next .count) 0 h in
+      let x = f d in
+      record { few = few; within = elim (decLt 0 (next .count)) [ yes k ↦ omega (arith, k, x .from, x .to) | no k ↦ absurd (d (omega (arith, k))) ] })
+
+  change-lowers : (g : Stage) (end : ℕ) (next : PageRun) → takesAt g false ≡ true → ((next .count ≡ 0 → ⊥) → Ahead (q .at) end next)
+      → Least end (leftAt g (q .n) (q .at) end - 1) (changes.doneOf tracked g q t next)
+  unfolding changes.doneOf changes.ask changes.finish
+  change-lowers stage.Idle end next e f = false≢true e
+  change-lowers stage.Halted end next e f = false≢true e
+  change-lowers stage.ProtectPages end next e f = let x = pages-lower end (q .at) (runEnd t (q .n) (q .at)) refl in record { few = x .few; within = omega (arith, x .within) }
+  change-lowers stage.ProtectRam end next e f = let x = ram-lower end (q .at) next f in record { few = x .few; within = omega (arith, x .within) }
+  change-lowers stage.ProtectNew end next e f = waited end 3 Add (omega arith)
+  change-lowers stage.ProtectOld end next e f = waited end 3 Remove (omega arith)
+  change-lowers stage.Wait end next e f = record { few = few; within = omega arith }
+  change-lowers stage.Flush end next e f = record { few = few; within = omega arith }
+  change-lowers stage.TlbWait end next e f = record { few = omega arith; within = omega arith }
+
+  unchange-lowers : (g : Stage) (end : ℕ) → takesAt g true ≡ true → Least end (leftAt g (q .n) (q .at) end - 1) (changes.failedOf g q)
+  unfolding changes.failedOf changes.halt changes.finish
+  unchange-lowers stage.Idle end e = false≢true e
+  unchange-lowers stage.Halted end e = false≢true e
+  unchange-lowers stage.ProtectPages end e = record { few = few; within = omega arith }
+  unchange-lowers stage.ProtectRam end e = record { few = few; within = omega arith }
+  unchange-lowers stage.ProtectNew end e = record { few = omega arith; within = omega arith }
+  unchange-lowers stage.ProtectOld end e = record { few = omega arith; within = omega arith }
+  unchange-lowers stage.Wait end e = false≢true e
+  unchange-lowers stage.Flush end e = false≢true e
+  unchange-lowers stage.TlbWait end e = false≢true e
+
+takes-left : (g : Stage) (b : Bool) (n a end : ℕ) → takesAt g b ≡ true → 0 < leftAt g n a end
+takes-left stage.Idle b n a end e = false≢true e
+takes-left stage.Halted b n a end e = false≢true e
+takes-left stage.ProtectPages b n a end e = omega arith
+takes-left stage.ProtectRam b n a end e = omega arith
+takes-left stage.ProtectNew b n a end e = omega arith
+takes-left stage.ProtectOld b n a end e = omega arith
+takes-left stage.Wait b n a end e = omega arith
+takes-left stage.Flush b n a end e = omega arith
+takes-left stage.TlbWait b n a end e = omega arith
+
 -- ---- the same of what is lent
 
 -- a step carried out leaves what the step leaves
 carried-left : (w : World) (t : List ℕ) (x : Step) → x .request .n ≤ 512 → leftIn (carriedOut w t x .world) ≡ left (x .phase) (x .request .n) (x .request .at)
 unfolding carriedOut
 carried-left w t x h =
-    ap₂ (λ (p : Phase) (q : Request). left p (q .n) (q .at)) (phase-read (x .phase)) (request-read (x .phase) (x .request) (drop 10 (w .state)) h)
+    rw (no-change (x .phase))
+    (ap₂ (λ (p : Phase) (q : Request). left p (q .n) (q .at)) (phase-read (x .phase)) (request-read (x .phase) (x .request) (drop 10 (w .state)) h))
+
+entries-kept : (g : Stage) (q : Change) (s : List ℕ) → entriesIn (withChange g q s) ≡ entriesIn s
+entries-kept g q s = rw (getD-drop 14 s 17 0, drop-drop 18 14 s)
+
+changed-left : (w : World) (t : List ℕ) (x : ChangeStep) → x .change .n ≤ 512
+    → leftIn (carriedChange w t x .world) ≡ leftAt (x .stage) (x .change .n) (x .change .at) (pageEnd (entriesIn (w .state)))
+unfolding carriedChange
+changed-left w t x h = go (leb 13 (stageNumber g) && ltb (stageNumber g) 20) refl
+  where
+    g : Stage
+    g = x .stage
+
+    q : Change
+    q = x .change
+
+    go : (b : Bool) → (leb 13 (stageNumber g) && ltb (stageNumber g) 20) ≡ b
+        → cond b (leftAt (stageOf (stageNumber g)) (min (q .n) 512) (q .at) (pageEnd (entriesIn (withChange g q (w .state))))) (left (phaseOf (stageNumber g)) (min (q .n) 512) (q .at))
+        ≡ leftAt g (q .n) (q .at) (pageEnd (entriesIn (w .state)))
+    go true e = let m : min (q .n) 512 ≡ q .n = omega (arith, h) in rw (stage-read g e, m, entries-kept g q (w .state))
+    go false e = stage-over g (q .n) (q .at) (pageEnd (entriesIn (w .state))) (min (q .n) 512) (q .at) e
 
 lower : (l : ℕ) (w′ : World) (x : Step) → leftIn w′ ≡ left (x .phase) (x .request .n) (x .request .at) → Within (l - 1) x → 0 < l → leftIn w′ < l
 lower l w′ x e h o = omega (arith, e, h .within)
 
+lower-change : (w : World) (l : ℕ) (x : ChangeStep) → Least (pageEnd (entriesIn (w .state))) (l - 1) x → 0 < l → leftIn (carriedChange w (w .pages) x .world) < l
+lower-change w l x h o = omega (arith, changed-left w (w .pages) x (h .few), h .within)
+
 -- THE CLAIM: a taken answer, done or failed, lowers the number
 pub taken-lowers : (w : World) (g : Given) → takenBy g w ≡ true → leftIn (answerOf g w .world) < leftIn w
-unfolding answerDone answerFailed
-taken-lowers w Succeeds e =
-    let s : List ℕ = w .state in
-    let c : takes (phaseIn s) false ≡ true = answer-takes s (fits w) false (eqb-true _ _ e) in
-    let x : Step = doneOf (settingsOf s) (phaseIn s) (requestOf s) (w .pages) in
-    rw e
-    (lower (leftIn w) (carriedOut w (w .pages) x .world) x (carried-left w (w .pages) x (few-done (settingsOf s) (w .pages) (phaseIn s) (requestOf s) c (omega arith)))
-    (done-left (settingsOf s) (w .pages) (phaseIn s) (requestOf s) c) (some-left (phaseIn s) (requestOf s .n) (requestOf s .at) (takes-some (phaseIn s) false c)))
-taken-lowers w (Fails code k) e =
-    let s : List ℕ = w .state in
-    let c : takes (phaseIn s) true ≡ true = answer-takes s (fits w) true (eqb-true _ _ e) in
-    let x : Step = failedOf (settingsOf s) (phaseIn s) (requestOf s) (w .pages) code k in
-    rw e
-    (lower (leftIn w) (carriedOut w (w .pages) x .world) x (carried-left w (w .pages) x (few-failed (settingsOf s) (w .pages) (phaseIn s) (requestOf s) code k c (omega arith)))
-    (failed-left (settingsOf s) (w .pages) (phaseIn s) (requestOf s) code k c) (some-left (phaseIn s) (requestOf s .n) (requestOf s .at) (takes-some (phaseIn s) true c)))
+unfolding answerDone answerFailed afterDone afterFailed
+taken-lowers w Succeeds e = rw e (go (isChanging s) refl (answer-takes s (fits w) false (eqb-true _ _ e)))
+  where
+    s : List ℕ
+    s = w .state
+
+    q : Change
+    q = changeIn s
+
+    x : Step
+    x = doneOf (settingsOf s) (phaseIn s) (requestOf s) (w .pages)
+
+    go : (b : Bool) → isChanging s ≡ b → cond b (takesAt (stageIn s) false) (takes (phaseIn s) false) ≡ true
+        → leftIn (cond b (changeDone w) (visibilityDone w) .world) < cond b (leftAt (stageIn s) (q .n) (q .at) (pageEnd (entriesIn s))) (left (phaseIn s) (requestOf s .n) (requestOf s .at))
+    go true d c =
+        lower-change w (leftAt (stageIn s) (q .n) (q .at) (pageEnd (entriesIn s))) _
+        (change-lowers (settingsOf s .tracked) q (w .pages) (omega arith) (stageIn s) (pageEnd (entriesIn s)) (nextIn (w .maps .private) s (w .tables)) c (ahead (stageIn s)))
+        (takes-left (stageIn s) false (q .n) (q .at) (pageEnd (entriesIn s)) c)
+      where
+        ahead : (g : Stage) → (pieceAfter g (w .maps .private) (overlaysOf (w .tables) (q .vtl)) (entriesIn s) (q .at) .count ≡ 0 → ⊥)
+            → Ahead (q .at) (pageEnd (entriesIn s)) (pieceAfter g (w .maps .private) (overlaysOf (w .tables) (q .vtl)) (entriesIn s) (q .at))
+        ahead stage.Idle h = absurd (h refl)
+        ahead stage.Halted h = absurd (h refl)
+        ahead stage.ProtectPages h = absurd (h refl)
+        ahead stage.ProtectRam h = piece-ahead (wanted (w .maps .private) (overlaysOf (w .tables) (q .vtl))) (entriesIn s) (q .at) h
+        ahead stage.ProtectNew h = absurd (h refl)
+        ahead stage.ProtectOld h = absurd (h refl)
+        ahead stage.Wait h = absurd (h refl)
+        ahead stage.Flush h = absurd (h refl)
+        ahead stage.TlbWait h = absurd (h refl)
+    go false d c =
+        lower (left (phaseIn s) (requestOf s .n) (requestOf s .at)) (carriedOut w (w .pages) x .world) x (carried-left w (w .pages) x (few-done (settingsOf s) (w .pages) (phaseIn s) (requestOf s) c (omega arith)))
+        (done-left (settingsOf s) (w .pages) (phaseIn s) (requestOf s) c) (some-left (phaseIn s) (requestOf s .n) (requestOf s .at) (takes-some (phaseIn s) false c))
+taken-lowers w (Fails code k) e = rw e (go (isChanging s) refl (answer-takes s (fits w) true (eqb-true _ _ e)))
+  where
+    s : List ℕ
+    s = w .state
+
+    q : Change
+    q = changeIn s
+
+    x : Step
+    x = failedOf (settingsOf s) (phaseIn s) (requestOf s) (w .pages) code k
+
+    go : (b : Bool) → isChanging s ≡ b → cond b (takesAt (stageIn s) true) (takes (phaseIn s) true) ≡ true
+        → leftIn (cond b (changeFailed w) (visibilityFailed w code k) .world) < cond b (leftAt (stageIn s) (q .n) (q .at) (pageEnd (entriesIn s))) (left (phaseIn s) (requestOf s .n) (requestOf s .at))
+    go true d c =
+        lower-change w (leftAt (stageIn s) (q .n) (q .at) (pageEnd (entriesIn s))) _
+        (unchange-lowers (settingsOf s .tracked) q (w .pages) (omega arith) (stageIn s) (pageEnd (entriesIn s)) c) (takes-left (stageIn s) true (q .n) (q .at) (pageEnd (entriesIn s)) c)
+    go false d c =
+        lower (left (phaseIn s) (requestOf s .n) (requestOf s .at)) (carriedOut w (w .pages) x .world) x (carried-left w (w .pages) x (few-failed (settingsOf s) (w .pages) (phaseIn s) (requestOf s) code k c (omega arith)))
+        (failed-left (settingsOf s) (w .pages) (phaseIn s) (requestOf s) code k c) (some-left (phaseIn s) (requestOf s .n) (requestOf s .at) (takes-some (phaseIn s) true c))
+
+-- an operation outstanding is one to come, and where none is nothing is to come
+some-in : (w : World) → underWay w ≡ true → 0 < leftIn w
+some-in w e = go (isChanging (w .state)) refl e
+  where
+    s : List ℕ
+    s = w .state
+
+    go : (b : Bool) → isChanging s ≡ b → eqb (cond b 19 (statusOf (phaseIn s))) 19 ≡ true
+        → 0 < cond b (leftAt (stageIn s) (changeIn s .n) (changeIn s .at) (pageEnd (entriesIn s))) (left (phaseIn s) (requestOf s .n) (requestOf s .at))
+    go true d c = changing-some s (changeIn s .n) (changeIn s .at) (pageEnd (entriesIn s)) d .0
+    go false d c = some-left (phaseIn s) (requestOf s .n) (requestOf s .at) c
 
 -- an answer that isn't taken changes nothing
 pub untaken-keeps : (w : World) (g : Given) → takenBy g w ≡ false → answerOf g w .world ≡ w
@@ -210,9 +463,7 @@ ends w gs h = go (underWay (afterAll w gs)) refl
   where
     go : (b : Bool) → underWay (afterAll w gs) ≡ b → b ≡ false
     go false e = refl
-    go true e =
-        let v : List ℕ = afterAll w gs .state in
-        absurd (omega (arith, all-lower w gs, some-left (phaseIn v) (requestOf v .n) (requestOf v .at) e))
+    go true e = absurd (omega (arith, all-lower w gs, some-in (afterAll w gs) e))
 
 -- where nothing is under way, nothing is to come
 none-left : (p : Phase) (n a : ℕ) → eqb (statusOf p) 19 ≡ false → left p n a ≡ 0
@@ -230,6 +481,17 @@ none-left at.Zero n a e = false≢true (sym e)
 none-left at.ProtectDefault0 n a e = false≢true (sym e)
 none-left at.ProtectDefault1 n a e = false≢true (sym e)
 
+none-in : (w : World) → underWay w ≡ false → leftIn w ≡ 0
+none-in w e = go (isChanging (w .state)) e
+  where
+    s : List ℕ
+    s = w .state
+
+    go : (b : Bool) → eqb (cond b 19 (statusOf (phaseIn s))) 19 ≡ false
+        → cond b (leftAt (stageIn s) (changeIn s .n) (changeIn s .at) (pageEnd (entriesIn s))) (left (phaseIn s) (requestOf s .n) (requestOf s .at)) ≡ 0
+    go true c = false≢true (sym c)
+    go false c = none-left (phaseIn s) (requestOf s .n) (requestOf s .at) c
+
 -- THE CLAIM: from any state, as many answers as the number says, none of them refused while the request is under way, end it
 pub every-request-ends : (w : World) (gs : List Given) → unrefused w gs → leftIn w ≤ length gs → underWay (afterAll w gs) ≡ false
 unfolding afterAll unrefused
@@ -237,7 +499,7 @@ every-request-ends w [] u h = go (underWay w) refl
   where
     go : (b : Bool) → underWay w ≡ b → b ≡ false
     go false e = refl
-    go true e = absurd (omega (arith, h, some-left (phaseIn (w .state)) (requestOf (w .state) .n) (requestOf (w .state) .at) e))
+    go true e = absurd (omega (arith, h, some-in w e))
 every-request-ends w (g ∷ gs) u h = go (takenBy g w) refl (underWay w) refl (every-request-ends (answerOf g w .world) gs (u .1))
   where
     go : (b : Bool) → takenBy g w ≡ b → (c : Bool) → underWay w ≡ c
@@ -245,15 +507,18 @@ every-request-ends w (g ∷ gs) u h = go (takenBy g w) refl (underWay w) refl (e
     go true e c d more = more (omega (arith, h, taken-lowers w g e))
     go false e true d more = false≢true (sym e ∙ u .0 d)
     go false e false d more =
-        let z : leftIn w ≡ 0 = none-left (phaseIn (w .state)) (requestOf (w .state) .n) (requestOf (w .state) .at) d in
+        let z : leftIn w ≡ 0 = none-in w d in
         let k : leftIn (answerOf g w .world) ≡ leftIn w = ap leftIn (untaken-keeps w g e) in
         more (omega (arith, z, k))
 
 -- done is refused by no request that is under way, where what is lent has its lengths
 pub done-taken : (w : World) → length (w .state) ≡ stateLen → fits w ≡ true → underWay w ≡ true → takenBy Succeeds w ≡ true
 unfolding answerRefusal
-done-taken w a b c = rw (eq-eqb (length (w .state)) stateLen a, b) (go (phaseIn (w .state)) c)
+done-taken w a b c = rw (eq-eqb (length (w .state)) stateLen a, b) (either (isChanging (w .state)) refl c)
   where
+    s : List ℕ
+    s = w .state
+
     go : (p : Phase) → eqb (statusOf p) 19 ≡ true → eqb (unless (not (eqb (statusOf p) 20)) 20 (unless (takes p false) 21 0)) 0 ≡ true
     go at.Idle e = e
     go at.Halted e = e
@@ -268,3 +533,8 @@ done-taken w a b c = rw (eq-eqb (length (w .state)) stateLen a, b) (go (phaseIn 
     go at.Zero e = refl
     go at.ProtectDefault0 e = refl
     go at.ProtectDefault1 e = refl
+
+    either : (b : Bool) → isChanging s ≡ b → eqb (cond b 19 (statusOf (phaseIn s))) 19 ≡ true
+        → eqb (unless (not (eqb (cond b 19 (statusOf (phaseIn s))) 20)) 20 (unless (cond b (takesAt (stageIn s) false) (takes (phaseIn s) false)) 21 0)) 0 ≡ true
+    either true d e = rw (changing-some s 0 0 0 d .1)
+    either false d e = go (phaseIn s) e

@@ -14,8 +14,8 @@ use Rattle.mapping.specs.Maps.{maps}
 use Rattle.pages.specs.Pages.{numberOf, numberAt, numbersFrom, pagesOf, isLong, among, repeats, isRagged}
 use Rattle.overlays.specs.Overlays.{placeFrom}
 use Rattle.locks.specs.Locks.{listsFrom, held}
-use Rattle.protector_state.specs.State.{firstPhases, phaseOf, phaseIn, entriesIn, builtState}
-use Rattle.protector.specs.World.{World, world, overlaysOf, locksOf, fits, statusOf}
+use Rattle.protector_state.specs.State.{firstPhases, phaseOf, entriesIn, builtState}
+use Rattle.protector.specs.World.{World, world, overlaysOf, locksOf, fits, statusIn}
 use Rattle.protector.specs.Calls.{pageRefusal, firstRefusal, visibilityRefusal}
 
 -- n pages from p on, and the list of their bytes, below page 65,536
@@ -108,7 +108,7 @@ lent-fits : fits lent ≡ true
 unfolding entriesOf
 lent-fits = refl
 
-lent-idle : statusOf (phaseIn (lent .state)) ≡ 0
+lent-idle : statusIn (lent .state) ≡ 0
 unfolding phaseOf firstPhases
 lent-idle = refl
 

@@ -18,7 +18,7 @@ use Rattle.mapping.specs.Maps.{Maps}
 use Rattle.pages.specs.Pages.{among, pagesOf}
 use Rattle.pages.specs.Runs.{runsOf}
 use Rattle.acceptor.specs.declared.Operation.{Operation}
-use Rattle.acceptor.specs.declared.Operation.the-variants.{Wait, FlushAll, Protect, Invalidate, Release, Modify, Accept, Zero}
+use Rattle.acceptor.specs.declared.Operation.the-variants.{Wait, FlushAll, Protect, Invalidate, Release, Modify, Accept, Zero, Flush, TlbWait}
 use Rattle.acceptor.specs.declared.Settings.{Settings}
 use Rattle.protector_state.specs.State.{settingsOf}
 use Rattle.protector.specs.World.{World, fits}
@@ -68,6 +68,8 @@ protect-same tracked (Release r) m = same m
 protect-same tracked (Modify share n) m = same m
 protect-same tracked (Accept r) m = same m
 protect-same tracked (Zero r) m = same m
+protect-same tracked (Flush v) m = same m
+protect-same tracked (TlbWait v) m = same m
 
 -- ---- a part of a call that starts at m: its marks are only set, whatever answers come, and more answers only set more
 
@@ -219,6 +221,8 @@ protect-shared tracked (Release r) m = refl
 protect-shared tracked (Modify share n) m = refl
 protect-shared tracked (Accept r) m = refl
 protect-shared tracked (Zero r) m = refl
+protect-shared tracked (Flush v) m = refl
+protect-shared tracked (TlbWait v) m = refl
 
 shared-returned : (s : Settings) (ps : List ℕ) (m : Maps) (gs : List Given) (end : Stand) → returned s ps m gs end .maps .shared ≡ m .shared
 unfolding returned

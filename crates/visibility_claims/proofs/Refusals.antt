@@ -12,20 +12,28 @@ use Rattle.laws.specs.Refusal.{passed}
 use Rattle.permissions.specs.HvError.{codeOf}
 use Rattle.permissions.specs.Flags.{vtlOf, boolOf}
 use Rattle.permissions.specs.declared.IsolationType.{IsolationType}
+use Rattle.pages.specs.declared.PageRun.{PageRun}
 use Rattle.pages.specs.Pages.{pagesOf}
+use Rattle.request.specs.Request.{runEnd}
 use Rattle.acceptor.specs.declared.Phase.{Phase}
 use Rattle.acceptor.specs.declared.Operation.{Operation}
-use Rattle.acceptor.specs.declared.Operation.the-variants.{Wait, FlushAll, Protect, Invalidate, Release, Modify, Accept, Zero}
+use Rattle.acceptor.specs.declared.Operation.the-variants.{Wait, FlushAll, Protect, Invalidate, Release, Modify, Accept, Zero, Flush, TlbWait}
 use Rattle.acceptor.specs.declared.Answer.the-variants.{Done, AccessDenied, Failed}
 use Rattle.acceptor.specs.declared.Settings.{Settings}
 use Rattle.acceptor.specs.declared.Request.{Request}
 use Rattle.acceptor.specs.declared.Writes.{Writes}
 use Rattle.acceptor.specs.declared.Step.{Step}
 use Rattle.acceptor.specs.Steps.{ask, end, halt, doneOf, failedOf, startOf}
+use Rattle.changes.specs.declared.Stage.{Stage}
+use Rattle.changes.specs.declared.Stage.the-variants as stage
+use Rattle.changes.specs.declared.Change.{Change}
+use Rattle.changes.specs.declared.ChangeStep.{ChangeStep}
+use Rattle.changes.specs.Changes as changes
 use Rattle.protector_state.specs.State.{stateLen, phaseIn, requestOf, settingsOf}
 use Rattle.protector_state.specs.Reply.{finished, askedOf, flatOf}
-use Rattle.protector.specs.World.{World, Outcome, fits, statusOf, takes}
-use Rattle.protector.specs.Calls.{decided, carriedOut, buildTaken, buildOf, visibilityTaken, visibilityOf, answerRefusal, answerDone, answerFailed}
+use Rattle.change_state.specs.State.{stageIn, isChanging, changeIn}
+use Rattle.protector.specs.World.{World, Outcome, fits, statusIn, takes, takesAt, takesIn}
+use Rattle.protector.specs.Calls.{decided, carriedOut, carriedChange, buildTaken, buildOf, visibilityTaken, visibilityOf, answerRefusal, nextIn, afterDone, afterFailed, visibilityDone, visibilityFailed, changeDone, changeFailed, answerDone, answerFailed}
 use Rattle.queries.specs.Queries.{queryRefusal, ramBefore, visibilities, filledBy, query, queryOf}
 use Rattle.visibility_claims.specs.Whole.{Succeeds, Fails}
 use Rattle.visibility_claims.specs.Refusals.{Call, Build, ChangeVisibility, AnswerWith, QueryVisibility, Lent, gave, give, refusal, mayChange}
@@ -68,6 +76,8 @@ plain-asked i (Release r) = refl
 plain-asked i (Modify share n) = refl
 plain-asked i (Accept r) = refl
 plain-asked i (Zero r) = refl
+plain-asked i (Flush v) = refl
+plain-asked i (TlbWait v) = refl
 
 module _ (i : IsolationType) (s : Settings) (t : List ℕ) where
   plain-ask : (p : Phase) (q : Request) (a : ℕ) (w : Writes) → Unit {0} → Plain i (ask s p q t a w)
@@ -93,31 +103,76 @@ module _ (i : IsolationType) (s : Settings) (t : List ℕ) where
   plain-failed : (p : Phase) (q : Request) (code k : ℕ) → takes p true ≡ true → mayChange (flatOf i (failedOf s p q t code k .answer) .number) ≡ true
   plain-failed p q code k e = failed-has s t (λ q. Unit {0}) (Plain i) plain-ask plain-end plain-halt (λ q k code j l u. u) p q code k e tt .plain
 
-pub answer-takes : (s : List ℕ) (f b : Bool) → answerRefusal s f b ≡ 0 → takes (phaseIn s) b ≡ true
+pub answer-takes : (s : List ℕ) (f b : Bool) → answerRefusal s f b ≡ 0 → takesIn s b ≡ true
 unfolding answerRefusal
 answer-takes s f b z =
     let a = passed (eqb (length s) stateLen) 3 _ z in
-    let d = passed (not (eqb (statusOf (phaseIn s)) 20)) 19 _ (a .1) in
+    let d = passed (not (eqb (statusIn s) 20)) 19 _ (a .1) in
     let e = passed f 3 _ (d .1) in
-    passed (takes (phaseIn s) b) 20 _ (e .1) .0
+    passed (takesIn s b) 20 _ (e .1) .0
+
+-- the same of a change other than of visibility
+module _ (i : IsolationType) (tracked : Bool) (q : Change) where
+  plain-chosen : (b : Bool) (x y : ChangeStep) → mayChange (flatOf i (x .answer) .number) ≡ true → mayChange (flatOf i (y .answer) .number) ≡ true
+      → mayChange (flatOf i (cond b x y .answer) .number) ≡ true
+  plain-chosen true x y e f = e
+  plain-chosen false x y e f = f
+
+  plain-change : (g : Stage) (t : List ℕ) (next : PageRun) → takesAt g false ≡ true → mayChange (flatOf i (changes.doneOf tracked g q t next .answer) .number) ≡ true
+  unfolding changes.doneOf changes.protectPages changes.protectRam changes.protect changes.wait changes.ask changes.finish flatOf askedOf
+  plain-change stage.Idle t next e = false≢true e
+  plain-change stage.Halted t next e = false≢true e
+  plain-change stage.ProtectPages t next e = plain-chosen (ltb (runEnd t (q .n) (q .at)) (q .n)) _ _ refl refl
+  plain-change stage.ProtectRam t next e = plain-chosen (eqb (next .count) 0) _ _ refl refl
+  plain-change stage.ProtectNew t next e = refl
+  plain-change stage.ProtectOld t next e = refl
+  plain-change stage.Wait t next e = refl
+  plain-change stage.Flush t next e = refl
+  plain-change stage.TlbWait t next e = refl
+
+  plain-unchange : (g : Stage) → takesAt g true ≡ true → mayChange (flatOf i (changes.failedOf g q .answer) .number) ≡ true
+  unfolding changes.failedOf changes.halt changes.finish flatOf
+  plain-unchange stage.Idle e = false≢true e
+  plain-unchange stage.Halted e = false≢true e
+  plain-unchange stage.ProtectPages e = refl
+  plain-unchange stage.ProtectRam e = refl
+  plain-unchange stage.ProtectNew e = refl
+  plain-unchange stage.ProtectOld e = refl
+  plain-unchange stage.Wait e = false≢true e
+  plain-unchange stage.Flush e = false≢true e
+  plain-unchange stage.TlbWait e = false≢true e
+
+  -- an answer that is taken goes to the change that is under way
+  plain-either : (c : Bool) (x y : Outcome) (a b : Bool) → (a ≡ true → mayChange (x .reply .number) ≡ true) → (b ≡ true → mayChange (y .reply .number) ≡ true)
+      → cond c a b ≡ true → mayChange (cond c x y .reply .number) ≡ true
+  plain-either true x y a b f g e = f e
+  plain-either false x y a b f g e = g e
 
 decided-taken : (w : World) (n : ℕ) (o : Outcome) → n ≡ 0 → decided w n o ≡ o
 decided-taken w n o h = rw (eq-eqb n 0 h)
 
 taken-changes : (x : Lent) (c : Call) → refusal x c ≡ 0 → mayChange (give x c .reply .number) ≡ true
-unfolding give refusal buildOf buildTaken visibilityOf visibilityTaken answerDone answerFailed carriedOut startOf flatOf askedOf queryOf
+unfolding give refusal buildOf buildTaken visibilityOf visibilityTaken answerDone answerFailed carriedOut carriedChange afterDone afterFailed startOf flatOf askedOf queryOf
 taken-changes x (Build ram isolation tracked release) h =
     ap (λ (o : Outcome). mayChange (o .reply .number)) (decided-taken (x .world) _ (buildTaken (x .world) ram isolation tracked release) h)
 taken-changes x (ChangeVisibility vtl visibility l) h =
     ap (λ (o : Outcome). mayChange (o .reply .number)) (decided-taken (x .world) _ (visibilityTaken (x .world) (vtlOf vtl) (boolOf visibility) l) h)
 taken-changes x (AnswerWith Succeeds) h =
     let s : List ℕ = x .world .state in
-    ap (λ (o : Outcome). mayChange (o .reply .number)) (decided-taken (x .world) _ (carriedOut (x .world) (x .world .pages) (doneOf (settingsOf s) (phaseIn s) (requestOf s) (x .world .pages))) h)
-    ∙ plain-done (settingsOf s .isolation) (settingsOf s) (x .world .pages) (phaseIn s) (requestOf s) (answer-takes s (fits (x .world)) false h)
+    let v : Outcome = visibilityDone (x .world) in
+    ap (λ (o : Outcome). mayChange (o .reply .number)) (decided-taken (x .world) _ (cond (isChanging s) (changeDone (x .world)) v) h)
+    ∙ plain-either (settingsOf s .isolation) (settingsOf s .tracked) (changeIn s) (isChanging s) (changeDone (x .world)) v (takesAt (stageIn s) false) (takes (phaseIn s) false)
+    (plain-change (settingsOf s .isolation) (settingsOf s .tracked) (changeIn s) (stageIn s) (x .world .pages) (nextIn (x .world .maps .private) s (x .world .tables)))
+    (plain-done (settingsOf s .isolation) (settingsOf s) (x .world .pages) (phaseIn s) (requestOf s))
+    (answer-takes s (fits (x .world)) false h)
 taken-changes x (AnswerWith (Fails code k)) h =
     let s : List ℕ = x .world .state in
-    ap (λ (o : Outcome). mayChange (o .reply .number)) (decided-taken (x .world) _ (carriedOut (x .world) (x .world .pages) (failedOf (settingsOf s) (phaseIn s) (requestOf s) (x .world .pages) code k)) h)
-    ∙ plain-failed (settingsOf s .isolation) (settingsOf s) (x .world .pages) (phaseIn s) (requestOf s) code k (answer-takes s (fits (x .world)) true h)
+    let v : Outcome = visibilityFailed (x .world) code k in
+    ap (λ (o : Outcome). mayChange (o .reply .number)) (decided-taken (x .world) _ (cond (isChanging s) (changeFailed (x .world)) v) h)
+    ∙ plain-either (settingsOf s .isolation) (settingsOf s .tracked) (changeIn s) (isChanging s) (changeFailed (x .world)) v (takesAt (stageIn s) true) (takes (phaseIn s) true)
+    (plain-unchange (settingsOf s .isolation) (settingsOf s .tracked) (changeIn s) (stageIn s))
+    (plain-failed (settingsOf s .isolation) (settingsOf s) (x .world .pages) (phaseIn s) (requestOf s) code k)
+    (answer-takes s (fits (x .world)) true h)
 taken-changes x (QueryVisibility l) h =
     go (queryRefusal (x .world .state) (length (x .world .maps .shared)) l) (eqb (queryRefusal (x .world .state) (length (x .world .maps .shared)) l) 0) refl (ltb (ramBefore (x .world .state) l) (length (pagesOf l))) h
   where

@@ -2,12 +2,17 @@
 use mathlib.Core.Path.{_≡_}
 use mathlib.Core.Bool.{Bool, true, cond}
 use mathlib.Core.List.{List, [], _∷_}
-use Prim.Native.Nat.{ℕ, suc, _+_, _-_, _*_}
+use Prim.Native.Nat.{ℕ, suc, _+_, _-_, _*_, max}
 use lib.Dec.{eqb}
 use Rattle.acceptor.specs.declared.Phase.{Phase}
 use Rattle.acceptor.specs.declared.Phase.the-variants.{Idle, Halted, Wait, FlushAll, ProtectNone0, ProtectNone1, Invalidate, Release, Modify, Accept, Zero, ProtectDefault0, ProtectDefault1}
-use Rattle.protector_state.specs.State.{phaseIn, requestOf}
-use Rattle.protector.specs.World.{World, statusOf}
+use Rattle.layout.specs.declared.MemoryRangeWithNode.{MemoryRangeWithNode}
+use Rattle.defaults.specs.Pieces.{pageUp}
+use Rattle.changes.specs.declared.Stage.{Stage}
+use Rattle.changes.specs.declared.Stage.the-variants as stage
+use Rattle.protector_state.specs.State.{phaseIn, requestOf, entriesIn}
+use Rattle.change_state.specs.State.{stageIn, isChanging, changeIn}
+use Rattle.protector.specs.World.{World, statusIn}
 use Rattle.visibility_claims.specs.Whole.{Given}
 use Rattle.visibility_claims.specs.Calls.{answerOf, takenBy}
 
@@ -27,12 +32,31 @@ left Zero n a = 2 * (n - suc a) + 2 * n + 1
 left ProtectDefault0 n a = 2 * (n - suc a) + 2
 left ProtectDefault1 n a = 2 * (n - suc a) + 1
 
+-- the same of another change: of a default change, whose next piece is sought from page a on, no more than the pages up to the last of RAM
+abbrev pub leftAt : Stage → ℕ → ℕ → ℕ → ℕ
+leftAt stage.Idle n a end = 0
+leftAt stage.Halted n a end = 0
+leftAt stage.ProtectPages n a end = n - suc a + 4
+leftAt stage.ProtectRam n a end = end - a + 4
+leftAt stage.ProtectNew n a end = 4
+leftAt stage.ProtectOld n a end = 4
+leftAt stage.Wait n a end = 3
+leftAt stage.Flush n a end = 2
+leftAt stage.TlbWait n a end = 1
+
+-- no entry has a page from here on
+unfoldable pub pageEnd : List MemoryRangeWithNode → ℕ
+pageEnd [] = 0
+pageEnd (e ∷ es) = max (pageUp (e .end)) (pageEnd es)
+
 abbrev pub leftIn : World → ℕ
-leftIn w = left (phaseIn (w .state)) (requestOf (w .state) .n) (requestOf (w .state) .at)
+leftIn w =
+    cond (isChanging (w .state)) (leftAt (stageIn (w .state)) (changeIn (w .state) .n) (changeIn (w .state) .at) (pageEnd (entriesIn (w .state))))
+    (left (phaseIn (w .state)) (requestOf (w .state) .n) (requestOf (w .state) .at))
 
 -- an operation waits for its answer (19)
 abbrev pub underWay : World → Bool
-underWay w = eqb (statusOf (phaseIn (w .state))) 19
+underWay w = eqb (statusIn (w .state)) 19
 
 -- the world once answers were given in turn, and how many of them were taken
 unfoldable pub afterAll : World → List Given → World

@@ -1,4 +1,4 @@
--- Every call so far, and the number that refuses it: document 01, "From the input" and "From the state".
+-- The build, visibility changes, answers and the visibility query, each with the number that refuses it: document 01, "From the input" and "From the state".
 use mathlib.Core.Bool.{Bool, true, false, cond, _||_}
 use mathlib.Core.List.{List}
 use Prim.Native.Nat.{ℕ}

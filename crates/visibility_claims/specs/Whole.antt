@@ -18,7 +18,7 @@ use Rattle.pages.specs.declared.PageRun.{PageRun}
 use Rattle.pages.specs.Pages.{among}
 use Rattle.pages.specs.Runs.{runsOf}
 use Rattle.acceptor.specs.declared.Operation.{Operation}
-use Rattle.acceptor.specs.declared.Operation.the-variants.{Wait, FlushAll, Protect, Invalidate, Release, Modify, Accept, Zero}
+use Rattle.acceptor.specs.declared.Operation.the-variants.{Wait, FlushAll, Protect, Invalidate, Release, Modify, Accept, Zero, Flush, TlbWait}
 use Rattle.acceptor.specs.declared.Settings.{Settings}
 
 -- an answer of the backend: done, or failed with a code and the number of pages processed
@@ -46,7 +46,7 @@ stands m x = record { asked = []; maps = m; stand = x }
 abbrev pub asking : Operation → Whole → Whole
 asking o w = record { asked = o ∷ w .asked; maps = w .maps; stand = w .stand }
 
--- "From the state" 21: Wait and a flush cannot fail
+-- "From the state" 21: Wait, TlbWait and a flush cannot fail
 abbrev pub fails : Operation → Bool
 fails Wait = false
 fails FlushAll = false
@@ -56,6 +56,8 @@ fails (Release r) = true
 fails (Modify share n) = true
 fails (Accept r) = true
 fails (Zero r) = true
+fails (Flush v) = false
+fails (TlbWait v) = false
 
 -- one operation: it waits for its answer, and goes on by it; a failure that isn't taken leaves it as it is
 unfoldable pub one : Operation → Maps → List Given → (List Given → Whole) → (ℕ → ℕ → List Given → Whole) → Whole
@@ -128,6 +130,8 @@ protecting tracked (Release r) m = m
 protecting tracked (Modify share n) m = m
 protecting tracked (Accept r) m = m
 protecting tracked (Zero r) m = m
+protecting tracked (Flush v) m = m
+protecting tracked (TlbWait v) m = m
 
 -- the two Protects of a share, and what comes before a return's, write none
 abbrev pub writingNone : Operation → Maps → Maps

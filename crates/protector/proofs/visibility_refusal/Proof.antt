@@ -4,7 +4,6 @@ use mathlib.Core.Path.{sym, ap, _∙_}
 use borrow.Author.Tests.{eq-eqb, ne-eqb, lt-ltb, le-ltb, not-true, not-false}
 use Rattle.laws.specs.Refusal.{refuses, passes}
 use mathlib.Core.Bool.{not}
-use Rattle.protector.specs.World.{statusOf}
 use Rattle.protector.specs.Calls.{visibilityRefusal, pageRefusal, firstRefusal}
 use Rattle.pages.specs.Pages.{pagesOf}
 use Rattle.protector.specs.World.{overlaysOf, locksOf}
@@ -20,71 +19,67 @@ returns : tie.Need-returns
 unfolding visibilityRefusal
 returns c = refuses _ _ _ (ne-eqb _ _ (c .if1 .taken))
 
-phase-requires : tie.Need-phase-requires
-phase-requires c κs = search needs
-
 status-requires : tie.Need-status-requires
 status-requires c κs = search needs
 
 returns-2 : tie.Need-returns-2
 unfolding visibilityRefusal
-returns-2 c = passes _ _ _ _ (eq-eqb _ _ (c .before .before .before .if1 .left)) (c .before .status .ensures ∙ ap statusOf (c .before .before .phase .ensures) ∙ refuses _ _ _ (ne-eqb _ _ (λ e. c .if2 .taken (c .before .status .ensures ∙ ap statusOf (c .before .before .phase .ensures) ∙ e))))
+returns-2 c = passes _ _ _ _ (eq-eqb _ _ (c .before .before .if1 .left)) (c .before .status .ensures ∙ refuses _ _ _ (ne-eqb _ _ (λ e. c .if2 .taken (c .before .status .ensures ∙ e))))
 
 lengths-fit-requires : tie.Need-lengths-fit-requires
 lengths-fit-requires c κs = search needs
 
 returns-3 : tie.Need-returns-3
 unfolding visibilityRefusal
-returns-3 c = passes _ _ _ _ (eq-eqb _ _ (c .before .before .before .before .before .if1 .left)) (passes _ _ _ _ (eq-eqb _ _ (sym (c .before .before .before .status .ensures ∙ ap statusOf (c .before .before .before .before .phase .ensures)) ∙ c .before .before .if2 .left)) (refuses _ _ _ (sym (c .before .lengths-fit .ensures) ∙ not-true _ (c .if3 .taken))))
+returns-3 c = passes _ _ _ _ (eq-eqb _ _ (c .before .before .before .before .if1 .left)) (passes _ _ _ _ (eq-eqb _ _ (sym (c .before .before .before .status .ensures) ∙ c .before .before .if2 .left)) (refuses _ _ _ (sym (c .before .lengths-fit .ensures) ∙ not-true _ (c .if3 .taken))))
 
 is-long-requires : tie.Need-is-long-requires
 is-long-requires c κs = search needs
 
 returns-4 : tie.Need-returns-4
 unfolding visibilityRefusal
-returns-4 c = passes _ _ _ _ (eq-eqb _ _ (c .before .before .before .before .before .before .before .if1 .left)) (passes _ _ _ _ (eq-eqb _ _ (sym (c .before .before .before .before .before .status .ensures ∙ ap statusOf (c .before .before .before .before .before .before .phase .ensures)) ∙ c .before .before .before .before .if2 .left)) (passes _ _ _ _ (sym (c .before .before .before .lengths-fit .ensures) ∙ not-false _ (c .before .before .if3 .left)) (refuses _ _ _ (ap not (sym (c .before .is-long .ensures) ∙ c .if4 .taken)))))
+returns-4 c = passes _ _ _ _ (eq-eqb _ _ (c .before .before .before .before .before .before .if1 .left)) (passes _ _ _ _ (eq-eqb _ _ (sym (c .before .before .before .before .before .status .ensures) ∙ c .before .before .before .before .if2 .left)) (passes _ _ _ _ (sym (c .before .before .before .lengths-fit .ensures) ∙ not-false _ (c .before .before .if3 .left)) (refuses _ _ _ (ap not (sym (c .before .is-long .ensures) ∙ c .if4 .taken)))))
 
 has-repeat-requires : tie.Need-has-repeat-requires
 has-repeat-requires c κs = search needs
 
 returns-5 : tie.Need-returns-5
 unfolding visibilityRefusal
-returns-5 c = passes _ _ _ _ (eq-eqb _ _ (c .before .before .before .before .before .before .before .before .before .if1 .left)) (passes _ _ _ _ (eq-eqb _ _ (sym (c .before .before .before .before .before .before .before .status .ensures ∙ ap statusOf (c .before .before .before .before .before .before .before .before .phase .ensures)) ∙ c .before .before .before .before .before .before .if2 .left)) (passes _ _ _ _ (sym (c .before .before .before .before .before .lengths-fit .ensures) ∙ not-false _ (c .before .before .before .before .if3 .left)) (passes _ _ _ _ (ap not (sym (c .before .before .before .is-long .ensures) ∙ c .before .before .if4 .left)) (refuses _ _ _ (ap not (sym (c .before .has-repeat .ensures) ∙ c .if5 .taken))))))
+returns-5 c = passes _ _ _ _ (eq-eqb _ _ (c .before .before .before .before .before .before .before .before .if1 .left)) (passes _ _ _ _ (eq-eqb _ _ (sym (c .before .before .before .before .before .before .before .status .ensures) ∙ c .before .before .before .before .before .before .if2 .left)) (passes _ _ _ _ (sym (c .before .before .before .before .before .lengths-fit .ensures) ∙ not-false _ (c .before .before .before .before .if3 .left)) (passes _ _ _ _ (ap not (sym (c .before .before .before .is-long .ensures) ∙ c .before .before .if4 .left)) (refuses _ _ _ (ap not (sym (c .before .has-repeat .ensures) ∙ c .if5 .taken))))))
 
 is-vtl-requires : tie.Need-is-vtl-requires
 is-vtl-requires c κs = search needs
 
 returns-6 : tie.Need-returns-6
 unfolding visibilityRefusal
-returns-6 c = passes _ _ _ _ (eq-eqb _ _ (c .before .before .before .before .before .before .before .before .before .before .before .if1 .left)) (passes _ _ _ _ (eq-eqb _ _ (sym (c .before .before .before .before .before .before .before .before .before .status .ensures ∙ ap statusOf (c .before .before .before .before .before .before .before .before .before .before .phase .ensures)) ∙ c .before .before .before .before .before .before .before .before .if2 .left)) (passes _ _ _ _ (sym (c .before .before .before .before .before .before .before .lengths-fit .ensures) ∙ not-false _ (c .before .before .before .before .before .before .if3 .left)) (passes _ _ _ _ (ap not (sym (c .before .before .before .before .before .is-long .ensures) ∙ c .before .before .before .before .if4 .left)) (passes _ _ _ _ (ap not (sym (c .before .before .before .has-repeat .ensures) ∙ c .before .before .if5 .left)) (refuses _ _ _ (sym (c .before .is-vtl .ensures) ∙ not-true _ (c .if6 .taken)))))))
+returns-6 c = passes _ _ _ _ (eq-eqb _ _ (c .before .before .before .before .before .before .before .before .before .before .if1 .left)) (passes _ _ _ _ (eq-eqb _ _ (sym (c .before .before .before .before .before .before .before .before .before .status .ensures) ∙ c .before .before .before .before .before .before .before .before .if2 .left)) (passes _ _ _ _ (sym (c .before .before .before .before .before .before .before .lengths-fit .ensures) ∙ not-false _ (c .before .before .before .before .before .before .if3 .left)) (passes _ _ _ _ (ap not (sym (c .before .before .before .before .before .is-long .ensures) ∙ c .before .before .before .before .if4 .left)) (passes _ _ _ _ (ap not (sym (c .before .before .before .has-repeat .ensures) ∙ c .before .before .if5 .left)) (refuses _ _ _ (sym (c .before .is-vtl .ensures) ∙ not-true _ (c .if6 .taken)))))))
 
 returns-7 : tie.Need-returns-7
 unfolding visibilityRefusal
-returns-7 c = passes _ _ _ _ (eq-eqb _ _ (c .before .before .before .before .before .before .before .before .before .before .before .before .if1 .left)) (passes _ _ _ _ (eq-eqb _ _ (sym (c .before .before .before .before .before .before .before .before .before .before .status .ensures ∙ ap statusOf (c .before .before .before .before .before .before .before .before .before .before .before .phase .ensures)) ∙ c .before .before .before .before .before .before .before .before .before .if2 .left)) (passes _ _ _ _ (sym (c .before .before .before .before .before .before .before .before .lengths-fit .ensures) ∙ not-false _ (c .before .before .before .before .before .before .before .if3 .left)) (passes _ _ _ _ (ap not (sym (c .before .before .before .before .before .before .is-long .ensures) ∙ c .before .before .before .before .before .if4 .left)) (passes _ _ _ _ (ap not (sym (c .before .before .before .before .has-repeat .ensures) ∙ c .before .before .before .if5 .left)) (passes _ _ _ _ (sym (c .before .before .is-vtl .ensures) ∙ not-false _ (c .before .if6 .left)) (refuses _ _ _ (le-ltb _ _ (c .if7 .taken))))))))
+returns-7 c = passes _ _ _ _ (eq-eqb _ _ (c .before .before .before .before .before .before .before .before .before .before .before .if1 .left)) (passes _ _ _ _ (eq-eqb _ _ (sym (c .before .before .before .before .before .before .before .before .before .before .status .ensures) ∙ c .before .before .before .before .before .before .before .before .before .if2 .left)) (passes _ _ _ _ (sym (c .before .before .before .before .before .before .before .before .lengths-fit .ensures) ∙ not-false _ (c .before .before .before .before .before .before .before .if3 .left)) (passes _ _ _ _ (ap not (sym (c .before .before .before .before .before .before .is-long .ensures) ∙ c .before .before .before .before .before .if4 .left)) (passes _ _ _ _ (ap not (sym (c .before .before .before .before .has-repeat .ensures) ∙ c .before .before .before .if5 .left)) (passes _ _ _ _ (sym (c .before .before .is-vtl .ensures) ∙ not-false _ (c .before .if6 .left)) (refuses _ _ _ (le-ltb _ _ (c .if7 .taken))))))))
 
 is-ragged-requires : tie.Need-is-ragged-requires
 is-ragged-requires c κs = search needs
 
 returns-8 : tie.Need-returns-8
 unfolding visibilityRefusal
-returns-8 c = passes _ _ _ _ (eq-eqb _ _ (c .before .before .before .before .before .before .before .before .before .before .before .before .before .before .if1 .left)) (passes _ _ _ _ (eq-eqb _ _ (sym (c .before .before .before .before .before .before .before .before .before .before .before .before .status .ensures ∙ ap statusOf (c .before .before .before .before .before .before .before .before .before .before .before .before .before .phase .ensures)) ∙ c .before .before .before .before .before .before .before .before .before .before .before .if2 .left)) (passes _ _ _ _ (sym (c .before .before .before .before .before .before .before .before .before .before .lengths-fit .ensures) ∙ not-false _ (c .before .before .before .before .before .before .before .before .before .if3 .left)) (passes _ _ _ _ (ap not (sym (c .before .before .before .before .before .before .before .before .is-long .ensures) ∙ c .before .before .before .before .before .before .before .if4 .left)) (passes _ _ _ _ (ap not (sym (c .before .before .before .before .before .before .has-repeat .ensures) ∙ c .before .before .before .before .before .if5 .left)) (passes _ _ _ _ (sym (c .before .before .before .before .is-vtl .ensures) ∙ not-false _ (c .before .before .before .if6 .left)) (passes _ _ _ _ (lt-ltb (c .before .before .before .before .before .before .before .before .before .before .before .before .before .before .before .before .before .before .args .visibility) 2 (omega arith)) (refuses _ _ _ (ap not (sym (c .before .is-ragged .ensures) ∙ c .if8 .taken)))))))))
+returns-8 c = passes _ _ _ _ (eq-eqb _ _ (c .before .before .before .before .before .before .before .before .before .before .before .before .before .if1 .left)) (passes _ _ _ _ (eq-eqb _ _ (sym (c .before .before .before .before .before .before .before .before .before .before .before .before .status .ensures) ∙ c .before .before .before .before .before .before .before .before .before .before .before .if2 .left)) (passes _ _ _ _ (sym (c .before .before .before .before .before .before .before .before .before .before .lengths-fit .ensures) ∙ not-false _ (c .before .before .before .before .before .before .before .before .before .if3 .left)) (passes _ _ _ _ (ap not (sym (c .before .before .before .before .before .before .before .before .is-long .ensures) ∙ c .before .before .before .before .before .before .before .if4 .left)) (passes _ _ _ _ (ap not (sym (c .before .before .before .before .before .before .has-repeat .ensures) ∙ c .before .before .before .before .before .if5 .left)) (passes _ _ _ _ (sym (c .before .before .before .before .is-vtl .ensures) ∙ not-false _ (c .before .before .before .if6 .left)) (passes _ _ _ _ (lt-ltb (c .before .before .before .before .before .before .before .before .before .before .before .before .before .before .before .before .before .args .visibility) 2 (omega arith)) (refuses _ _ _ (ap not (sym (c .before .is-ragged .ensures) ∙ c .if8 .taken)))))))))
 
 vtl-of-requires : tie.Need-vtl-of-requires
 vtl-of-requires c κs = search needs
 
 listed-refusal-requires : tie.Need-listed-refusal-requires
-listed-refusal-requires c κs = let a = c .before .before .before .before .before .before .before .before .before .before .before .before .before .before .before .before .before .before .before .args in (c .before .before .before .before .before .before .before .before .before .before .before .before .before .before .before .if1 .left, laws.tables-fit (a .state .now) (a .private) (a .shared) (a .read) (a .write) (a .kernel) (a .user) (a .pages) _ (sym (c .before .before .before .before .before .before .before .before .before .before .before .lengths-fit .ensures) ∙ not-false _ (c .before .before .before .before .before .before .before .before .before .before .if3 .left)))
+listed-refusal-requires c κs = let a = c .before .before .before .before .before .before .before .before .before .before .before .before .before .before .before .before .before .before .args in (c .before .before .before .before .before .before .before .before .before .before .before .before .before .before .if1 .left, laws.tables-fit (a .state .now) (a .private) (a .shared) (a .read) (a .write) (a .kernel) (a .user) (a .pages) _ (sym (c .before .before .before .before .before .before .before .before .before .before .before .lengths-fit .ensures) ∙ not-false _ (c .before .before .before .before .before .before .before .before .before .before .if3 .left)))
 
 returns-9 : tie.Need-returns-9
 unfolding visibilityRefusal
-returns-9 c = passes _ _ _ _ (eq-eqb _ _ (c .before .before .before .before .before .before .before .before .before .before .before .before .before .before .before .before .if1 .left)) (passes _ _ _ _ (eq-eqb _ _ (sym (c .before .before .before .before .before .before .before .before .before .before .before .before .before .before .status .ensures ∙ ap statusOf (c .before .before .before .before .before .before .before .before .before .before .before .before .before .before .before .phase .ensures)) ∙ c .before .before .before .before .before .before .before .before .before .before .before .before .before .if2 .left)) (passes _ _ _ _ (sym (c .before .before .before .before .before .before .before .before .before .before .before .before .lengths-fit .ensures) ∙ not-false _ (c .before .before .before .before .before .before .before .before .before .before .before .if3 .left)) (passes _ _ _ _ (ap not (sym (c .before .before .before .before .before .before .before .before .before .before .is-long .ensures) ∙ c .before .before .before .before .before .before .before .before .before .if4 .left)) (passes _ _ _ _ (ap not (sym (c .before .before .before .before .before .before .before .before .has-repeat .ensures) ∙ c .before .before .before .before .before .before .before .if5 .left)) (passes _ _ _ _ (sym (c .before .before .before .before .before .before .is-vtl .ensures) ∙ not-false _ (c .before .before .before .before .before .if6 .left)) (passes _ _ _ _ (lt-ltb (c .before .before .before .before .before .before .before .before .before .before .before .before .before .before .before .before .before .before .before .before .args .visibility) 2 (omega arith)) (passes _ _ _ _ (ap not (sym (c .before .before .before .is-ragged .ensures) ∙ c .before .before .if8 .left)) (c .listed-refusal .ensures ∙ ap (λ (v : GuestVtl). firstRefusal (pageRefusal (entriesIn (c .before .before .before .before .before .before .before .before .before .before .before .before .before .before .before .before .before .before .before .before .args .state .now)) (overlaysOf (c .before .before .before .before .before .before .before .before .before .before .before .before .before .before .before .before .before .before .before .before .args .tables .now) v) (locksOf (c .before .before .before .before .before .before .before .before .before .before .before .before .before .before .before .before .before .before .before .before .args .tables .now) v) (eqb (c .before .before .before .before .before .before .before .before .before .before .before .before .before .before .before .before .before .before .before .before .args .visibility) 1)) (pagesOf (c .before .before .before .before .before .before .before .before .before .before .before .before .before .before .before .before .before .before .before .before .args .list .now))) (c .before .vtl-of .ensures)))))))))
+returns-9 c = passes _ _ _ _ (eq-eqb _ _ (c .before .before .before .before .before .before .before .before .before .before .before .before .before .before .before .if1 .left)) (passes _ _ _ _ (eq-eqb _ _ (sym (c .before .before .before .before .before .before .before .before .before .before .before .before .before .before .status .ensures) ∙ c .before .before .before .before .before .before .before .before .before .before .before .before .before .if2 .left)) (passes _ _ _ _ (sym (c .before .before .before .before .before .before .before .before .before .before .before .before .lengths-fit .ensures) ∙ not-false _ (c .before .before .before .before .before .before .before .before .before .before .before .if3 .left)) (passes _ _ _ _ (ap not (sym (c .before .before .before .before .before .before .before .before .before .before .is-long .ensures) ∙ c .before .before .before .before .before .before .before .before .before .if4 .left)) (passes _ _ _ _ (ap not (sym (c .before .before .before .before .before .before .before .before .has-repeat .ensures) ∙ c .before .before .before .before .before .before .before .if5 .left)) (passes _ _ _ _ (sym (c .before .before .before .before .before .before .is-vtl .ensures) ∙ not-false _ (c .before .before .before .before .before .if6 .left)) (passes _ _ _ _ (lt-ltb (c .before .before .before .before .before .before .before .before .before .before .before .before .before .before .before .before .before .before .before .args .visibility) 2 (omega arith)) (passes _ _ _ _ (ap not (sym (c .before .before .before .is-ragged .ensures) ∙ c .before .before .if8 .left)) (c .listed-refusal .ensures ∙ ap (λ (v : GuestVtl). firstRefusal (pageRefusal (entriesIn (c .before .before .before .before .before .before .before .before .before .before .before .before .before .before .before .before .before .before .before .args .state .now)) (overlaysOf (c .before .before .before .before .before .before .before .before .before .before .before .before .before .before .before .before .before .before .before .args .tables .now) v) (locksOf (c .before .before .before .before .before .before .before .before .before .before .before .before .before .before .before .before .before .before .before .args .tables .now) v) (eqb (c .before .before .before .before .before .before .before .before .before .before .before .before .before .before .before .before .before .before .before .args .visibility) 1)) (pagesOf (c .before .before .before .before .before .before .before .before .before .before .before .before .before .before .before .before .before .before .before .args .list .now))) (c .before .vtl-of .ensures)))))))))
 
 pub visibility-refusal-spec : {M : Type 1} → statement M
 visibility-refusal-spec =
     tie.close
     (tie.spec
     returns
-    phase-requires
     status-requires
     returns-2
     lengths-fit-requires

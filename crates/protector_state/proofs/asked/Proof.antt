@@ -53,6 +53,18 @@ enum-known-operation-6 c = search needs
 on-run-requires-4 : tie.Need-on-run-requires-4
 on-run-requires-4 c κs = search needs
 
+enum-known-operation-7 : tie.Need-enum-known-operation-7
+enum-known-operation-7 c = search needs
+
+on-vtl-requires : tie.Need-on-vtl-requires
+on-vtl-requires c κs = search needs
+
+enum-known-operation-8 : tie.Need-enum-known-operation-8
+enum-known-operation-8 c = search needs
+
+on-vtl-requires-2 : tie.Need-on-vtl-requires-2
+on-vtl-requires-2 c κs = search needs
+
 returns : tie.Need-returns
 unfolding askedOf
 returns c = c .plain .ensures ∙ ap (askedOf (c .before .before .before .args .isolation)) (sym (c .before .enum-told .given .1))
@@ -85,6 +97,14 @@ returns-8 : tie.Need-returns-8
 unfolding askedOf
 returns-8 c = c .on-run4 .ensures ∙ ap (askedOf (c .before .before .before .before .args .isolation)) (sym (c .before .before .operation6 .given .1))
 
+returns-9 : tie.Need-returns-9
+unfolding askedOf
+returns-9 c = c .on-vtl .ensures ∙ ap (askedOf (c .before .before .before .before .args .isolation)) (sym (c .before .before .operation7 .given .1))
+
+returns-10 : tie.Need-returns-10
+unfolding askedOf
+returns-10 c = c .on-vtl2 .ensures ∙ ap (askedOf (c .before .before .before .before .args .isolation)) (sym (c .before .before .operation8 .given .1))
+
 pub asked-spec : {M : Type 1} → statement M
 asked-spec =
     tie.close
@@ -105,6 +125,10 @@ asked-spec =
     on-run-requires-3
     enum-known-operation-6
     on-run-requires-4
+    enum-known-operation-7
+    on-vtl-requires
+    enum-known-operation-8
+    on-vtl-requires-2
     returns
     returns-2
     returns-3
@@ -112,4 +136,6 @@ asked-spec =
     returns-5
     returns-6
     returns-7
-    returns-8)
+    returns-8
+    returns-9
+    returns-10)

@@ -14,23 +14,20 @@ finished-requires c κs = search needs
 enum-known-answer-2 : tie.Need-enum-known-answer-2
 enum-known-answer-2 c = search needs
 
-hv-error-requires : tie.Need-hv-error-requires
-hv-error-requires c κs = search needs
-
-finished-requires-2 : tie.Need-finished-requires-2
-finished-requires-2 c κs = search needs
+stopped-requires : tie.Need-stopped-requires
+stopped-requires c κs = search needs
 
 enum-known-answer-3 : tie.Need-enum-known-answer-3
 enum-known-answer-3 c = search needs
 
-finished-requires-3 : tie.Need-finished-requires-3
-finished-requires-3 c κs = search needs
+finished-requires-2 : tie.Need-finished-requires-2
+finished-requires-2 c κs = search needs
 
 enum-known-answer-4 : tie.Need-enum-known-answer-4
 enum-known-answer-4 c = search needs
 
-finished-requires-4 : tie.Need-finished-requires-4
-finished-requires-4 c κs = search needs
+finished-requires-3 : tie.Need-finished-requires-3
+finished-requires-3 c κs = search needs
 
 enum-known-answer-5 : tie.Need-enum-known-answer-5
 enum-known-answer-5 c = search needs
@@ -50,15 +47,15 @@ returns c = c .finished .ensures ∙ ap (flatOf (c .before .before .before .befo
 
 returns-2 : tie.Need-returns-2
 unfolding flatOf
-returns-2 c = cc
+returns-2 c = c .stopped .ensures ∙ ap (flatOf (c .before .before .before .before .args .isolation)) (sym (c .before .before .answer2 .given .1))
 
 returns-3 : tie.Need-returns-3
 unfolding flatOf
-returns-3 c = c .finished3 .ensures ∙ ap (flatOf (c .before .before .before .before .args .isolation)) (sym (c .before .before .answer3 .given .1))
+returns-3 c = c .finished2 .ensures ∙ ap (flatOf (c .before .before .before .before .args .isolation)) (sym (c .before .before .answer3 .given .1))
 
 returns-4 : tie.Need-returns-4
 unfolding flatOf
-returns-4 c = c .finished4 .ensures ∙ ap (flatOf (c .before .before .before .before .args .isolation)) (sym (c .before .before .answer4 .given .1))
+returns-4 c = c .finished3 .ensures ∙ ap (flatOf (c .before .before .before .before .args .isolation)) (sym (c .before .before .answer4 .given .1))
 
 returns-5 : tie.Need-returns-5
 unfolding flatOf
@@ -75,12 +72,11 @@ flatten-spec =
     enum-known-answer
     finished-requires
     enum-known-answer-2
-    hv-error-requires
-    finished-requires-2
+    stopped-requires
     enum-known-answer-3
-    finished-requires-3
+    finished-requires-2
     enum-known-answer-4
-    finished-requires-4
+    finished-requires-3
     enum-known-answer-5
     asked-requires
     enum-known-answer-6

@@ -1,0 +1,10 @@
+-- `changes::change_of` meets its contract. Assumes nothing.
+use mathlib.Core.Path.{refl}
+use Rattle.changes.proofs.change_of.Statement.{statement}
+use Rattle.changes.proofs.change_of.Tie as tie
+
+returns : tie.Need-returns
+returns c = refl
+
+pub change-of-spec : {M : Type 1} → statement M
+change-of-spec = tie.close (tie.spec returns)

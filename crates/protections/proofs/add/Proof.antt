@@ -1,0 +1,67 @@
+-- `protections::add` meets its contract. Assumes nothing.
+use borrow.Author.Needs.{needs}
+use Rattle.overlays.specs.Overlays.{entry, addWords}
+use Rattle.protections.proofs.Laws as laws
+use Rattle.protections.proofs.add.Statement.{statement}
+use Rattle.protections.proofs.add.Tie as tie
+
+enum-told : tie.Need-enum-told
+enum-told c = search needs
+
+sub-add-in : tie.Need-sub-add-in
+sub-add-in c = search needs
+
+part-add-in-start : tie.Need-part-add-in-start
+part-add-in-start c = search needs
+
+part-add-in-end : tie.Need-part-add-in-end
+part-add-in-end c = search needs
+
+add-in-requires : tie.Need-add-in-requires
+add-in-requires c κs = search needs
+
+enum-told-2 : tie.Need-enum-told-2
+enum-told-2 c = search needs
+
+sub-add-in-2 : tie.Need-sub-add-in-2
+sub-add-in-2 c = search needs
+
+part-add-in-start-2 : tie.Need-part-add-in-start-2
+part-add-in-start-2 c = search needs
+
+part-add-in-end-2 : tie.Need-part-add-in-end-2
+part-add-in-end-2 c = search needs
+
+add-in-requires-2 : tie.Need-add-in-requires-2
+add-in-requires-2 c κs = search needs
+
+same-length : tie.Need-same-length
+same-length c = search needs
+
+returns : tie.Need-returns
+returns c = laws.put-vtl0 (c .before .before .before .before .before .before .before .args .tables .now) _ (λ o. addWords o (entry (c .before .before .before .before .before .before .before .args .q .at) (c .before .before .before .before .before .before .before .args .q .previous) (c .before .before .before .before .before .before .before .args .q .flags) 1 (c .before .before .before .before .before .before .before .args .q .source))) (c .before .before .before .before .before .before .before .args .q .vtl) (c .before .before .add-in .ensures) (c .before .before .before .before .enum-told .given .1)
+
+same-length-2 : tie.Need-same-length-2
+same-length-2 c = search needs
+
+returns-2 : tie.Need-returns-2
+returns-2 c = laws.put-vtl1 (c .before .before .before .before .before .before .before .args .tables .now) _ (λ o. addWords o (entry (c .before .before .before .before .before .before .before .args .q .at) (c .before .before .before .before .before .before .before .args .q .previous) (c .before .before .before .before .before .before .before .args .q .flags) 1 (c .before .before .before .before .before .before .before .args .q .source))) (c .before .before .before .before .before .before .before .args .q .vtl) (c .before .before .add-in2 .ensures) (c .before .before .before .before .enum-told2 .given .1)
+
+pub add-spec : {M : Type 1} → statement M
+add-spec =
+    tie.close
+    (tie.spec
+    enum-told
+    sub-add-in
+    part-add-in-start
+    part-add-in-end
+    add-in-requires
+    enum-told-2
+    sub-add-in-2
+    part-add-in-start-2
+    part-add-in-end-2
+    add-in-requires-2
+    same-length
+    returns
+    same-length-2
+    returns-2)
