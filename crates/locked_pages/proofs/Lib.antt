@@ -1,0 +1,5 @@
+pub mod Laws
+pub mod Parts
+pub mod Lists
+pub mod Limits
+pub mod Cases
