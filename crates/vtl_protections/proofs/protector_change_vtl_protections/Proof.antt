@@ -1,0 +1,80 @@
+-- `vtl_protections::protector_change_vtl_protections` meets its contract. Assumes nothing.
+use borrow.Author.Needs.{needs}
+use Rattle.permissions.specs.Flags.{vtlOf}
+use Rattle.mapping.specs.Maps.{maps}
+use Rattle.protector.specs.World.{world}
+use Rattle.vtl_protections.specs.Calls.{protectionTaken, protectionOf}
+use Rattle.vtl_protections.proofs.Laws as laws
+use Rattle.vtl_protections.proofs.protector_change_vtl_protections.Statement.{statement}
+use Rattle.vtl_protections.proofs.protector_change_vtl_protections.Tie as tie
+
+protection-refusal-requires : tie.Need-protection-refusal-requires
+protection-refusal-requires c κs = search needs
+
+refused-requires : tie.Need-refused-requires
+refused-requires c κs = search needs
+
+same-length : tie.Need-same-length
+same-length c = search needs
+
+returns : tie.Need-returns
+unfolding protectionOf
+returns c = let a = c .before .before .before .before .before .before .before .before .before .before .before .before .before .before .args in laws.call-refused (world (maps (a .private .now) (a .shared .now) (a .read .now) (a .write .now) (a .kernel .now) (a .user .now)) (a .state .now) (a .pages .now) (a .tables .now)) _ _ (c .before .before .protection-refusal .ensures) (protectionTaken (world (maps (a .private .now) (a .shared .now) (a .read .now) (a .write .now) (a .kernel .now) (a .user .now)) (a .state .now) (a .pages .now) (a .tables .now)) (vtlOf (a .vtl)) (a .flags) (a .list .now)) (c .refused .result) (c .before .if1 .taken) (c .refused .ensures)
+
+vtl-of-requires : tie.Need-vtl-of-requires
+vtl-of-requires c κs = search needs
+
+page-count-requires : tie.Need-page-count-requires
+page-count-requires c κs = search needs
+
+store-requires : tie.Need-store-requires
+store-requires c κs = let a = c .before .before .before .before .before .before .before .before .before .before .before .before .before .before .before .before .args in (laws.table-fits (world (maps (a .private .now) (a .shared .now) (a .read .now) (a .write .now) (a .kernel .now) (a .user .now)) (a .state .now) (a .pages .now) (a .tables .now)) (a .vtl) (a .flags) (a .list .now) _ (c .before .before .before .before .protection-refusal .ensures) (c .before .before .before .if1 .left), laws.protection-passed (world (maps (a .private .now) (a .shared .now) (a .read .now) (a .write .now) (a .kernel .now) (a .user .now)) (a .state .now) (a .pages .now) (a .tables .now)) (a .vtl) (a .flags) (a .list .now) _ (c .before .before .before .before .protection-refusal .ensures) (c .before .before .before .if1 .left) .2)
+
+protection-step-requires : tie.Need-protection-step-requires
+protection-step-requires c κs = let a = c .before .before .before .before .before .before .before .before .before .before .before .before .before .before .before .before .before .before .before .before .before .args in laws.protection-passed (world (maps (a .private .now) (a .shared .now) (a .read .now) (a .write .now) (a .kernel .now) (a .user .now)) (a .state .now) (a .pages .now) (a .tables .now)) (a .vtl) (a .flags) (a .list .now) _ (c .before .before .before .before .before .before .before .before .before .protection-refusal .ensures) (c .before .before .before .before .before .before .before .before .if1 .left) .0
+
+carry-out-requires : tie.Need-carry-out-requires
+carry-out-requires c κs = let a = c .before .before .before .before .before .before .before .before .before .before .before .before .before .before .before .before .before .before .before .before .before .before .before .before .before .before .before .args in (laws.protection-passed (world (maps (a .private .now) (a .shared .now) (a .read .now) (a .write .now) (a .kernel .now) (a .user .now)) (a .state .now) (a .pages .now) (a .tables .now)) (a .vtl) (a .flags) (a .list .now) _ (c .before .before .before .before .before .before .before .before .before .before .before .before .before .before .before .protection-refusal .ensures) (c .before .before .before .before .before .before .before .before .before .before .before .before .before .before .if1 .left) .0, c .before .before .before .before .before .protection-step .ensures .1)
+
+same-length-2 : tie.Need-same-length-2
+same-length-2 c = search needs
+
+same-length-3 : tie.Need-same-length-3
+same-length-3 c = search needs
+
+same-length-4 : tie.Need-same-length-4
+same-length-4 c = search needs
+
+same-length-5 : tie.Need-same-length-5
+same-length-5 c = search needs
+
+same-length-6 : tie.Need-same-length-6
+same-length-6 c = search needs
+
+same-length-7 : tie.Need-same-length-7
+same-length-7 c = search needs
+
+returns-2 : tie.Need-returns-2
+unfolding protectionOf
+returns-2 c = let a = c .before .before .before .before .before .before .before .before .before .before .before .before .before .before .before .before .before .before .before .before .before .before .before .before .before .before .before .before .before .before .before .before .before .before .before .before .before .before .args in laws.call-taken (world (maps (a .private .now) (a .shared .now) (a .read .now) (a .write .now) (a .kernel .now) (a .user .now)) (a .state .now) (a .pages .now) (a .tables .now)) _ _ (c .before .before .before .before .before .before .before .before .before .before .before .before .before .before .before .before .before .before .before .before .before .before .before .before .before .before .protection-refusal .ensures) (protectionTaken (world (maps (a .private .now) (a .shared .now) (a .read .now) (a .write .now) (a .kernel .now) (a .user .now)) (a .state .now) (a .pages .now) (a .tables .now)) (vtlOf (a .vtl)) (a .flags) (a .list .now)) _ (c .before .before .before .before .before .before .before .before .before .before .before .before .before .before .before .before .before .before .before .before .before .before .before .before .before .if1 .left) (laws.protection-made (world (maps (a .private .now) (a .shared .now) (a .read .now) (a .write .now) (a .kernel .now) (a .user .now)) (a .state .now) (a .pages .now) (a .tables .now)) (c .before .before .before .before .before .before .before .before .before .before .before .before .before .before .before .before .before .before .before .before .before .before .before .before .vtl-of .result) (vtlOf (a .vtl)) (a .flags) (a .list .now) (c .before .before .before .before .before .before .before .before .before .before .before .before .before .before .before .before .before .before .before .before .before .before .before .page-count .result) (c .before .before .before .before .before .before .before .before .before .before .before .before .before .before .before .before .before .before .before .before .before .store .result) _ (c .before .before .before .before .before .before .before .before .before .before .before .before .before .before .before .before .protection-step .result) _ _ (c .before .before .before .before .before .before .before .before .before .before .carry-out .result) (laws.protection-passed (world (maps (a .private .now) (a .shared .now) (a .read .now) (a .write .now) (a .kernel .now) (a .user .now)) (a .state .now) (a .pages .now) (a .tables .now)) (a .vtl) (a .flags) (a .list .now) _ (c .before .before .before .before .before .before .before .before .before .before .before .before .before .before .before .before .before .before .before .before .before .before .before .before .before .before .protection-refusal .ensures) (c .before .before .before .before .before .before .before .before .before .before .before .before .before .before .before .before .before .before .before .before .before .before .before .before .before .if1 .left) .3) (c .before .before .before .before .before .before .before .before .before .before .before .before .before .before .before .before .before .before .before .before .before .before .before .before .vtl-of .ensures) (c .before .before .before .before .before .before .before .before .before .before .before .before .before .before .before .before .before .before .before .before .before .before .before .page-count .ensures) (c .before .before .before .before .before .before .before .before .before .before .before .before .before .before .before .before .before .before .before .before .before .store .ensures .0) (c .before .before .before .before .before .before .before .before .before .before .before .before .before .before .before .before .before .before .before .before .before .store .ensures .1) (c .before .before .before .before .before .before .before .before .before .before .before .before .before .before .before .before .protection-step .ensures .0) (c .before .before .before .before .before .before .before .before .before .before .carry-out .ensures .0) (c .before .before .before .before .before .before .before .before .before .before .carry-out .ensures .1 .0) (c .before .before .before .before .before .before .before .before .before .before .carry-out .ensures .1 .1))
+
+pub protector-change-vtl-protections-spec : {M : Type 1} → statement M
+protector-change-vtl-protections-spec =
+    tie.close
+    (tie.spec
+    protection-refusal-requires
+    refused-requires
+    same-length
+    returns
+    vtl-of-requires
+    page-count-requires
+    store-requires
+    protection-step-requires
+    carry-out-requires
+    same-length-2
+    same-length-3
+    same-length-4
+    same-length-5
+    same-length-6
+    same-length-7
+    returns-2)
