@@ -19,6 +19,8 @@ use Rattle.overlays.specs.Overlays.{placeFrom}
 use Rattle.locks.specs.Locks.{listsFrom, held}
 use Rattle.protector_state.specs.State.{firstPhases, phaseOf}
 use Rattle.protector.specs.Calls.{firstRefusal, visibilityRefusal, visibilityOf}
+use Rattle.change_claims.specs.Table.{Changes, Limits, changes}
+use Rattle.change_claims.proofs.Examples.{full}
 use Rattle.visibility_claims.specs.Whole.{one, inTurn, perRun, wholeShare, returned, modified, wholeReturn}
 use Rattle.visibility_claims.specs.Table.{P2, Visibility, visibility}
 use Rattle.chunks.specs.Chunks.{powerFrom, pieces, firstNotOf, entryWith}
@@ -81,6 +83,9 @@ pub record Worked : Type 0 where
   pub P9-unaligned : doneOf (allOf registrar 65536 0 .world) ≡ outcome (builtState ram (2 ^ 40) 65536) (1 ∷ []) (0 ∷ []) unaligned
   pub P10-private : pageFault entries (P2 .maps) true 0 0 (3 * 4096) 0 1 ≡ NotPrivate
   pub P10-shared : pageFault entries (P2 .maps) true 1 0 (4 * 4096) 0 1 ≡ NotShared
+  -- protection and default changes and overlay calls, and the limits of counts and tables
+  pub other-changes : Changes
+  pub limits : Limits
 
 pub worked : Worked
 unfolding word writtenFrom entriesOf ramByte ordered aligned refusalOf spans spansFrom operandOf mapsFit faultOf faultRefusal pageFault powerFrom pieces firstNotOf entryWith registerFrom lookAt allFrom registerRefusal registerOf allRefusal allOf answerRefusal doneOf numberOf numberAt numbersFrom among repeats runsOf pick pickPlaces stopAt placeFrom listsFrom held phaseOf firstPhases firstRefusal visibilityRefusal visibilityOf one inTurn perRun wholeShare returned modified wholeReturn
@@ -100,4 +105,6 @@ worked =
       P9-unaligned = refl;
       P10-private = refl;
       P10-shared = refl;
+      other-changes = changes;
+      limits = full;
     }

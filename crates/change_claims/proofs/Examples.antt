@@ -1,0 +1,51 @@
+-- The limits of the tables, and the worked changes through their calls. Assumes nothing.
+use mathlib.Core.List.{[]}
+use mathlib.Core.Path.{_≡_, refl}
+use Rattle.bitmap.specs.Pages.{word, writtenFrom}
+use Rattle.words.specs.Words.{closed}
+use Rattle.layout.specs.Layout.{entriesOf, ramByte}
+use Rattle.pages.specs.Pages.{numberOf, numberAt, numbersFrom}
+use Rattle.pages.specs.Runs.{neighbours, runAt}
+use Rattle.request.specs.Request.{pick, pickPlaces, tableOf, runEnd}
+use Rattle.overlays.specs.Overlays.{placeFrom}
+use Rattle.locks.specs.Locks.{listsFrom, held}
+use Rattle.defaults.specs.Pieces.{span, nextOf}
+use Rattle.defaults.specs.Barred.{anyOf, anyIn}
+use Rattle.defaults.specs.Renewed.{renewedFrom}
+use Rattle.changes.specs.Changes.{protect, ask, wait, finish, halt, protectPages, protectRam, doneOf, failedOf, startNew, startOld}
+use Rattle.protector_state.specs.State.{firstPhases, phaseOf}
+use Rattle.protector_state.specs.Reply.{finished, askedOf, flatOf}
+use Rattle.change_state.specs.State.{stageOf}
+use Rattle.protector.specs.World.{entered}
+use Rattle.protector.specs.Calls.{carriedChange, firstRefusal, answerRefusal, afterDone, afterFailed, answerDone, answerFailed}
+use Rattle.locked_pages.proofs.Limits as limits
+use Rattle.vtl_protections.specs.Calls.{protectionRefusal, protectionTaken, protectionOf, defaultRefusal, defaultStarted, defaultTaken, defaultOf}
+use Rattle.overlay_tests.specs.Refusals.{callRefusal, within, knownRefusal, guestRefusal, dmaRefusal, pageRefusal, registerRefusal, currentOf, unregisterRefusal}
+use Rattle.overlay_pages.specs.Calls.{registerTaken, registerOf, unregisterTaken, unregisterOf}
+use Rattle.visibility_claims.specs.Calls.{follow}
+use Rattle.visibility_claims.specs.Table.{page, dones, fresh}
+use Rattle.change_claims.specs.Table.{two, Limits}
+
+pub full : Limits
+unfolding word writtenFrom entriesOf ramByte placeFrom listsFrom held firstPhases phaseOf flatOf askedOf ask wait startNew entered carriedChange callRefusal within knownRefusal guestRefusal dmaRefusal pageRefusal registerRefusal currentOf registerTaken registerOf
+full =
+    record {
+      count-65535 = refl;
+      count-full = refl;
+      overlay-128 = refl;
+      overlay-129 = refl;
+      list-64 = limits.list-64;
+      list-65 = limits.list-65;
+      pages-1024 = limits.pages-1024;
+      pages-1025 = limits.pages-1025;
+    }
+
+pub record Worked : Type 0 where
+  pub default-two : follow (defaultOf two 0 3) (dones 7) .last .reply ≡ finished 0 0 0 7
+  pub repeated : follow (protectionOf fresh 1 3 (page 3 (page 4 (page 3 [])))) (dones 5) .last .reply ≡ finished 0 0 0 5
+  pub registered : follow (registerOf fresh 0 5 0 15 1) (dones 4) .last .reply ≡ finished 0 0 0 4
+  pub unregistered : follow (unregisterOf two 0 5) (dones 4) .last .reply ≡ finished 0 0 0 4
+
+pub worked : Worked
+unfolding word writtenFrom entriesOf ramByte numberOf numberAt numbersFrom neighbours runAt pick pickPlaces tableOf runEnd placeFrom listsFrom held span nextOf anyOf anyIn renewedFrom protect ask wait finish halt protectPages protectRam doneOf failedOf startNew startOld firstPhases phaseOf flatOf askedOf stageOf entered carriedChange firstRefusal answerRefusal afterDone afterFailed answerDone answerFailed protectionRefusal protectionTaken protectionOf defaultRefusal defaultStarted defaultTaken defaultOf callRefusal within knownRefusal guestRefusal dmaRefusal pageRefusal registerRefusal currentOf registerTaken registerOf unregisterRefusal unregisterTaken unregisterOf follow closed
+worked = record { default-two = refl; repeated = refl; registered = refl; unregistered = refl }

@@ -1,0 +1,10 @@
+pub mod Steps
+pub mod Changes
+pub mod Tables
+pub mod Counts
+pub mod Calls
+pub mod Default
+pub mod Finished
+pub mod Refusals
+pub mod Examples
+pub mod Pages

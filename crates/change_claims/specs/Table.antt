@@ -1,0 +1,106 @@
+-- Worked cases of changes, computed by the definitions: RAM pages 0 to 15 and 32 to 39, as in document 01, "Worked".
+use mathlib.Core.List.{List, [], _∷_, _++_}
+use mathlib.Core.Path.{_≡_, refl}
+use Prim.Native.Nat.{ℕ, _+_, _-_, _≤_, _<_}
+use lib.ListN.{length, getD, replicate}
+use Rattle.bitmap.specs.Pages.{word, writtenFrom}
+use Rattle.words.specs.Words.{closed}
+use Rattle.layout.specs.Layout.{entriesOf, ramByte}
+use Rattle.permissions.specs.declared.GuestVtl.the-variants.{Vtl0, Vtl1}
+use Rattle.permissions.specs.Flags.{vtlOf, flagsOf}
+use Rattle.permissions.specs.HvError.{codeOf}
+use Rattle.pages.specs.Pages.{pagesOf, numberOf, numberAt, numbersFrom}
+use Rattle.pages.specs.Runs.{run, runsOf}
+use Rattle.overlays.specs.Overlays.{placeFrom}
+use Rattle.defaults.specs.Pieces.{span, nextOf}
+use Rattle.defaults.specs.Renewed.{renewedFrom}
+use Rattle.defaults.specs.Visit.{piecesFrom}
+use Rattle.locks.specs.Locks.{total}
+use Rattle.locked_pages.specs.Calls.{ended, lockRefusal, lockOf}
+use Rattle.locked_pages.specs.Lists.{Lists, listsAt, withLists, Holds, Makes}
+use Rattle.acceptor.specs.declared.Operation.the-variants.{Wait, Protect, Flush, TlbWait}
+use Rattle.protector_state.specs.Reply.{finished}
+use Rattle.protector.specs.World.{World, world, overlaysOf}
+use Rattle.overlay_tests.specs.Refusals.{currentOf}
+use Rattle.overlay_pages.specs.Calls.{registerOf}
+use Rattle.visibility_claims.specs.Whole.{Succeeds, Fails, Ok, FailedAt, Halts, one, inTurn, perRun}
+use Rattle.visibility_claims.specs.Ends.{pageEnd}
+use Rattle.visibility_claims.specs.Table.{page, dones, fresh}
+use Rattle.change_claims.specs.Whole.{Change, wholeRuns, wholeEntry, wholeOverlay}
+use Rattle.change_claims.specs.Calls.{protectionWhole, defaultWhole, registerWhole, unregisterWhole}
+
+-- a fresh protector with these overlays of VTL0: how many, then five words for each
+abbrev pub with : List ℕ → World
+with o = world (fresh .maps) (fresh .state) (fresh .pages) (o ++ replicate (3460 - length o) 0)
+
+-- two in the run from page 0 to page 15
+abbrev pub two : World
+two = with (2 ∷ 5 ∷ 15 ∷ 1 ∷ 1 ∷ 0 ∷ 11 ∷ 15 ∷ 1 ∷ 1 ∷ 0 ∷ [])
+
+abbrev pub defaultTwo : Change
+defaultTwo = defaultWhole two Vtl0 3 (dones 7)
+
+abbrev pub repeated : Change
+repeated = protectionWhole fresh Vtl1 3 (page 3 (page 4 (page 3 []))) (dones 5)
+
+-- its second Protect fails
+abbrev pub halted : Change
+halted = protectionWhole fresh Vtl0 0 (page 3 (page 4 (page 8 []))) (Succeeds ∷ Fails 77 0 ∷ [])
+
+-- a page with a count of n, and n entries of page 0
+abbrev pub counts : ℕ → World
+counts n = with (1 ∷ 5 ∷ 15 ∷ 15 ∷ n ∷ 0 ∷ [])
+
+abbrev pub entries : ℕ → World
+entries n = with (n ∷ [])
+
+pub record Changes : Type 0 where
+  pub default-asked : defaultTwo .whole .asked
+      ≡ Protect Vtl0 (flagsOf 3) (run 0 5) ∷ Protect Vtl0 (flagsOf 3) (run 6 5) ∷ Protect Vtl0 (flagsOf 3) (run 12 4) ∷ Protect Vtl0 (flagsOf 3) (run 32 8) ∷ Wait ∷ Flush Vtl0 ∷ TlbWait Vtl0 ∷ []
+  pub default-ok : defaultTwo .whole .stand ≡ Ok
+  pub default-kernel : defaultTwo .whole .maps .permissions .kernel ≡ 0x20 ∷ 0x08 ∷ 0x00 ∷ 0x00 ∷ 0x00 ∷ []
+  pub default-renewed : overlaysOf (defaultTwo .tables) Vtl0 ≡ 2 ∷ 5 ∷ 3 ∷ 1 ∷ 1 ∷ 0 ∷ 11 ∷ 3 ∷ 1 ∷ 1 ∷ 0 ∷ replicate 630 0
+  pub repeated-asked : repeated .whole .asked ≡ Protect Vtl1 (flagsOf 3) (run 3 2) ∷ Protect Vtl1 (flagsOf 3) (run 3 1) ∷ Wait ∷ Flush Vtl0 ∷ TlbWait Vtl1 ∷ []
+  pub repeated-ok : repeated .whole .stand ≡ Ok
+  pub halted-asked : halted .whole .asked ≡ Protect Vtl0 (flagsOf 0) (run 3 2) ∷ Protect Vtl0 (flagsOf 0) (run 8 1) ∷ []
+  pub halted-read : halted .whole .maps .permissions .read ≡ 0xe7 ∷ 0xfe ∷ 0x00 ∷ 0x00 ∷ 0xff ∷ []
+  pub halted-stands : halted .whole .stand ≡ Halts
+  pub new-asked : registerWhole fresh Vtl0 5 0 1 (dones 4) .whole .asked ≡ Protect Vtl0 (flagsOf 1) (run 5 1) ∷ Wait ∷ Flush Vtl0 ∷ TlbWait Vtl0 ∷ []
+  pub new-entered : overlaysOf (registerWhole fresh Vtl0 5 0 1 (dones 4) .tables) Vtl0 ≡ 1 ∷ 5 ∷ 15 ∷ 1 ∷ 1 ∷ 0 ∷ replicate 635 0
+  pub new-failed : registerWhole fresh Vtl0 5 0 1 (Fails 77 0 ∷ []) .whole .stand ≡ FailedAt 8 0
+  pub old-asked : unregisterWhole two Vtl0 5 (dones 4) .whole .asked ≡ Protect Vtl0 (flagsOf 15) (run 5 1) ∷ Wait ∷ Flush Vtl0 ∷ TlbWait Vtl0 ∷ []
+  pub old-gone : overlaysOf (unregisterWhole two Vtl0 5 (dones 4) .tables) Vtl0 ≡ 1 ∷ 11 ∷ 15 ∷ 1 ∷ 1 ∷ 0 ∷ replicate 635 0
+
+-- tables and counts that are full (17), and the last that are not; of the locked lists of one VTL
+pub record Limits : Type 0 where
+  pub count-65535 : registerOf (counts 65534) 0 5 0 15 16 .reply ≡ finished 0 0 0 0
+  pub count-full : registerOf (counts 65535) 0 5 0 15 16 .reply ≡ finished 17 (codeOf 17) 0 0
+  pub overlay-128 : getD (registerOf (entries 127) 0 5 0 15 16 .world .tables) 0 0 ≡ 128
+  pub overlay-129 : registerOf (entries 128) 0 5 0 15 16 .reply ≡ finished 17 (codeOf 17) 0 0
+  pub list-64 : (s t : List ℕ) (vtl : ℕ) (l : List ℕ) → lockRefusal s (length t) vtl l ≡ 0 → (x : Lists) → Holds t x → length (listsAt x (vtlOf vtl)) ≡ 63
+      → total (listsAt x (vtlOf vtl)) + length (pagesOf l) ≤ 1024 → Makes t (withLists x (vtlOf vtl) (listsAt x (vtlOf vtl) ++ (pagesOf l ∷ []))) (lockOf s t vtl l)
+  pub list-65 : (s t : List ℕ) (vtl : ℕ) (l : List ℕ) → lockRefusal s (length t) vtl l ≡ 0 → (x : Lists) → Holds t x → length (listsAt x (vtlOf vtl)) ≡ 64 → lockOf s t vtl l ≡ ended t 17
+  pub pages-1024 : (s t : List ℕ) (vtl : ℕ) (l : List ℕ) → lockRefusal s (length t) vtl l ≡ 0 → (x : Lists) → Holds t x → length (listsAt x (vtlOf vtl)) < 64
+      → total (listsAt x (vtlOf vtl)) + length (pagesOf l) ≡ 1024 → Makes t (withLists x (vtlOf vtl) (listsAt x (vtlOf vtl) ++ (pagesOf l ∷ []))) (lockOf s t vtl l)
+  pub pages-1025 : (s t : List ℕ) (vtl : ℕ) (l : List ℕ) → lockRefusal s (length t) vtl l ≡ 0 → (x : Lists) → Holds t x → total (listsAt x (vtlOf vtl)) + length (pagesOf l) ≡ 1025
+      → lockOf s t vtl l ≡ ended t 17
+
+pub changes : Changes
+unfolding word writtenFrom entriesOf ramByte numberOf numberAt numbersFrom runsOf placeFrom span nextOf renewedFrom piecesFrom pageEnd currentOf one inTurn perRun wholeRuns wholeEntry wholeOverlay closed
+changes =
+    record {
+      default-asked = refl;
+      default-ok = refl;
+      default-kernel = refl;
+      default-renewed = refl;
+      repeated-asked = refl;
+      repeated-ok = refl;
+      halted-asked = refl;
+      halted-read = refl;
+      halted-stands = refl;
+      new-asked = refl;
+      new-entered = refl;
+      new-failed = refl;
+      old-asked = refl;
+      old-gone = refl;
+    }

@@ -1,0 +1,82 @@
+-- A whole protection change, default change or overlay call under a list of backend answers, written from document 01, "The request under way", its last
+-- paragraph, "Overlays and locks" and "Defaults".
+use mathlib.Core.Bool.{Bool, cond}
+use mathlib.Core.List.{List, [], _∷_, _++_}
+use Prim.Native.Nat.{ℕ}
+use Rattle.permissions.specs.declared.GuestVtl.{GuestVtl}
+use Rattle.permissions.specs.declared.GuestVtl.the-variants.{Vtl0}
+use Rattle.permissions.specs.declared.HvMapGpaFlags.{HvMapGpaFlags}
+use Rattle.layout.specs.declared.MemoryRangeWithNode.{MemoryRangeWithNode}
+use Rattle.mapping.specs.Maps.{Maps}
+use Rattle.pages.specs.declared.PageRun.{PageRun}
+use Rattle.pages.specs.Runs.{run, runsOf}
+use Rattle.defaults.specs.Visit.{pieces}
+use Rattle.acceptor.specs.declared.Operation.{Operation}
+use Rattle.acceptor.specs.declared.Operation.the-variants.{Wait, Protect, Flush, TlbWait}
+use Rattle.visibility_claims.specs.Whole.{Given, Succeeds, Fails, Ok, FailedAt, Whole, stands, one, inTurn, perRun, protecting}
+use Rattle.visibility_claims.specs.Ends.{pageEnd}
+
+-- a call with the tables of overlays and locks that it leaves
+pub record Change : Type 0 where
+  pub whole : Whole
+  pub tables : List ℕ
+
+abbrev pub change : Whole → List ℕ → Change
+change w t = record { whole = w; tables = t }
+
+-- ---- what ends each of them: one VTL is flushed, the other is the target's
+
+abbrev pub closing : GuestVtl → GuestVtl → List Operation
+closing flushed v = Wait ∷ Flush flushed ∷ TlbWait v ∷ []
+
+abbrev pub ended : Maps → List Given → Whole
+ended m gs = stands m Ok
+
+-- ---- a protection or default change: a Protect for each run of pages, and VTL0 is flushed whichever VTL it is for; a failed Protect halts it (20)
+
+abbrev pub protects : GuestVtl → HvMapGpaFlags → PageRun → List Operation
+protects v f r = Protect v f r ∷ []
+
+abbrev pub runOperations : GuestVtl → HvMapGpaFlags → List PageRun → List Operation
+runOperations v f rs = perRun (protects v f) rs ++ closing Vtl0 v
+
+unfoldable pub wholeRuns : Bool → GuestVtl → HvMapGpaFlags → List PageRun → Maps → List Given → Whole
+wholeRuns tracked v f rs m gs = inTurn (protecting tracked) (runOperations v f rs) m gs ended
+
+-- of listed pages: runs of ascending neighbours, in list order
+abbrev pub wholePages : Bool → GuestVtl → HvMapGpaFlags → List ℕ → Maps → List Given → Whole
+wholePages tracked v f ps m gs = wholeRuns tracked v f (runsOf ps) m gs
+
+-- of all private RAM without an overlay in the target VTL: ascending, cut at entry ends; there are no more pieces than pages up to the last of RAM
+abbrev pub ramRuns : List MemoryRangeWithNode → List ℕ → Maps → List PageRun
+ramRuns es overlays m = pieces (pageEnd es) (m .private) overlays es
+
+abbrev pub wholeRam : Bool → GuestVtl → HvMapGpaFlags → List MemoryRangeWithNode → List ℕ → Maps → List Given → Whole
+wholeRam tracked v f es overlays m gs = wholeRuns tracked v f (ramRuns es overlays m) m gs
+
+-- ---- an overlay call
+
+-- of an entry that is written: its VTL is flushed
+unfoldable pub wholeEntry : Bool → GuestVtl → Maps → List Given → Whole
+wholeEntry tracked v m gs = inTurn (protecting tracked) (closing v v) m gs ended
+
+-- what its Protect writes before it is asked for: a page that is no guest memory is in no map
+abbrev pub protectingPage : Bool → Bool → GuestVtl → HvMapGpaFlags → ℕ → Maps → Maps
+protectingPage tracked guest v f p m = cond guest (protecting tracked (Protect v f (run p 1)) m) m
+
+-- OperationDenied
+abbrev pub denied : ℕ
+denied = 8
+
+-- flags are Protected, and then the entry is written; a failed Protect ends the call (16)
+unfoldable pub wholeOverlay : Bool → Bool → GuestVtl → HvMapGpaFlags → ℕ → Maps → List Given → Whole
+wholeOverlay tracked guest v f p m gs =
+    one (Protect v f (run p 1)) (protectingPage tracked guest v f p m) gs
+    (λ gs. wholeEntry tracked v (protectingPage tracked guest v f p m) gs)
+    (λ code k gs. stands (protectingPage tracked guest v f p m) (FailedAt denied 0))
+
+-- the tables: as they were, until the Protect is done
+abbrev pub onceDone : List Given → List ℕ → List ℕ → List ℕ
+onceDone [] t t′ = t
+onceDone (Succeeds ∷ gs) t t′ = t′
+onceDone (Fails code k ∷ gs) t t′ = t
