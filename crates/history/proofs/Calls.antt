@@ -1,0 +1,199 @@
+-- Every call, taken or not, keeps what stands. Assumes nothing.
+use Prim.Native.Nat.{ℕ, _≤_, _<_}
+use mathlib.Core.Path.{_≡_, refl, sym, ap, _∙_, subst}
+use mathlib.Core.List.{List, []}
+use mathlib.Core.Bool.{Bool, true, false, not, cond}
+use native.Mathlib.Omega.{arith}
+use lib.ListN.{length, getD, take, set, length-take}
+use lib.Seq.{getD-take, getD-set-other, drop-set-lt}
+use lib.Dec.{eqb, ltb}
+use borrow.Author.Tests.{eqb-true, eqb-false, ltb-false}
+use Rattle.laws.specs.Bools.{false≢true}
+use Rattle.laws.specs.Refusal.{unless, passed}
+use Rattle.layout.specs.declared.MemoryRangeWithNode.{MemoryRangeWithNode}
+use Rattle.layout.specs.Layout.{isRam}
+use Rattle.permissions.specs.declared.GuestVtl.{GuestVtl}
+use Rattle.permissions.specs.Flags.{fitVtl, vtlOf, fitBool, boolOf}
+use Rattle.pages.specs.Pages.{pagesOf, isLong, isRagged, among, repeats}
+use Rattle.request.specs.Request.{wanted}
+use Rattle.request.proofs.Table.{length-pick, pages-few}
+use Rattle.acceptor.specs.declared.Phase.the-variants as at
+use Rattle.acceptor.specs.declared.Settings.{Settings}
+use Rattle.acceptor.specs.Steps.{asked, startOf}
+use Rattle.changes.specs.declared.ChangeStep.{ChangeStep}
+use Rattle.protector_state.specs.declared.Reply.{Reply}
+use Rattle.protector_state.specs.State.{stateLen, phaseIn, requestOf, settingsOf, entriesIn}
+use Rattle.protector_state.specs.Reply.{askedOf, flatOf}
+use Rattle.change_state.specs.State.{isChanging}
+use Rattle.protector.specs.World.{World, world, Outcome, overlaysOf, locksOf, fits, statusIn, applied}
+use Rattle.protector.specs.Calls.{refusedBy, decided, carriedOut, carriedChange, pageRefusal, firstRefusal, visibilityRefusal, stopOf, askedFor, tableFor, visibilityTaken, visibilityOf}
+use Rattle.visibility_claims.proofs.Calls.{modify-pages}
+use Rattle.history.specs.Seen.{Seen, asks, seesCall}
+use Rattle.history.proofs.Bits.{among-own}
+use Rattle.history.proofs.Right.{opened, Right}
+use Rattle.history.proofs.Start.{among-take, repeats-take, among-pick, repeats-pick, holds, places-apart, first-all, ram-page, start-right}
+use Rattle.history.proofs.World.{Stands, settled, stops, quiet-names, idle-shut, stands-step, stands-change}
+use Rattle.history.proofs.Answers.{Told}
+
+pub status : (n rest : ℕ) → unless (eqb n 0) n rest ≡ 0 → (n ≡ 0) × (rest ≡ 0)
+status n rest h = go (eqb n 0) refl h
+  where
+    go : (b : Bool) → eqb n 0 ≡ b → cond b rest n ≡ 0 → (n ≡ 0) × (rest ≡ 0)
+    go true e h = (eqb-true n 0 e, h)
+    go false e h = absurd (eqb-false n 0 e h)
+
+not-true : (b : Bool) → not b ≡ true → b ≡ false
+not-true true h = false≢true h
+not-true false h = refl
+
+-- a call: refused it changes nothing, and asks for nothing
+pub called : (K : World → Seen → Type 0) (w : World) (o : Seen) → K w o → (ps : List ℕ) (n : ℕ) (T : Outcome) → (n ≡ 0 → K (T .world) (seesCall ps (T .reply) (T .world .pages) o))
+    → let X = decided w n T in K (X .world) (seesCall ps (X .reply) (X .world .pages) o)
+called K w o k ps n T f = go (eqb n 0) refl
+  where
+    go : (b : Bool) → eqb n 0 ≡ b → K (cond b T (refusedBy w n) .world) (seesCall ps (cond b T (refusedBy w n) .reply) (cond b T (refusedBy w n) .world .pages) o)
+    go true e = f (eqb-true n 0 e)
+    go false e = k
+
+-- ---- the state block with another word that no request has
+
+module _ (s : List ℕ) (k x : ℕ) (low : 9 < k) (high : k < 31) where
+  word : (j : ℕ) → j < 10 → getD (set s k x) j 0 ≡ getD s j 0
+  word j h = getD-set-other s k j x 0 (λ e. omega arith)
+
+  first-word : getD (set s k x) 0 0 ≡ getD s 0 0
+  first-word = word 0 (omega arith)
+
+  set-request : requestOf (set s k x) ≡ requestOf s
+  set-request =
+      rw (word 1 (omega arith), word 2 (omega arith), word 3 (omega arith), word 4 (omega arith), word 5 (omega arith), word 6 (omega arith), word 7 (omega arith), word 8 (omega arith), word 9 (omega arith))
+
+  pub set-entries : entriesIn (set s k x) ≡ entriesIn s
+  set-entries = rw (getD-set-other s k 31 x 0 (λ e. omega arith), drop-set-lt 32 s k x (omega arith))
+
+module _ (es : List MemoryRangeWithNode) (w : World) (o : Seen) (k : Stands es w o) where
+  -- other tables, and another such word
+  pub tables-stand : (tables : List ℕ) → Stands es (world (w .maps) (w .state) (w .pages) tables) o
+  tables-stand tables = record { layout = k .layout; right = k .right; halts = k .halts; names = k .names; table = k .table }
+
+  pub set-stands : (i x : ℕ) → 9 < i → i < 31 → Stands es (world (w .maps) (set (w .state) i x) (w .pages) (w .tables)) o
+  set-stands i x low high =
+      let s : List ℕ = w .state in
+      let a : getD (set s i x) 0 0 ≡ getD s 0 0 = first-word s i x low high in
+      let b : requestOf (set s i x) ≡ requestOf s = set-request s i x low high in
+      record {
+        layout = set-entries s i x low high ∙ k .layout;
+        right = rw (a, b) (k .right);
+        halts = rw a (k .halts);
+        names = rw (a, b) (k .names);
+        table = rw a (k .table);
+      }
+
+  -- what a call that is taken finds: nothing under way
+  module _ (idle : statusIn (w .state) ≡ 0) where
+    shut : opened (phaseIn (w .state)) ≡ false
+    shut = idle-shut (isChanging (w .state)) (phaseIn (w .state)) idle
+
+    free : o .halted ≡ false
+    free = k .halts ∙ ap (λ (n : ℕ). eqb n 20) idle
+
+    settled-right : Right (isRam es) (w .maps .private) (w .maps .shared) (phaseIn (w .state)) (requestOf (w .state)) (w .pages) false (o .listed) (o .last)
+    settled-right = subst (λ (h : Bool). Right (isRam es) (w .maps .private) (w .maps .shared) (phaseIn (w .state)) (requestOf (w .state)) (w .pages) h (o .listed) (o .last)) free (k .right)
+
+    -- another change starts
+    pub change-starts : (s tables t : List ℕ) (x : ChangeStep) → entriesIn s ≡ entriesIn (w .state) → Told (settingsOf s .isolation) x → stops (x .stage) ≡ false
+        → let T = carriedChange (world (w .maps) s (w .pages) tables) t x in Stands es (T .world) (seesCall [] (T .reply) (T .world .pages) o)
+    unfolding carriedChange
+    change-starts s tables t x e told on = go (asks r)
+      where
+        r : Reply
+        r = flatOf (settingsOf s .isolation) (x .answer)
+
+        T : Outcome
+        T = carriedChange (world (w .maps) s (w .pages) tables) t x
+
+        o′ : Seen
+        o′ = record { op = r; table = t; halted = o .halted; listed = []; last = o .last; age = o .age }
+
+        go : (b : Bool) → Stands es (T .world) (cond b o′ o)
+        go true =
+            stands-change es (T .world .maps) s t (T .world .tables) o′ (x .stage) (x .change) (e ∙ k .layout) (λ p q h. settled (o .last) p q t [] (o .halted) shut h (λ z. refl) settled-right)
+            (free ∙ sym on) (told .quiet)
+        go false =
+            stands-change es (T .world .maps) s t (T .world .tables) o (x .stage) (x .change) (e ∙ k .layout)
+            (λ p q h. settled (o .last) p q t (o .listed) (o .halted) shut h (λ z. refl) settled-right) (free ∙ sym on)
+            (quiet-names (phaseIn (w .state)) (requestOf (w .state)) (w .pages) (o .op) shut (k .names))
+
+-- ---- a visibility change
+
+pub record Taken (w : World) (v : GuestVtl) (share : Bool) (l : List ℕ) : Type 0 where
+  pub fit : fits w ≡ true
+  pub idle : statusIn (w .state) ≡ 0
+  pub short : length l ≤ 4096
+  pub apart : repeats (pagesOf l) ≡ false
+  pub each : firstRefusal (pageRefusal (entriesIn (w .state)) (overlaysOf (w .tables) v) (locksOf (w .tables) v) share) (pagesOf l) ≡ 0
+
+pub taken : (w : World) (vtl visibility : ℕ) (l : List ℕ) → visibilityRefusal (w .state) (fits w) (w .tables) vtl visibility l ≡ 0 → Taken w (vtlOf vtl) (boolOf visibility) l
+unfolding visibilityRefusal
+taken w vtl visibility l z =
+    let a = passed (eqb (length (w .state)) stateLen) 3 _ z in
+    let b = status (statusIn (w .state)) _ (a .1) in
+    let c = passed (fits w) 3 _ (b .1) in
+    let d = passed (not (isLong l)) 4 _ (c .1) in
+    let e = passed (not (repeats (pagesOf l))) 5 _ (d .1) in
+    let f = passed (fitVtl vtl) 7 _ (e .1) in
+    let g = passed (fitBool visibility) 7 _ (f .1) in
+    let h = passed (not (isRagged l)) 7 _ (g .1) in
+    record { fit = c .0; idle = b .0; short = ltb-false 4096 (length l) (not-true (isLong l) (d .0)); apart = not-true (repeats (pagesOf l)) (e .0); each = h .1 }
+
+module _ (es : List MemoryRangeWithNode) (w : World) (o : Seen) (k : Stands es w o) (v : GuestVtl) (b : Bool) (l : List ℕ) (x : Taken w v b l) where
+  abbrev P : ℕ → Bool
+  P = wanted (w .maps .shared) b
+
+  abbrev ps : List ℕ
+  ps = take (stopOf w v b l) (pagesOf l)
+
+  abbrev Q : List ℕ
+  Q = askedFor w v b l
+
+  abbrev t : List ℕ
+  t = tableFor w v b l
+
+  page : (j : ℕ) → j < length Q → getD t j 0 ≡ getD Q j 0
+  page j h = sym (getD-take (length Q) t j 0 h) ∙ ap (λ (m : List ℕ). getD m j 0) (modify-pages w v b l)
+
+  named : (j : ℕ) → j < length Q → among (pagesOf l) (getD t j 0) ≡ true
+  named j h = ap (among (pagesOf l)) (page j h) ∙ among-take (stopOf w v b l) (pagesOf l) (getD Q j 0) (among-pick P ps (getD Q j 0) (among-own Q j h))
+
+  in-ram : (j : ℕ) → j < length Q → isRam es (getD t j 0) ≡ true
+  in-ram j h =
+      ap (λ (y : List MemoryRangeWithNode). isRam y (getD t j 0)) (sym (k .layout))
+      ∙ ram-page (entriesIn (w .state)) (overlaysOf (w .tables) v) (locksOf (w .tables) v) b (getD t j 0) (first-all _ (pagesOf l) (getD t j 0) (x .each) (named j h))
+
+  apart : (i j : ℕ) → i < length Q → j < length Q → getD t i 0 ≡ getD t j 0 → i ≡ j
+  apart i j h d e = places-apart Q (repeats-pick P ps (repeats-take (stopOf w v b l) (pagesOf l) (x .apart))) i j h d (sym (page i h) ∙ e ∙ page j d)
+
+  pub few : length Q ≤ 512
+  few = omega (arith, length-pick P ps, length-take (stopOf w v b l) (pagesOf l), pages-few l (x .short))
+
+  taken-stands : let T = visibilityTaken w v b l in Stands es (T .world) (seesCall (pagesOf l) (T .reply) (T .world .pages) o)
+  unfolding visibilityTaken carriedOut applied startOf flatOf askedOf
+  taken-stands =
+      let s : Settings = settingsOf (w .state) in
+      let stop : ℕ = stopOf w v b l in
+      let stopped : Bool = ltb stop (length (pagesOf l)) in
+      let T = visibilityTaken w v b l in
+      let made =
+      start-right (isRam es) (w .maps .private) (w .maps .shared) (phaseIn (w .state)) (requestOf (w .state)) (w .pages) (o .listed) (o .last) (settled-right es w o k (x .idle)) (shut es w o k (x .idle))
+      t (pagesOf l) (length Q) stop stopped (s .tracked) v apart in-ram named b (λ j h. ap P (page j h) ∙ holds P ps j h) in
+      let o′ : Seen = record { op = T .reply; table = t; halted = o .halted; listed = pagesOf l; last = o .last; age = o .age } in
+      stands-step es (T .world .maps) (w .state) t (w .tables) o′ at.Wait (asked v b (length Q) stop stopped) few (k .layout)
+      (subst (λ (h : Bool). Right (isRam es) (T .world .maps .private) (T .world .maps .shared) at.Wait (asked v b (length Q) stop stopped) t h (pagesOf l) (o .last)) (sym (free es w o k (x .idle))) made)
+      (free es w o k (x .idle)) refl (λ _. refl)
+
+pub visibility-stands : (es : List MemoryRangeWithNode) (w : World) (o : Seen) → Stands es w o → (vtl visibility : ℕ) (l : List ℕ)
+    → let X = visibilityOf w vtl visibility l in Stands es (X .world) (seesCall (pagesOf l) (X .reply) (X .world .pages) o)
+unfolding visibilityOf
+visibility-stands es w o k vtl visibility l =
+    called (Stands es) w o k (pagesOf l) (visibilityRefusal (w .state) (fits w) (w .tables) vtl visibility l) (visibilityTaken w (vtlOf vtl) (boolOf visibility) l)
+    (λ z. taken-stands es w o k (vtlOf vtl) (boolOf visibility) l (taken w vtl visibility l z))

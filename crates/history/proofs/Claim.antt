@@ -1,0 +1,227 @@
+-- A build that is taken: what stands of it, and THE CLAIM of every list of calls from it, wherever it stops. Assumes nothing.
+use Prim.Native.Nat.{ℕ, _-_, _*_, _/_, _<_, _≤_}
+use mathlib.Core.Path.{_≡_, refl, sym, ap, _∙_, subst}
+use mathlib.Core.List.{List}
+use mathlib.Core.Bool.{Bool, true, false, cond, _&&_}
+use native.Mathlib.Omega.{arith}
+use denote.Ref.{now}
+use lib.ListN.{length, replicate, length-replicate, length-append}
+use lib.Seq.{take-at}
+use lib.Dec.{eqb, ltb}
+use borrow.Author.Tests.{eqb-true, eqb-false, lt-ltb}
+use Rattle.laws.specs.Bools.{and-left, and-right, and-true}
+use Rattle.laws.specs.Refusal.{unless, passed}
+use Rattle.bitmap.proofs.Map.{length-written}
+use Rattle.layout.specs.declared.MemoryRangeWithNode.{MemoryRangeWithNode}
+use Rattle.layout.specs.Layout.{entriesOf, refusalOf, isRam, mapLen}
+use Rattle.layout.proofs.Laws.{Fit, fit, entries-count, page-in-map}
+use Rattle.permissions.specs.declared.IsolationType.{IsolationType}
+use Rattle.permissions.specs.Flags.{fitIsolation, isolationOf, fitBool, boolOf}
+use Rattle.acceptor.specs.Steps.{isSnp}
+use Rattle.mapping.specs.Maps.{fresh, marksFit, permissionLen, permissionsFit}
+use Rattle.mapping.proofs.Marks.{fresh-page}
+use Rattle.pages.specs.Pages.{among}
+use Rattle.protector_state.specs.declared.Reply.{Reply}
+use Rattle.protector_state.specs.State.{stateLen, firstPhases, phaseOf, builtState, entriesIn}
+use Rattle.protector.specs.World.{World, world, Outcome, pagesLen, tablesLen}
+use Rattle.protector.specs.Calls.{refusedBy, buildFits, buildRefusal, buildTaken, buildOf}
+use Rattle.history.specs.Seen.{Seen, unseen}
+use Rattle.history.specs.Marks.{Has, Marked, Holds}
+use Rattle.history.specs.History.{BuildCall, History}
+use Rattle.history.proofs.Bits.{clash}
+use Rattle.history.proofs.World.{Stands}
+use Rattle.history.specs.Answered.{given, Claim}
+use Rattle.history.proofs.Answered.{answered, composed}
+use Rattle.history.proofs.Calls.{status}
+use Rattle.history.proofs.Strays.{Whole}
+use Rattle.history.proofs.Histories.{Lent, lent-kept, history-keeps, stands-kept, Both, both-kept}
+use Rattle.history.proofs.Aging.{Snp}
+
+entries-built : (ram : List ℕ) (i t r : ℕ) → Fit ram → entriesIn (builtState ram i t r) ≡ entriesOf ram
+entries-built ram i t r k =
+    let n : length ram ≡ 3 * length (entriesOf ram) = omega (arith, k .divided, entries-count ram) in
+    ap entriesOf (take-at ram (replicate (96 - length ram) 0) (3 * length (entriesOf ram)) n)
+
+-- a map as a build leaves it
+length-fresh : (es : List MemoryRangeWithNode) (s : Bool) (n : ℕ) → length (fresh es s n) ≡ n
+length-fresh es s n = length-written 8 (isRam es) s (replicate n 0) ∙ length-replicate {A = ℕ} n 0
+
+fresh-has : (es : List MemoryRangeWithNode) (n z : ℕ) → isRam es z ≡ true → z / 8 < n → Has (fresh es true n) z
+fresh-has es n z r h = fresh-page es true n z ∙ ap (λ (b : Bool). cond b true false) (and-true (isRam es z) (ltb (z / 8) n) r (lt-ltb _ _ h))
+
+fresh-ram : (es : List MemoryRangeWithNode) (n z : ℕ) → Has (fresh es true n) z → isRam es z ≡ true
+fresh-ram es n z h = go (isRam es z) (ltb (z / 8) n) (sym (fresh-page es true n z) ∙ h)
+  where
+    go : (a b : Bool) → cond (a && b) true false ≡ true → a ≡ true
+    go true b e = refl
+    go false b e = e
+
+fresh-none : (es : List MemoryRangeWithNode) (n z : ℕ) → Has (fresh es false n) z → ⊥
+fresh-none es n z h = clash false (go (isRam es z && ltb (z / 8) n) ∙ sym (fresh-page es false n z) ∙ h) refl
+  where
+    go : (b : Bool) → false ≡ cond b false false
+    go true = refl
+    go false = refl
+
+module _ (u : World) (ram : List ℕ) (i t r : ℕ) (z : buildRefusal ram i t r (buildFits (mapLen (entriesOf ram)) t u) ≡ 0) where
+  abbrev es : List MemoryRangeWithNode
+  es = entriesOf ram
+
+  well : Fit ram
+  unfolding buildRefusal
+  well = fit ram (eqb-true _ _ (layout-passed (refusalOf ram) _ z))
+    where
+      layout-passed : (n rest : ℕ) → unless (eqb n 0) n rest ≡ 0 → eqb n 0 ≡ true
+      layout-passed n rest h = go (eqb n 0) refl h
+        where
+          go : (b : Bool) → eqb n 0 ≡ b → cond b rest n ≡ 0 → eqb n 0 ≡ true
+          go true e h = e
+          go false e h = absurd (eqb-false n 0 e h)
+
+  lengths : buildFits (mapLen es) t u ≡ true
+  unfolding buildRefusal
+  lengths =
+      let a = status (refusalOf ram) _ z in
+      let b = passed (fitIsolation i) 2 _ a in
+      passed (buildFits (mapLen es) t u) 3 _ (b .1) .0
+    where
+      status : (n rest : ℕ) → unless (eqb n 0) n rest ≡ 0 → rest ≡ 0
+      status n rest h = go (eqb n 0) refl h
+        where
+          go : (b : Bool) → eqb n 0 ≡ b → cond b rest n ≡ 0 → rest ≡ 0
+          go true e h = h
+          go false e h = absurd (eqb-false n 0 e h)
+
+  marks-fit : marksFit (mapLen es) (length (u .maps .private)) (length (u .maps .shared)) ≡ true
+  marks-fit = and-left _ _ lengths
+
+  long-private : length (u .maps .private) ≡ mapLen es
+  long-private = eqb-true _ _ (and-left _ _ marks-fit)
+
+  long-shared : length (u .maps .shared) ≡ mapLen es
+  long-shared = eqb-true _ _ (and-right (eqb (length (u .maps .private)) (mapLen es)) _ marks-fit)
+
+  built-stands : Stands es (buildTaken u ram i t r .world) unseen
+  unfolding buildTaken phaseOf firstPhases
+  built-stands =
+      record {
+        layout = entries-built ram i t r well;
+        right =
+            record {
+              room-private = λ z r. omega (arith, length-fresh es true (length (u .maps .private)), long-private, page-in-map ram z well r);
+              room-shared = λ z r. omega (arith, length-fresh es false (length (u .maps .shared)), long-shared, page-in-map ram z well r);
+              private-ram = λ z h. fresh-ram es (length (u .maps .private)) z h;
+              shared-ram = λ z h. absurd (fresh-none es (length (u .maps .shared)) z h);
+              only-private = λ z h. refl;
+              only-shared = λ z h. absurd (fresh-none es (length (u .maps .shared)) z h);
+              full = λ z r a off. (λ _. fresh-has es (length (u .maps .private)) z r (omega (arith, long-private, page-in-map ram z well r)), λ e. clash false e refl);
+              bare = λ e. clash false e refl;
+              once = λ e. clash false e refl;
+              toward = λ e. clash false e refl;
+              within = λ e. clash false e refl;
+              named = λ e. clash false e refl;
+            };
+        halts = refl;
+        names = refl;
+        table = λ e. clash false e refl;
+      }
+
+  -- and the lengths
+  short-ram : length ram ≤ 96
+  short-ram = omega (arith, well .divided, well .few, entries-count ram)
+
+  tracked-fit : fitBool t ≡ true
+  unfolding buildRefusal
+  tracked-fit =
+      let b = passed (fitIsolation i) 2 _ (status (refusalOf ram) _ z .1) in
+      let c = passed (buildFits (mapLen es) t u) 3 _ (b .1) in
+      passed (fitBool t) 7 _ (c .1) .0
+
+  abbrev mapsFit : Bool
+  mapsFit = permissionsFit (permissionLen (mapLen es) (boolOf t)) (length (u .maps .permissions .read)) (length (u .maps .permissions .write)) (length (u .maps .permissions .kernel)) (length (u .maps .permissions .user))
+
+  maps-fit : mapsFit ≡ true
+  maps-fit = subst (λ (b : Bool). cond b mapsFit true ≡ true) tracked-fit (and-left _ _ (and-right (marksFit (mapLen es) (length (u .maps .private)) (length (u .maps .shared))) _ lengths))
+
+  runs-fit : (eqb (length (u .state)) stateLen && (eqb (length (u .pages)) pagesLen && eqb (length (u .tables)) tablesLen)) ≡ true
+  runs-fit = and-right (cond (fitBool t) mapsFit true) _ (and-right (marksFit (mapLen es) (length (u .maps .private)) (length (u .maps .shared))) _ lengths)
+
+  built-long : length (builtState ram i t r) ≡ stateLen
+  built-long = omega (arith, length-append ram (replicate (96 - length ram) 0), length-replicate {A = ℕ} (96 - length ram) 0, short-ram)
+
+  built-whole : Whole (buildTaken u ram i t r .world)
+  unfolding buildTaken
+  built-whole =
+      record {
+        long = built-long;
+        fit =
+            rw (entries-built ram i t r well, length-fresh es true (length (u .maps .private)), length-fresh es false (length (u .maps .shared)), length-fresh es true (length (u .maps .permissions .read)), length-fresh es true (length (u .maps .permissions .write)), length-fresh es true (length (u .maps .permissions .kernel)), length-fresh es true (length (u .maps .permissions .user)), length-replicate {A = ℕ} (length (u .pages)) 0, length-replicate {A = ℕ} (length (u .tables)) 0)
+            (and-true _ _ (and-true _ _ marks-fit maps-fit) (and-right (eqb (length (u .state)) stateLen) _ runs-fit));
+      }
+
+-- a build whose reply has no number of a refusal was taken
+pub build-taken : (u w : World) (ram : List ℕ) (i t r : ℕ) (reply : Reply) → given w reply ≡ buildOf u ram i t r → reply .number ≡ 0
+    → (buildRefusal ram i t r (buildFits (mapLen (entriesOf ram)) t u) ≡ 0) × (buildTaken u ram i t r .world ≡ w)
+unfolding buildOf
+build-taken u w ram i t r reply e d = go (eqb n 0) refl e
+  where
+    n : ℕ
+    n = buildRefusal ram i t r (buildFits (mapLen (entriesOf ram)) t u)
+
+    go : (b : Bool) → eqb n 0 ≡ b → given w reply ≡ cond b (buildTaken u ram i t r) (refusedBy u n) → (n ≡ 0) × (buildTaken u ram i t r .world ≡ w)
+    go true h e = (eqb-true n 0 h, ap (λ (X : Outcome). X .world) (sym e))
+    go false h e = absurd (eqb-false n 0 h (sym (ap (λ (X : Outcome). X .reply .number) e) ∙ d))
+
+built-aged : (u : World) (ram : List ℕ) (i t r : ℕ) → isSnp (isolationOf i) ≡ true → Snp (buildTaken u ram i t r .world) unseen
+unfolding buildTaken phaseOf firstPhases
+built-aged u ram i t r e =
+    record { snp = e; ages = record { settled = λ z h. refl; long = λ o. clash false o refl; came = λ o. clash false o refl; past = λ o. clash false o refl; valid = λ o. clash false o refl } }
+
+-- what stands says of the marks
+pub stands-marked : (es : List MemoryRangeWithNode) (w : World) (o : Seen) → Stands es w o → Marked es (w .maps) o
+stands-marked es w o k =
+    let g = k .right in
+    record {
+      exact = λ z r off. g .full z r (λ j a b d y. clash (among (o .listed) z) (ap (among (o .listed)) (sym y) ∙ g .named a j b d) off) (λ _. off);
+      private-right = g .only-private;
+      shared-right = g .only-shared;
+      never-both = λ z a b. clash (o .last z) (g .only-shared z b) (g .only-private z a);
+      private-ram = g .private-ram;
+      shared-ram = g .shared-ram;
+    }
+
+-- of every list of calls from any world that meets the invariant, whatever was seen before
+pub holds-from : (es : List MemoryRangeWithNode) (i : IsolationType) {w v : World} {a o : Seen} → Stands es w a → (isSnp i ≡ true → Snp w a) → History w a v o → Holds es i (v .maps) o
+holds-from es i {w} {v} {a} {o} k f h =
+    record {
+      marks = stands-marked es v o (history-keeps (Stands es) (stands-kept es) h k);
+      settled = λ e. history-keeps (Both es) (both-kept es) h (record { stands = k; ages = f e }) .ages .ages .settled;
+    }
+
+-- THE CLAIM, of every list of calls of the protector's entries from a build that was taken, refused calls among them, wherever it stops: each call gave what
+-- its definition gives of what it was lent; the marks are what the hypervisor last took; and on SNP a page is marked private only if it was never returned,
+-- or validated and then zeroed since its return
+module _ {u w v : World} {o : Seen} (b : BuildCall u w) (d : b .result .number ≡ 0) (h : History w unseen v o) where
+  abbrev ram : List ℕ
+  ram = now (b .args .0)
+
+  build-is : given w (b .result) ≡ buildOf u ram (b .args .1 .0) (b .args .1 .1 .0) (b .args .1 .1 .1 .0)
+  build-is = rw (b .left, b .given) (b .contract)
+
+  was : (buildRefusal ram (b .args .1 .0) (b .args .1 .1 .0) (b .args .1 .1 .1 .0) (buildFits (mapLen (entriesOf ram)) (b .args .1 .1 .0) u) ≡ 0) × (buildTaken u ram (b .args .1 .0) (b .args .1 .1 .0) (b .args .1 .1 .1 .0) .world ≡ w)
+  was = build-taken u w ram (b .args .1 .0) (b .args .1 .1 .0) (b .args .1 .1 .1 .0) (b .result) build-is d
+
+  starts : Stands (entriesOf ram) w unseen
+  starts = subst (λ (w : World). Stands (entriesOf ram) w unseen) (was .1) (built-stands u ram (b .args .1 .0) (b .args .1 .1 .0) (b .args .1 .1 .1 .0) (was .0))
+
+  ages : isSnp (isolationOf (b .args .1 .0)) ≡ true → Snp w unseen
+  ages e = subst (λ (w : World). Snp w unseen) (was .1) (built-aged u ram (b .args .1 .0) (b .args .1 .1 .0) (b .args .1 .1 .1 .0) e)
+
+  pub calls-hold : Claim b h
+  calls-hold = record { built = build-is; answered = answered h; composed = composed h; holds = holds-from (entriesOf ram) (isolationOf (b .args .1 .0)) starts ages h }
+
+  -- and what was last left has its lengths
+  pub lengths-hold : Whole v
+  lengths-hold =
+      let first : Whole w = subst (λ (w : World). Whole w) (was .1) (built-whole u ram (b .args .1 .0) (b .args .1 .1 .0) (b .args .1 .1 .1 .0) (was .0)) in
+      history-keeps (Lent (entriesOf ram)) (lent-kept (entriesOf ram)) h (record { stands = starts; whole = first }) .whole

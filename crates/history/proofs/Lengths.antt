@@ -1,0 +1,187 @@
+-- What is lent keeps its lengths, whatever a call writes into it. Assumes nothing.
+use native.Mathlib.Omega.{arith}
+use Prim.Native.Nat.{ℕ, zero, suc, _+_, _-_, _*_, _<_}
+use mathlib.Core.Path.{_≡_, refl, sym, ap, _∙_}
+use mathlib.Core.List.{List, _∷_, _++_}
+use mathlib.Core.Bool.{Bool, true, false, cond}
+use lib.Dec.{ltb}
+use lib.ListN.{length, take, drop, set, getD, length-set, length-append, length-drop, take-append-drop}
+use lib.Seq.{sets, length-sets, drop-drop, getD-drop, getD-set-other}
+use Rattle.words.specs.Words.{closed, swapped}
+use Rattle.words.proofs.Padded.{length-padded}
+use Rattle.bitmap.proofs.Map.{length-written}
+use Rattle.layout.specs.declared.MemoryRangeWithNode.{MemoryRangeWithNode}
+use Rattle.permissions.specs.Flags.{vtlNumber, boolOf}
+use Rattle.overlays.specs.declared.OverlayPage.{OverlayPage}
+use Rattle.overlays.specs.Overlays.{isOverlay, used, placeOf, wordsOf, entry, addWords}
+use Rattle.locks.specs.Locks as locks
+use Rattle.defaults.specs.Pieces.{privateRam}
+use Rattle.defaults.specs.Renewed.{renewedAt, renewedFrom}
+use Rattle.request.specs.Request.{put}
+use Rattle.acceptor.specs.declared.Phase.{Phase}
+use Rattle.acceptor.specs.declared.Request.{Request}
+use Rattle.acceptor.specs.declared.Step.{Step}
+use Rattle.changes.specs.declared.Stage.{Stage}
+use Rattle.changes.specs.declared.Entry.{Entry}
+use Rattle.changes.specs.declared.Entry.the-variants.{Keep, Add, Remove}
+use Rattle.changes.specs.declared.Change.{Change}
+use Rattle.changes.specs.declared.ChangeStep.{ChangeStep}
+use Rattle.protector_state.specs.State.{stateLen, requestWords, withRequest, settingsOf, entriesIn}
+use Rattle.change_state.specs.State.{changeWords, withChange}
+use Rattle.protector.specs.World.{World, world, overlaysOf, applied, withoutPage, entered}
+use Rattle.protector.specs.Calls.{carriedOut, carriedChange}
+use Rattle.history.proofs.World.{request-entries, change-entries}
+use Rattle.history.proofs.Calls.{set-entries}
+use Rattle.history.proofs.Strays.{Whole}
+
+-- ---- runs of words
+
+split-long : (n : ℕ) (l : List ℕ) → length (take n l) + length (drop n l) ≡ length l
+split-long n l = sym (length-append (take n l) (drop n l)) ∙ ap length (take-append-drop n l)
+
+swapped-long : (t : List ℕ) (a n m : ℕ) → length (swapped t a n m) ≡ length t
+unfolding swapped
+swapped-long t a n m =
+    let d : List ℕ = drop a t in
+    let e : List ℕ = drop n d in
+    omega (arith, length-append (take a t) (take m e ++ (take n d ++ drop m e)), length-append (take m e) (take n d ++ drop m e), length-append (take n d) (drop m e), split-long a t, split-long n d, split-long m e)
+
+closed-long : (t : List ℕ) (a n : ℕ) → length (closed t a n) ≡ length t
+unfolding closed
+closed-long t a n =
+    length-padded (length t) (take a t ++ drop n (drop a t)) (omega (arith, length-append (take a t) (drop n (drop a t)), split-long a t, split-long n (drop a t)))
+
+either-long : (b : Bool) (n : ℕ) (x y : List ℕ) → length x ≡ n → length y ≡ n → length (cond b x y) ≡ n
+either-long true n x y e f = e
+either-long false n x y e f = f
+
+add-long : (t : List ℕ) (e : OverlayPage) → length (addWords t e) ≡ length t
+add-long t e =
+    let r : List ℕ = sets t (1 + 5 * used t) (wordsOf e) in
+    either-long (ltb (used t) 128) (length t) (set r 0 (used t + 1)) t (length-set r 0 (used t + 1) ∙ length-sets t (1 + 5 * used t) (wordsOf e)) refl
+
+without-long : (t : List ℕ) (p : ℕ) → length (withoutPage t p) ≡ length t
+without-long t p =
+    let r : List ℕ = closed t (placeOf t p) 5 in
+    either-long (isOverlay t p) (length t) (set r 0 (used t - 1)) t (length-set r 0 (used t - 1) ∙ closed-long t (placeOf t p) 5) refl
+
+pub renewed-long : (m : List ℕ) (es : List MemoryRangeWithNode) (bits : ℕ) (t : List ℕ) (k o : ℕ) → length (renewedFrom m es bits t k o) ≡ length t
+unfolding renewedFrom
+renewed-long m es bits t zero o = refl
+renewed-long m es bits t (suc k) o =
+    renewed-long m es bits (renewedAt m es bits t o) k (o + 5)
+    ∙ either-long (privateRam m es (getD t o 0)) (length t) (set t (o + 1) bits) t (length-set t (o + 1) bits) refl
+
+pub lock-long : (t l : List ℕ) → length (locks.lockWords t l) ≡ length t
+lock-long t l =
+    let r : List ℕ = sets t (locks.endFrom t (locks.used t) 1) (length l ∷ l) in
+    either-long (locks.roomFor (locks.listsOf t) (length l)) (length t) (set r 0 (locks.used t + 1)) t (length-set r 0 (locks.used t + 1) ∙ length-sets t (locks.endFrom t (locks.used t) 1) (length l ∷ l)) refl
+
+lock-gone-long : (t : List ℕ) (o : ℕ) → length (locks.without t o) ≡ length t
+unfolding locks.without
+lock-gone-long t o =
+    let e : ℕ = locks.nextAt t o in
+    let r : List ℕ = locks.lastTo t e in
+    length-set (closed r o (e - o)) 0 (locks.used t - 1) ∙ closed-long r o (e - o) ∙ swapped-long t e _ _
+
+pub unlock-long : (t l : List ℕ) → length (locks.unlockWords t l) ≡ length t
+unlock-long t l =
+    let o : ℕ = locks.placeFrom t (locks.used t) 1 l in
+    either-long (locks.kept (locks.listsOf t) l) (length t) (locks.without t o) t (lock-gone-long t o) refl
+
+-- other words in place of a part
+pub replaced-long : (a n : ℕ) (t x : List ℕ) → length x ≡ length (take n (drop a t)) → length (take a t ++ (x ++ drop (a + n) t)) ≡ length t
+replaced-long a n t x e =
+    omega (arith, length-append (take a t) (x ++ drop (a + n) t), length-append x (drop (a + n) t), split-long a t, split-long n (drop a t), ap length (drop-drop n a t), e)
+
+entered-long : (e : Entry) (q : Change) (t : List ℕ) → length (entered e q t) ≡ length t
+unfolding entered
+entered-long Keep q t = refl
+entered-long Add q t = replaced-long (641 * vtlNumber (q .vtl)) 641 t (addWords (overlaysOf t (q .vtl)) (entry (q .at) (q .previous) (q .flags) 1 (q .source))) (add-long (overlaysOf t (q .vtl)) (entry (q .at) (q .previous) (q .flags) 1 (q .source)))
+entered-long Remove q t = replaced-long (641 * vtlNumber (q .vtl)) 641 t (withoutPage (overlaysOf t (q .vtl)) (q .at)) (without-long (overlaysOf t (q .vtl)) (q .at))
+
+-- ---- two worlds whose lengths, layout and tracking are the same
+
+pub record Same (w v : World) : Type 0 where
+  pub state : length (v .state) ≡ length (w .state)
+  pub entries : entriesIn (v .state) ≡ entriesIn (w .state)
+  pub tracked : settingsOf (v .state) .tracked ≡ settingsOf (w .state) .tracked
+  pub private : length (v .maps .private) ≡ length (w .maps .private)
+  pub shared : length (v .maps .shared) ≡ length (w .maps .shared)
+  pub read : length (v .maps .permissions .read) ≡ length (w .maps .permissions .read)
+  pub write : length (v .maps .permissions .write) ≡ length (w .maps .permissions .write)
+  pub kernel : length (v .maps .permissions .kernel) ≡ length (w .maps .permissions .kernel)
+  pub user : length (v .maps .permissions .user) ≡ length (w .maps .permissions .user)
+  pub pages : length (v .pages) ≡ length (w .pages)
+  pub tables : length (v .tables) ≡ length (w .tables)
+
+pub same-whole : (w v : World) → Same w v → Whole w → Whole v
+same-whole w v s k =
+    record { long = s .state ∙ k .long; fit = rw (s .entries, s .tracked, s .private, s .shared, s .read, s .write, s .kernel, s .user, s .pages, s .tables) (k .fit) }
+
+-- ---- a step carried out
+
+request-long : (p : Phase) (q : Request) (s : List ℕ) → length s ≡ stateLen → length (withRequest p q s) ≡ length s
+request-long p q s e = length-append (requestWords p q) (drop 10 s) ∙ omega (arith, length-drop 10 s, e)
+
+change-long : (g : Stage) (q : Change) (s : List ℕ) → length s ≡ stateLen → length (withChange g q s) ≡ length s
+change-long g q s e = length-append (changeWords g q) (drop 14 s) ∙ omega (arith, length-drop 14 s, e)
+
+pub step-whole : (w : World) (t : List ℕ) (x : Step) → length t ≡ length (w .pages) → Whole w → Whole (carriedOut w t x .world)
+unfolding carriedOut applied put
+step-whole w t x e k =
+    same-whole w _
+    (record {
+      state = request-long (x .phase) (x .request) (w .state) (k .long);
+      entries = request-entries (x .phase) (x .request) (w .state);
+      tracked = ap boolOf (getD-drop 10 (w .state) 7 0);
+      private = length-written 8 _ _ (w .maps .private);
+      shared = length-written 8 _ _ (w .maps .shared);
+      read = length-written 8 _ _ (w .maps .permissions .read);
+      write = length-written 8 _ _ (w .maps .permissions .write);
+      kernel = length-written 8 _ _ (w .maps .permissions .kernel);
+      user = length-written 8 _ _ (w .maps .permissions .user);
+      pages = e;
+      tables = refl;
+    }) k
+
+pub change-whole : (w : World) (t : List ℕ) (x : ChangeStep) → length t ≡ length (w .pages) → Whole w → Whole (carriedChange w t x .world)
+unfolding carriedChange
+change-whole w t x e k =
+    same-whole w _
+    (record {
+      state = change-long (x .stage) (x .change) (w .state) (k .long);
+      entries = change-entries (x .stage) (x .change) (w .state);
+      tracked = ap boolOf (getD-drop 14 (w .state) 3 0);
+      private = refl;
+      shared = refl;
+      read = length-written 8 _ _ (w .maps .permissions .read);
+      write = length-written 8 _ _ (w .maps .permissions .write);
+      kernel = length-written 8 _ _ (w .maps .permissions .kernel);
+      user = length-written 8 _ _ (w .maps .permissions .user);
+      pages = e;
+      tables = entered-long (x .entry) (x .change) (w .tables);
+    }) k
+
+-- ---- other tables, and another word of the state block
+
+pub tables-whole : (w : World) (t : List ℕ) → length t ≡ length (w .tables) → Whole w → Whole (world (w .maps) (w .state) (w .pages) t)
+tables-whole w t e k =
+    same-whole w _ (record { state = refl; entries = refl; tracked = refl; private = refl; shared = refl; read = refl; write = refl; kernel = refl; user = refl; pages = refl; tables = e }) k
+
+pub set-whole : (w : World) (i x : ℕ) → 17 < i → i < 31 → Whole w → Whole (world (w .maps) (set (w .state) i x) (w .pages) (w .tables))
+set-whole w i x low high k =
+    same-whole w _
+    (record {
+      state = length-set (w .state) i x;
+      entries = set-entries (w .state) i x (omega (arith, low)) high;
+      tracked = ap boolOf (getD-set-other (w .state) i 17 x 0 (λ e. omega arith));
+      private = refl;
+      shared = refl;
+      read = refl;
+      write = refl;
+      kernel = refl;
+      user = refl;
+      pages = refl;
+      tables = refl;
+    }) k

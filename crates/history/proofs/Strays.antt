@@ -1,0 +1,153 @@
+-- A call that is lent something of another length is refused: it writes nothing, and nothing is seen to change. Assumes nothing.
+use Prim.Native.Nat.{ℕ}
+use mathlib.Core.Path.{_≡_, refl, sym, ap, _∙_, subst}
+use mathlib.Core.List.{List}
+use mathlib.Core.Bool.{Bool, true, false, cond}
+use lib.ListN.{length}
+use lib.Dec.{eqb}
+use borrow.Author.Tests.{eqb-true, ne-eqb}
+use Rattle.laws.specs.Refusal.{unless, passed}
+use Rattle.permissions.specs.Flags.{vtlOf}
+use Rattle.protector_state.specs.declared.Reply.{Reply}
+use Rattle.protector_state.specs.State.{stateLen}
+use Rattle.protector.specs.World.{World, Outcome, tablesLen, fits, statusIn, takesIn}
+use Rattle.protector.specs.Calls.{refusedBy, decided, visibilityRefusal, answerRefusal}
+use Rattle.vtl_protections.specs.Calls.{defaultRefusal, protectionRefusal}
+use Rattle.overlay_tests.specs.Refusals.{callRefusal, registerRefusal, unregisterRefusal}
+use Rattle.overlay_pages.specs.Calls.{currentIn}
+use Rattle.pages.specs.Pages.{pagesOf}
+use Rattle.locked_pages.specs.Calls.{ended, lockRefusal, lockTaken, lockOf, unlockTaken, unlockOf}
+use Rattle.vtl1_protections.specs.Calls.{stateRefusal, enableRefusal, enableOf}
+use Rattle.visibility_claims.specs.Whole.{Given}
+use Rattle.history.specs.Seen.{Seen, seesTaken, seesAnswer, seesCall}
+use Rattle.history.specs.History.{Stray, block, other, StrayLock, lockBlock, lockTables}
+use Rattle.history.proofs.Bits.{clash}
+use Rattle.history.proofs.Answers.{chain, counts, chain-untaken}
+use Rattle.history.proofs.Calls.{status}
+
+-- a state block of its length, and all else as it should be
+pub record Whole (x : World) : Type 0 where
+  pub long : length (x .state) ≡ stateLen
+  pub fit : fits x ≡ true
+
+pub not-whole : (u x : World) → Stray u x → Whole x → ⊥
+not-whole u x (block f) k = f (k .long)
+not-whole u x (other e f) k = clash (fits x) (k .fit) f
+
+begins : (x : World) (rest : ℕ) → unless (eqb (length (x .state)) stateLen) 4 (unless (eqb (statusIn (x .state)) 0) (statusIn (x .state)) (unless (fits x) 4 rest)) ≡ 0 → Whole x
+begins x rest z =
+    let a = passed (eqb (length (x .state)) stateLen) 3 _ z in
+    let b = status (statusIn (x .state)) _ (a .1) in
+    record { long = eqb-true _ _ (a .0); fit = passed (fits x) 3 _ (b .1) .0 }
+
+pub visibility-whole : (x : World) (vtl visibility : ℕ) (l : List ℕ) → visibilityRefusal (x .state) (fits x) (x .tables) vtl visibility l ≡ 0 → Whole x
+unfolding visibilityRefusal
+visibility-whole x vtl visibility l z = begins x _ z
+
+pub protection-whole : (x : World) (vtl flags : ℕ) (l : List ℕ) → protectionRefusal (x .state) (fits x) (x .maps .shared) (x .tables) vtl flags l ≡ 0 → Whole x
+unfolding protectionRefusal
+protection-whole x vtl flags l z = begins x _ z
+
+pub default-whole : (x : World) (vtl flags : ℕ) → defaultRefusal (x .state) (fits x) vtl flags ≡ 0 → Whole x
+unfolding defaultRefusal
+default-whole x vtl flags z = begins x _ z
+
+call-whole : (x : World) (vtl rest : ℕ) → callRefusal (x .state) (fits x) vtl rest ≡ 0 → Whole x
+unfolding callRefusal
+call-whole x vtl rest z = begins x _ z
+
+pub register-whole : (x : World) (vtl p source checked new : ℕ)
+    → registerRefusal (x .state) (fits x) (x .maps .shared) (x .tables) (currentIn x (vtlOf vtl) p source) vtl p source checked new ≡ 0 → Whole x
+unfolding registerRefusal
+register-whole x vtl p source checked new z = call-whole x vtl _ z
+
+pub unregister-whole : (x : World) (vtl p : ℕ) → unregisterRefusal (x .state) (fits x) (x .tables) vtl p ≡ 0 → Whole x
+unfolding unregisterRefusal
+unregister-whole x vtl p z = call-whole x vtl _ z
+
+-- a call refused so
+module _ (u x : World) (n : ℕ) (T : Outcome) (f : n ≡ 0 → Whole x) (s : Stray u x) where
+  pub refused-stray : decided x n T ≡ refusedBy x n
+  refused-stray = ap (λ (b : Bool). cond b T (refusedBy x n)) (ne-eqb n 0 (λ z. not-whole u x s (f z)))
+
+  -- it writes nothing
+  pub call-kept : (y : World) (r : Reply) → record { world = y; reply = r } ≡ decided x n T → y ≡ x
+  call-kept y r e = ap (λ (X : Outcome). X .world) (e ∙ refused-stray)
+
+  pub call-stray : (K : Seen → Type 0) (o : Seen) (ps : List ℕ) → K o → K (seesCall ps (decided x n T .reply) (decided x n T .world .pages) o)
+  call-stray K o ps k = subst (λ (X : Outcome). K (seesCall ps (X .reply) (X .world .pages) o)) (sym refused-stray) k
+
+-- an answer refused so
+module _ (u x : World) (o : Seen) (halts : o .halted ≡ eqb (statusIn (u .state)) 20) (failed : Bool) (T : Outcome) (s : Stray u x) where
+  abbrev A : Bool
+  A = eqb (length (x .state)) stateLen
+
+  abbrev H : Bool
+  H = eqb (statusIn (x .state)) 20
+
+  abbrev D : Bool
+  D = takesIn (x .state) failed
+
+  nonzero : (a h c d : Bool) → ((a ≡ true) → (c ≡ true) → ⊥) → eqb (chain a h c d) 0 ≡ false
+  nonzero false h c d f = refl
+  nonzero true true c d f = refl
+  nonzero true false false d f = refl
+  nonzero true false true d f = absurd (f refl refl)
+
+  -- it gives 4, or 20 where the state block says so
+  untaken : Stray u x → counts (o .halted) (chain A H (fits x) D) ≡ false
+  untaken (block f) = ap (λ (a : Bool). counts (o .halted) (chain a H (fits x) D)) (ne-eqb (length (x .state)) stateLen f) ∙ shut (o .halted)
+    where
+      shut : (h : Bool) → counts h 4 ≡ false
+      shut true = refl
+      shut false = refl
+  untaken (other e f) =
+      ap (λ (h : Bool). counts h (chain A H (fits x) D)) (halts ∙ ap (λ (s : List ℕ). eqb (statusIn s) 20) (sym e))
+      ∙ chain-untaken A H (fits x) D (nonzero A H (fits x) D (λ _ c. clash (fits x) c f))
+
+  taken-not : eqb (chain A H (fits x) D) 0 ≡ false
+  taken-not = nonzero A H (fits x) D (λ a c. not-whole u x s (record { long = eqb-true _ _ a; fit = c }))
+
+  pub refused-answer : decided x (answerRefusal (x .state) (fits x) failed) T ≡ refusedBy x (answerRefusal (x .state) (fits x) failed)
+  unfolding answerRefusal
+  refused-answer = ap (λ (b : Bool). cond b T (refusedBy x (chain A H (fits x) D))) taken-not
+
+  pub answer-kept : (y : World) (r : Reply) → record { world = y; reply = r } ≡ decided x (answerRefusal (x .state) (fits x) failed) T → y ≡ x
+  answer-kept y r e = ap (λ (X : Outcome). X .world) (e ∙ refused-answer)
+
+  pub answer-stray : (K : Seen → Type 0) (g : Given) → K o
+      → K (seesAnswer g (decided x (answerRefusal (x .state) (fits x) failed) T .reply) (decided x (answerRefusal (x .state) (fits x) failed) T .world .pages) o)
+  unfolding answerRefusal
+  answer-stray K g k =
+      subst (λ (X : Outcome). K (seesAnswer g (X .reply) (X .world .pages) o)) (sym refused-answer)
+      (subst (λ (b : Bool). K (cond b (seesTaken g (refusedBy x (chain A H (fits x) D) .reply) (x .pages) o) o)) (sym (untaken s)) k)
+
+-- ---- locks and the setter, the same
+
+lock-refused : (u x : World) (vtl : ℕ) (l : List ℕ) → StrayLock u x → lockRefusal (x .state) (length (x .tables)) vtl l ≡ 0 → ⊥
+unfolding lockRefusal
+lock-refused u x vtl l s z =
+    let a = passed (eqb (length (x .state)) stateLen) 3 _ z in
+    let b = status (statusIn (x .state)) _ (a .1) in
+    let c = passed (eqb (length (x .tables)) tablesLen) 3 _ (b .1) in
+    go s (eqb-true _ _ (a .0)) (eqb-true _ _ (c .0))
+  where
+    go : StrayLock u x → length (x .state) ≡ stateLen → length (x .tables) ≡ tablesLen → ⊥
+    go (lockBlock f) d e = f d
+    go (lockTables _ f) d e = f e
+
+pub lock-kept : (u x : World) (vtl : ℕ) (l : List ℕ) → StrayLock u x → lockOf (x .state) (x .tables) vtl l .tables ≡ x .tables
+unfolding lockOf
+lock-kept u x vtl l s =
+    ap (λ (b : Bool). cond b (lockTaken (x .tables) (vtlOf vtl) (pagesOf l)) (ended (x .tables) (lockRefusal (x .state) (length (x .tables)) vtl l)) .tables)
+    (ne-eqb (lockRefusal (x .state) (length (x .tables)) vtl l) 0 (lock-refused u x vtl l s))
+
+pub unlock-kept : (u x : World) (vtl : ℕ) (l : List ℕ) → StrayLock u x → unlockOf (x .state) (x .tables) vtl l .tables ≡ x .tables
+unfolding unlockOf
+unlock-kept u x vtl l s =
+    ap (λ (b : Bool). cond b (unlockTaken (x .tables) (vtlOf vtl) (pagesOf l)) (ended (x .tables) (lockRefusal (x .state) (length (x .tables)) vtl l)) .tables)
+    (ne-eqb (lockRefusal (x .state) (length (x .tables)) vtl l) 0 (lock-refused u x vtl l s))
+
+pub enable-kept : (s : List ℕ) → (length s ≡ stateLen → ⊥) → enableOf s .state ≡ s
+unfolding enableOf enableRefusal stateRefusal
+enable-kept s f = rw (ne-eqb (length s) stateLen f)

@@ -1,0 +1,56 @@
+-- The claim at a stop (01, "The request under way", "Bitmaps"): the marks against what the hypervisor last took.
+use mathlib.Core.Path.{_≡_}
+use mathlib.Core.Bool.{Bool, true, false}
+use mathlib.Core.List.{List, []}
+use Prim.Native.Nat.{ℕ}
+use Rattle.bitmap.specs.Pages.{bitAt}
+use Rattle.layout.specs.declared.MemoryRangeWithNode.{MemoryRangeWithNode}
+use Rattle.layout.specs.Layout.{refusalOf, isRam}
+use Rattle.permissions.specs.declared.IsolationType.{IsolationType}
+use Rattle.acceptor.specs.Steps.{isSnp}
+use Rattle.pages.specs.Pages.{among}
+use Rattle.mapping.specs.Maps.{Maps}
+use Rattle.protector_state.specs.State.{ramOf, entriesIn}
+use Rattle.protector_state.specs.Reply.{finished}
+use Rattle.protector.specs.World.{World, fits, statusIn}
+use Rattle.history.specs.Seen.{Seen, Age, Never, Returned, Validated, Zeroed}
+
+-- a page's mark in a map
+abbrev pub Has : List ℕ → ℕ → Type 0
+Has m z = bitAt 8 m z ≡ true
+
+-- a page that was never returned, or validated and then zeroed since it was
+abbrev pub isSettled : Age → Bool
+isSettled Never = true
+isSettled Returned = false
+isSettled Validated = false
+isSettled Zeroed = true
+
+pub record Marked (es : List MemoryRangeWithNode) (m : Maps) (o : Seen) : Type 0 where
+  -- a RAM page not listed by the visibility change under way, nor by the one that halted
+  pub exact : (z : ℕ) → isRam es z ≡ true → among (o .listed) z ≡ false → (o .last z ≡ false → Has (m .private) z) × (o .last z ≡ true → Has (m .shared) z)
+  -- any page: a mark says what was last taken
+  pub private-right : (z : ℕ) → Has (m .private) z → o .last z ≡ false
+  pub shared-right : (z : ℕ) → Has (m .shared) z → o .last z ≡ true
+  pub never-both : (z : ℕ) → Has (m .private) z → Has (m .shared) z → ⊥
+  pub private-ram : (z : ℕ) → Has (m .private) z → isRam es z ≡ true
+  pub shared-ram : (z : ℕ) → Has (m .shared) z → isRam es z ≡ true
+
+-- the whole claim at a stop: the marks, and on SNP a page is marked private only if it was never returned, or validated and then zeroed since its return
+pub record Holds (es : List MemoryRangeWithNode) (i : IsolationType) (m : Maps) (o : Seen) : Type 0 where
+  pub marks : Marked es m o
+  pub settled : isSnp i ≡ true → (z : ℕ) → Has (m .private) z → isSettled (o .age z) ≡ true
+
+-- ---- a list may begin where nothing is under way and each RAM page has one mark: what was last taken is then read off the marks
+
+abbrev pub readOff : Maps → Seen
+readOff m = record { op = finished 0 0 0 0; table = []; halted = false; listed = []; last = λ z. bitAt 8 (m .shared) z; age = λ z. Never }
+
+pub record Settled (w : World) : Type 0 where
+  pub layout : refusalOf (ramOf (w .state)) ≡ 0
+  pub idle : statusIn (w .state) ≡ 0
+  pub lent : fits w ≡ true
+  pub private-ram : (z : ℕ) → Has (w .maps .private) z → isRam (entriesIn (w .state)) z ≡ true
+  pub shared-ram : (z : ℕ) → Has (w .maps .shared) z → isRam (entriesIn (w .state)) z ≡ true
+  pub never-both : (z : ℕ) → Has (w .maps .private) z → Has (w .maps .shared) z → ⊥
+  pub either : (z : ℕ) → isRam (entriesIn (w .state)) z ≡ true → bitAt 8 (w .maps .shared) z ≡ false → Has (w .maps .private) z

@@ -1,0 +1,99 @@
+-- What is seen of the calls from outside: the operation outstanding, the call under way or halted, and what the hypervisor last took (01, "The request
+-- under way"). It is read from the calls, their replies and the pages run as they leave it, never from the marks or the state block.
+use mathlib.Core.Bool.{Bool, true, false, cond, not, _&&_, _||_}
+use mathlib.Core.List.{List, []}
+use Prim.Native.Nat.{ℕ, _+_, min}
+use lib.Dec.{eqb}
+use lib.ListN.{take}
+use Rattle.laws.specs.Ranges.{between}
+use Rattle.pages.specs.Pages.{among}
+use Rattle.protector_state.specs.declared.Reply.{Reply}
+use Rattle.protector_state.specs.Reply.{finished}
+use Rattle.visibility_claims.specs.Whole.{Given, Succeeds, Fails}
+
+-- of a page: never returned, or since its return nothing, validated, validated and then zeroed
+pub data Age : Type 0 where
+  Never : Age
+  Returned : Age
+  Validated : Age
+  Zeroed : Age
+
+pub record Seen : Type 0 where
+  -- the reply of the last call or taken answer: the operation outstanding, or none where it asks for none
+  pub op : Reply
+  -- the pages run as that call left it: the pages of a Modify are its first
+  pub table : List ℕ
+  -- a taken answer gave 20
+  pub halted : Bool
+  -- the pages listed by the visibility change under way, or by the one that halted
+  pub listed : List ℕ
+  -- what the hypervisor last took of a page: true as shared
+  pub last : ℕ → Bool
+  -- how far a page is since it was last returned
+  pub age : ℕ → Age
+
+-- at a build
+abbrev pub unseen : Seen
+unseen = record { op = finished 0 0 0 0; table = []; halted = false; listed = []; last = λ z. false; age = λ z. Never }
+
+abbrev pub asks : Reply → Bool
+asks r = not (eqb (r .operation) 0)
+
+abbrev pub isModify : Reply → Bool
+isModify r = eqb (r .operation) 6
+
+-- how many of n pages an answer to Modify processed
+abbrev pub processed : Given → ℕ → ℕ
+processed Succeeds n = n
+processed (Fails code k) n = min k n
+
+-- what Modify took, once a taken answer came to it
+abbrev pub lastAfter : Given → Seen → ℕ → Bool
+lastAfter g o z = cond (isModify (o .op) && among (take (processed g (o .op .pages)) (o .table)) z) (eqb (o .op .shared) 1) (o .last z)
+
+-- an Accept or a Zero that is done takes the pages of its run one step on, in that order
+abbrev pub accepted : Age → Age
+accepted Never = Never
+accepted Returned = Validated
+accepted Validated = Validated
+accepted Zeroed = Zeroed
+
+abbrev pub zeroed : Age → Age
+zeroed Never = Never
+zeroed Returned = Returned
+zeroed Validated = Zeroed
+zeroed Zeroed = Zeroed
+
+abbrev pub isDone : Given → Bool
+isDone Succeeds = true
+isDone (Fails code k) = false
+
+abbrev pub inRun : Reply → ℕ → Bool
+inRun r z = between (r .first) (r .first + r .pages) z
+
+abbrev pub ageAfter : Given → Seen → ℕ → Age
+ageAfter g o z =
+    cond (isModify (o .op) && among (take (processed g (o .op .pages)) (o .table)) z) (cond (eqb (o .op .shared) 1) Never Returned)
+    (cond (isDone g && (eqb (o .op .operation) 7 && inRun (o .op) z)) (accepted (o .age z))
+    (cond (isDone g && (eqb (o .op .operation) 8 && inRun (o .op) z)) (zeroed (o .age z))
+    (o .age z)))
+
+-- an answer that came when nothing was halted, and gave neither 4 nor 21
+abbrev pub isTaken : Seen → Reply → Bool
+isTaken o r = not (o .halted) && (not (eqb (r .number) 4) && not (eqb (r .number) 21))
+
+-- a taken answer that asks on, or gives 20, leaves the call under way or halted; any other ends it
+abbrev pub goesOn : Reply → Bool
+goesOn r = asks r || eqb (r .number) 20
+
+abbrev pub seesTaken : Given → Reply → List ℕ → Seen → Seen
+seesTaken g r p o =
+    record { op = r; table = p; halted = eqb (r .number) 20; listed = cond (goesOn r) (o .listed) []; last = lastAfter g o; age = ageAfter g o }
+
+-- an answer g that gave r and left the pages run p
+abbrev pub seesAnswer : Given → Reply → List ℕ → Seen → Seen
+seesAnswer g r p o = cond (isTaken o r) (seesTaken g r p o) o
+
+-- a call that gave r and left the pages run p, of a visibility change of the pages ps; of another ps is none
+abbrev pub seesCall : List ℕ → Reply → List ℕ → Seen → Seen
+seesCall ps r p o = cond (asks r) (record { op = r; table = p; halted = o .halted; listed = ps; last = o .last; age = o .age }) o
