@@ -48,8 +48,8 @@ struct protector_reply {
     uint64_t index;     /* the place in the list of a number that has one */
     uint64_t count;     /* of a finished call: how many operations it asked for */
     uint64_t operation; /* what is asked for: 0 nothing, 1 Wait, 2 FlushAll, 3 Protect, 4 Invalidate, 5 Release,
-                           6 Modify, 7 Accept, 8 Zero */
-    uint64_t vtl;       /* Protect */
+                           6 Modify, 7 Accept, 8 Zero, 9 Flush, 10 TlbWait */
+    uint64_t vtl;       /* Protect, Flush, TlbWait */
     uint64_t flags;     /* Protect */
     uint64_t operand;   /* Protect on SNP */
     uint64_t first;     /* the first page of the run */
@@ -97,5 +97,39 @@ struct protector_value protector_query_access_permission(const uint8_t *private_
     const uint8_t *kernel, size_t kernel_bytes, const uint8_t *user, size_t user_bytes,
     const uint64_t *state, size_t state_words,
     uint64_t gpn);
+
+/* Protections and defaults: libvtl_protections.a */
+struct protector_reply protector_change_vtl_protections(const uint8_t *private_, size_t private_bytes, const uint8_t *shared, size_t shared_bytes,
+    uint8_t *read, size_t read_bytes, uint8_t *write, size_t write_bytes, uint8_t *kernel, size_t kernel_bytes,
+    uint8_t *user, size_t user_bytes, uint64_t *state, size_t state_words, uint64_t *pages, size_t pages_words,
+    const uint64_t *tables, size_t tables_words, uint64_t vtl, uint64_t flags, const uint8_t *list, size_t list_bytes);
+struct protector_reply protector_change_default_vtl_protections(const uint8_t *private_, size_t private_bytes, const uint8_t *shared, size_t shared_bytes,
+    uint8_t *read, size_t read_bytes, uint8_t *write, size_t write_bytes, uint8_t *kernel, size_t kernel_bytes,
+    uint8_t *user, size_t user_bytes, uint64_t *state, size_t state_words,
+    const uint64_t *pages, size_t pages_words, uint64_t *tables, size_t tables_words, uint64_t vtl, uint64_t flags);
+struct protector_reply protector_set_vtl1_protections_enabled(uint64_t *state, size_t state_words);
+struct protector_value protector_vtl1_protections_enabled(const uint64_t *state, size_t state_words);
+struct protector_value protector_default_vtl0_protections(const uint64_t *state, size_t state_words);
+
+/* Overlays: liboverlay_pages.a */
+#define PROTECTOR_NO_FLAGS 16 /* in the place of new_: none are given */
+
+struct protector_reply protector_register_overlay_page(const uint8_t *private_, size_t private_bytes, const uint8_t *shared, size_t shared_bytes,
+    uint8_t *read, size_t read_bytes, uint8_t *write, size_t write_bytes, uint8_t *kernel, size_t kernel_bytes,
+    uint8_t *user, size_t user_bytes, uint64_t *state, size_t state_words,
+    const uint64_t *pages, size_t pages_words, uint64_t *tables, size_t tables_words,
+    uint64_t vtl, uint64_t gpn, uint64_t source, uint64_t checked, uint64_t new_);
+struct protector_reply protector_unregister_overlay_page(const uint8_t *private_, size_t private_bytes, const uint8_t *shared, size_t shared_bytes,
+    uint8_t *read, size_t read_bytes, uint8_t *write, size_t write_bytes, uint8_t *kernel, size_t kernel_bytes,
+    uint8_t *user, size_t user_bytes, uint64_t *state, size_t state_words,
+    const uint64_t *pages, size_t pages_words, uint64_t *tables, size_t tables_words, uint64_t vtl, uint64_t gpn);
+struct protector_value protector_is_overlay_page(const uint64_t *state, size_t state_words,
+    const uint64_t *tables, size_t tables_words, uint64_t vtl, uint64_t gpn);
+
+/* Locks: liblocked_pages.a */
+struct protector_reply protector_lock_gpns(const uint64_t *state, size_t state_words,
+    uint64_t *tables, size_t tables_words, uint64_t vtl, const uint8_t *list, size_t list_bytes);
+struct protector_reply protector_unlock_gpns(const uint64_t *state, size_t state_words,
+    uint64_t *tables, size_t tables_words, uint64_t vtl, const uint8_t *list, size_t list_bytes);
 
 #endif
