@@ -10,7 +10,13 @@ use std::process::Command;
 use std::time::SystemTime;
 
 /// The crates that are linked, each as libNAME.a.
-const LIBRARIES: [&str; 2] = ["registrar", "underhill_mem"];
+const LIBRARIES: [&str; 5] = [
+    "registrar",
+    "underhill_mem",
+    "locked_pages",
+    "overlay_pages",
+    "vtl_protections",
+];
 
 fn main() {
     println!("cargo::rerun-if-changed=build.rs");

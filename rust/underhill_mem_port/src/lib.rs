@@ -1,12 +1,12 @@
 //! The proved port of underhill_mem, for Rust.
 //!
-//! The port is two libraries made by `rt staticlib`. They hold no memory of their own: each call is
+//! The port is five libraries made by `rt staticlib`. They hold no memory of their own: each call is
 //! lent a state block and bitmaps, and asks one backend operation at a time instead of calling back.
 //! This crate owns that memory, speaks in Rust's types and drives a call to its end over a backend.
 //! Nothing is decided here: each answer is the libraries' own.
 //!
-//! - [`HardwareIsolatedMemoryProtector`] takes the place of the original's, for visibility changes
-//!   so far; its [`Backend`] has a method for each operation.
+//! - [`HardwareIsolatedMemoryProtector`] takes the place of the original's; its [`Backend`] has a
+//!   method for each operation.
 //! - [`MemoryRegistrar`] takes the place of the original's `MemoryRegistrar`.
 //! - [`raw`] has the libraries' entries as they are, over lent slices of any length.
 //!
@@ -61,12 +61,14 @@ pub use protector::Backend;
 pub use protector::ChangeError;
 pub use protector::Fault;
 pub use protector::Flags;
+pub use protector::GpnSource;
 pub use protector::GuestVtl;
 pub use protector::HardwareIsolatedMemoryProtector;
 pub use protector::IsolationType;
 pub use protector::Mapping;
 pub use protector::ModifyError;
 pub use protector::Operation;
+pub use protector::Overlay;
 pub use protector::PageRun;
 pub use protector::Progress;
 pub use protector::Protect;

@@ -10,6 +10,7 @@ use crate::raw::protector::PAGES_WORDS;
 use crate::raw::protector::Reply;
 use crate::raw::protector::STATE_WORDS;
 use crate::raw::protector::TABLES_WORDS;
+use crate::raw::protector::Value;
 use crate::raw::protector::operation;
 use crate::raw::protector::place;
 use std::error::Error;
@@ -98,6 +99,10 @@ pub enum Operation<'a> {
     Wait,
     /// Flush the whole TLB.
     FlushAll,
+    /// Flush a VTL's TLB.
+    Flush(GuestVtl),
+    /// Wait until no processor holds a TLB lock of a VTL.
+    TlbWait(GuestVtl),
     Protect(Protect),
     /// Unaccept pages on SNP (PVALIDATE).
     Invalidate(PageRun),
@@ -125,9 +130,9 @@ pub struct ModifyError {
 
 /// What carries the operations out, one method each.
 ///
-/// [`wait`](Self::wait) and [`flush_all`](Self::flush_all) can't fail. A failure of any other but
-/// [`modify`](Self::modify) halts the protector, as the original panics there: log it before it
-/// is returned.
+/// Waits and flushes can't fail. A failure of any other but [`modify`](Self::modify) halts the
+/// protector, as the original panics there: log it before it is returned. A failed
+/// [`protect`](Self::protect) of an overlay call halts nothing; the call fails.
 pub trait Backend {
     type Error;
 
@@ -135,6 +140,10 @@ pub trait Backend {
     fn wait(&mut self);
     /// Flushes the whole TLB. SNP alone.
     fn flush_all(&mut self);
+    /// Flushes a VTL's TLB.
+    fn flush(&mut self, vtl: GuestVtl);
+    /// Waits until no processor holds a TLB lock of a VTL.
+    fn tlb_wait(&mut self, vtl: GuestVtl);
     /// Changes a VTL's permissions in hardware.
     fn protect(&mut self, protect: Protect) -> Result<(), Self::Error>;
     /// Unaccepts pages. SNP alone.
@@ -162,13 +171,14 @@ pub enum Progress<'a> {
 /// of operations that it asked for.
 #[derive(Debug, Clone, Copy, PartialEq, Eq)]
 pub enum ChangeError {
-    /// Nothing was changed and nothing asked for.
+    /// Nothing was asked for, and nothing was changed but the default where a default change is
+    /// refused by [`Refusal::Locked`].
     Refused(Refusal),
     /// 15: VTL0 may not read and write the page at that place of the list. Those before it are
     /// changed.
     AccessDenied { index: u64, count: u64 },
     /// 16: the hypervisor gave that code for the page at that place of the list. Those before it
-    /// are changed.
+    /// are changed. Of an overlay call: Protect failed, the code is 8 and the place 0.
     Failed { code: u16, index: u64, count: u64 },
     /// 20: an operation failed that can't be taken back. Marks stay as they were then, and every
     /// further call is refused by [`Refusal::Halted`].
@@ -215,10 +225,7 @@ impl fmt::Display for ChangeError {
                 write!(f, "VTL0 may not read and write page {index} of the list")
             }
             Self::Failed { code, index, .. } => {
-                write!(
-                    f,
-                    "the hypervisor gave {code:#x} at page {index} of the list"
-                )
+                write!(f, "the backend gave {code:#x} at page {index} of the list")
             }
             Self::Halted { .. } => write!(f, "an operation failed that can't be taken back"),
         }
@@ -236,10 +243,10 @@ impl From<Refusal> for ChangeError {
 /// Keeps the marks and permissions of guest pages, and changes them with the hypervisor's and the
 /// hardware's help.
 ///
-/// [`change_host_visibility`](Self::change_host_visibility) runs a call to its end over a
+/// Visibility, protection and default changes and the overlay calls run to their end over a
 /// [`Backend`]. The `start_` calls and the answers do the same one operation at a time, for a
-/// caller whose backend answers later; until the call has ended any other is refused by
-/// [`Refusal::Busy`]. If a backend panics, its operation stays asked for.
+/// caller whose backend answers later; until the call has ended any other but faults and permission
+/// queries is refused by [`Refusal::Busy`]. If a backend panics, its operation stays asked for.
 ///
 /// The original is shared between threads and locks itself; this one is borrowed exclusively, so
 /// that the lock is the caller's.
@@ -247,9 +254,9 @@ impl From<Refusal> for ChangeError {
 /// # Example
 ///
 /// ```
-/// use underhill_mem_port::{Backend, GuestVtl, HardwareIsolatedMemoryProtector, IsolationType};
-/// use underhill_mem_port::{MemoryRange, MemoryRangeWithNode, ModifyError, PageRun, Protect};
-/// use underhill_mem_port::Visibility;
+/// use underhill_mem_port::{Backend, Flags, GpnSource, GuestVtl, HardwareIsolatedMemoryProtector};
+/// use underhill_mem_port::{IsolationType, MemoryRange, MemoryRangeWithNode, ModifyError, Overlay};
+/// use underhill_mem_port::{PageRun, Protect, Refusal, Visibility};
 ///
 /// /// Notes what is asked for, and does nothing.
 /// #[derive(Default)]
@@ -263,6 +270,12 @@ impl From<Refusal> for ChangeError {
 ///     }
 ///     fn flush_all(&mut self) {
 ///         self.0.push("FlushAll".to_string());
+///     }
+///     fn flush(&mut self, vtl: GuestVtl) {
+///         self.0.push(format!("Flush {vtl:?}"));
+///     }
+///     fn tlb_wait(&mut self, vtl: GuestVtl) {
+///         self.0.push(format!("TlbWait {vtl:?}"));
 ///     }
 ///     fn protect(&mut self, p: Protect) -> Result<(), Self::Error> {
 ///         self.0.push(format!("Protect {:?} {:?} {:?}", p.vtl, p.operand, p.pages));
@@ -307,6 +320,26 @@ impl From<Refusal> for ChangeError {
 /// assert_eq!(notes.0[8], "Modify Shared [3, 9, 10]");
 /// assert_eq!(protector.private(), [0xF7, 0xF9, 0, 0, 0xFF]);
 /// assert_eq!(protector.shared(), [0x08, 0x06, 0, 0, 0]);
+///
+/// // VTL1 may only read page 4 as its overlay. Its own TLB is flushed.
+/// let overlay = Overlay {
+///     gpn: 4,
+///     source: GpnSource::GuestMemory,
+///     checked: Flags::READABLE,
+///     new: Some(Flags::READABLE),
+/// };
+/// let mut notes = Notes::default();
+/// assert_eq!(protector.register_overlay_page(GuestVtl::Vtl1, overlay, &mut notes), Ok(4));
+/// assert_eq!(notes.0[0], "Protect Vtl1 Some(257) PageRun { first: 4, count: 1 }");
+/// assert_eq!(notes.0[1..], ["Wait", "Flush Vtl1", "TlbWait Vtl1"]);
+/// assert_eq!(protector.is_overlay_page(GuestVtl::Vtl1, 4), Ok(true));
+///
+/// // What is locked can't be changed.
+/// protector.lock_gpns(GuestVtl::Vtl0, &[6, 7])?;
+/// let narrowed =
+///     protector.change_vtl_protections(GuestVtl::Vtl0, &[7], Flags::READABLE, &mut notes);
+/// assert_eq!(narrowed, Err(Refusal::Locked.into()));
+/// protector.unlock_gpns(GuestVtl::Vtl0, &[6, 7])?;
 /// # Ok::<(), Box<dyn std::error::Error>>(())
 /// ```
 #[derive(Debug, Clone)]
@@ -395,7 +428,12 @@ impl HardwareIsolatedMemoryProtector {
         gpns: &[u64],
         backend: &mut impl Backend,
     ) -> Result<u64, ChangeError> {
-        let mut reply = self.change(vtl, to, gpns);
+        let reply = self.change(vtl, to, gpns);
+        self.drive(reply, backend)
+    }
+
+    /// Carries out what is asked for until the call has ended.
+    fn drive(&mut self, mut reply: Reply, backend: &mut impl Backend) -> Result<u64, ChangeError> {
         while reply.operation != 0 {
             reply = match carry_out(&reply, &self.pages[..], backend) {
                 Ok(()) => self.done(),
@@ -439,6 +477,15 @@ impl HardwareIsolatedMemoryProtector {
     }
 
     fn change(&mut self, vtl: GuestVtl, to: Visibility, gpns: &[u64]) -> Reply {
+        let list = self.listed(gpns);
+        let (vtl, to) = (number(vtl), u64::from(to as u8));
+        let reply = raw::change_host_visibility(self.lent(), vtl, to, &list);
+        self.list = list;
+        self.note(reply)
+    }
+
+    /// A list as it crosses, in the buffer that is kept for it.
+    fn listed(&mut self, gpns: &[u64]) -> Vec<u8> {
         let mut list = std::mem::take(&mut self.list);
         list.clear();
         // What is longer is refused by 5 whatever it holds, so no more is copied.
@@ -446,10 +493,7 @@ impl HardwareIsolatedMemoryProtector {
         for gpn in gpns {
             list.extend_from_slice(&gpn.to_le_bytes());
         }
-        let (vtl, to) = (u64::from(vtl as u8), u64::from(to as u8));
-        let reply = raw::change_host_visibility(self.lent(), vtl, to, &list);
-        self.list = list;
-        self.note(reply)
+        list
     }
 
     fn done(&mut self) -> Reply {
@@ -497,13 +541,16 @@ impl HardwareIsolatedMemoryProtector {
     }
 }
 
+mod changes;
+
+pub use changes::GpnSource;
+pub use changes::Overlay;
 pub use queries::*;
 
 /// Queries and faults: they change nothing and ask for nothing.
 mod queries {
     use super::*;
     use crate::raw::protector::Seen;
-    use crate::raw::protector::Value;
 
     /// Which mapping a fault is on.
     #[derive(Debug, Clone, Copy, PartialEq, Eq, Hash)]
@@ -621,8 +668,12 @@ mod queries {
             vtl: GuestVtl,
             gpn: u64,
         ) -> Result<Flags, Refusal> {
-            let vtl = u64::from(vtl as u8);
-            value(raw::query_lower_vtl_permissions(self.seen(), vtl, gpn)).map(flags)
+            value(raw::query_lower_vtl_permissions(
+                self.seen(),
+                number(vtl),
+                gpn,
+            ))
+            .map(flags)
         }
 
         /// The flags of a page in the permission maps.
@@ -630,13 +681,17 @@ mod queries {
             value(raw::query_access_permission(self.seen(), gpn)).map(flags)
         }
     }
+}
 
-    fn value(answer: Value) -> Result<u64, Refusal> {
-        match answer.number {
-            0 => Ok(answer.value),
-            number => Err(refused(number)),
-        }
+fn value(answer: Value) -> Result<u64, Refusal> {
+    match answer.number {
+        0 => Ok(answer.value),
+        number => Err(refused(number)),
     }
+}
+
+fn number(vtl: GuestVtl) -> u64 {
+    u64::from(vtl as u8)
 }
 
 /// An operation carried out; of one that isn't Modify a failure has no code.
@@ -648,6 +703,14 @@ fn carry_out(reply: &Reply, pages: &[u64], backend: &mut impl Backend) -> Result
         }
         Operation::FlushAll => {
             backend.flush_all();
+            Ok(())
+        }
+        Operation::Flush(vtl) => {
+            backend.flush(vtl);
+            Ok(())
+        }
+        Operation::TlbWait(vtl) => {
+            backend.tlb_wait(vtl);
             Ok(())
         }
         Operation::Modify { to, pages } => return backend.modify(to, pages),
@@ -669,14 +732,17 @@ fn operation_of<'a>(reply: &Reply, pages: &'a [u64]) -> Operation<'a> {
         first: reply.first,
         count: reply.pages,
     };
+    let vtl = match reply.vtl {
+        0 => GuestVtl::Vtl0,
+        _ => GuestVtl::Vtl1,
+    };
     match reply.operation {
         operation::WAIT => Operation::Wait,
         operation::FLUSH_ALL => Operation::FlushAll,
+        operation::FLUSH => Operation::Flush(vtl),
+        operation::TLB_WAIT => Operation::TlbWait(vtl),
         operation::PROTECT => Operation::Protect(Protect {
-            vtl: match reply.vtl {
-                0 => GuestVtl::Vtl0,
-                _ => GuestVtl::Vtl1,
-            },
+            vtl,
             flags: flags(reply.flags),
             // On SNP alone it isn't 0: its low byte is the VMPL.
             operand: (reply.operand != 0).then_some(reply.operand),

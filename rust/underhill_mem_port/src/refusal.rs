@@ -3,7 +3,8 @@
 use std::error::Error;
 use std::fmt;
 
-/// Why a call was refused: nothing was changed and nothing asked for.
+/// Why a call was refused: nothing was asked for, and nothing was changed, save that a default
+/// change refused by [`Locked`](Self::Locked) leaves its default.
 #[derive(Debug, Clone, Copy, PartialEq, Eq, Hash)]
 #[non_exhaustive]
 #[repr(u8)]
@@ -31,6 +32,16 @@ pub enum Refusal {
     Locked = 10,
     /// 11: an overlay is there.
     Overlay = 11,
+    /// 12: a page is shared.
+    Shared = 12,
+    /// 13: permissions are too narrow for what is asked.
+    Narrow = 13,
+    /// 14: no overlay is there.
+    NoOverlay = 14,
+    /// 17: a table or a count is full.
+    Full = 17,
+    /// 18: no list of just these pages is locked.
+    NotLocked = 18,
     /// 19: an operation is outstanding.
     Busy = 19,
     /// 20: an earlier call halted.
@@ -42,7 +53,7 @@ pub enum Refusal {
 }
 
 impl Refusal {
-    const ALL: [Self; 15] = [
+    const ALL: [Self; 20] = [
         Self::UnfitLayout,
         Self::BadAlignment,
         Self::UnfitIsolation,
@@ -54,6 +65,11 @@ impl Refusal {
         Self::UnfitChunk,
         Self::Locked,
         Self::Overlay,
+        Self::Shared,
+        Self::Narrow,
+        Self::NoOverlay,
+        Self::Full,
+        Self::NotLocked,
         Self::Busy,
         Self::Halted,
         Self::NothingAsked,
@@ -73,7 +89,12 @@ impl Refusal {
     /// The hypervisor's code for it, OperationDenied; none for those that are the port's own.
     pub fn code(self) -> Option<u16> {
         match self {
-            Self::NotRam | Self::Locked | Self::Overlay => Some(8),
+            Self::NotRam
+            | Self::Locked
+            | Self::Overlay
+            | Self::Shared
+            | Self::Narrow
+            | Self::NoOverlay => Some(8),
             _ => None,
         }
     }
@@ -93,6 +114,11 @@ impl fmt::Display for Refusal {
             Self::UnfitChunk => "chunk past the last, or unfit granularity or alignment",
             Self::Locked => "page locked",
             Self::Overlay => "overlay page",
+            Self::Shared => "page shared with the host",
+            Self::Narrow => "permissions too narrow",
+            Self::NoOverlay => "no such overlay page",
+            Self::Full => "table or count full",
+            Self::NotLocked => "no such locked list",
             Self::Busy => "an operation is outstanding",
             Self::Halted => "halted by an earlier call",
             Self::NothingAsked => "nothing is asked for that this answers",

@@ -4,6 +4,7 @@ use underhill_mem_port::Backend;
 use underhill_mem_port::BuildError;
 use underhill_mem_port::ChangeError;
 use underhill_mem_port::Flags;
+use underhill_mem_port::GpnSource;
 use underhill_mem_port::GuestVtl;
 use underhill_mem_port::HardwareIsolatedMemoryProtector;
 use underhill_mem_port::IsolationType;
@@ -11,6 +12,7 @@ use underhill_mem_port::MemoryRange;
 use underhill_mem_port::MemoryRangeWithNode;
 use underhill_mem_port::ModifyError;
 use underhill_mem_port::Operation;
+use underhill_mem_port::Overlay;
 use underhill_mem_port::PageRun;
 use underhill_mem_port::Progress;
 use underhill_mem_port::Protect;
@@ -22,6 +24,8 @@ use underhill_mem_port::Visibility;
 struct Notes {
     kinds: Vec<&'static str>,
     protects: Vec<Protect>,
+    /// Of each Flush and TlbWait.
+    flushed: Vec<GuestVtl>,
     fail: &'static str,
     processed: u64,
 }
@@ -42,6 +46,16 @@ impl Backend for Notes {
 
     fn flush_all(&mut self) {
         let _ = self.note("FlushAll");
+    }
+
+    fn flush(&mut self, vtl: GuestVtl) {
+        let _ = self.note("Flush");
+        self.flushed.push(vtl);
+    }
+
+    fn tlb_wait(&mut self, vtl: GuestVtl) {
+        let _ = self.note("TlbWait");
+        self.flushed.push(vtl);
     }
 
     fn protect(&mut self, protect: Protect) -> Result<(), ()> {
@@ -91,6 +105,7 @@ fn built(isolation: IsolationType, tracked: bool) -> HardwareIsolatedMemoryProte
 }
 
 use GuestVtl::Vtl0;
+use GuestVtl::Vtl1;
 use Visibility::Private;
 use Visibility::Shared;
 
@@ -211,4 +226,110 @@ fn unfit_layouts_are_refused() {
     let refused = |refusal| Err(BuildError::Refused(refusal));
     assert_eq!(build(0, 28_672), refused(Refusal::BadAlignment));
     assert_eq!(build(4, 4), refused(Refusal::UnfitLayout));
+}
+
+fn guest(gpn: u64, checked: Flags, new: Option<Flags>) -> Overlay {
+    Overlay {
+        gpn,
+        source: GpnSource::GuestMemory,
+        checked,
+        new,
+    }
+}
+
+#[test]
+fn protections_flush_vtl0_and_wait_for_their_vtl() {
+    let mut protector = built(IsolationType::Snp, true);
+    let mut backend = Notes::default();
+    let list = [3, 4, 3];
+    let narrowed = protector.change_vtl_protections(Vtl0, &list, Flags::READABLE, &mut backend);
+    assert_eq!(narrowed, Ok(5));
+    let kinds = ["Protect", "Protect", "Wait", "Flush", "TlbWait"];
+    assert_eq!(backend.kinds, kinds);
+    assert_eq!(backend.protects[0].pages, PageRun { first: 3, count: 2 });
+    let [read, write, ..] = protector.permissions().expect("tracked");
+    assert_eq!((read[0], write[0]), (0xFF, 0xE7));
+    let mut backend = Notes::default();
+    let narrowed = protector.change_vtl_protections(Vtl1, &[], Flags::NONE, &mut backend);
+    assert_eq!(narrowed, Ok(3));
+    assert_eq!(backend.flushed, [Vtl0, Vtl1]);
+    let mut backend = failing("Protect", 0);
+    let halted = protector.change_vtl_protections(Vtl1, &[5], Flags::NONE, &mut backend);
+    assert_eq!(halted, Err(ChangeError::Halted { count: 1 }));
+    assert_eq!(protector.vtl1_protections_enabled(), Err(Refusal::Halted));
+}
+
+#[test]
+fn a_default_is_split_at_holes_and_overlays() {
+    let mut protector = built(IsolationType::Tdx, true);
+    let mut backend = Notes::default();
+    let overlay = guest(5, Flags::ALL, Some(Flags::READABLE));
+    let registered = protector.register_overlay_page(Vtl0, overlay, &mut backend);
+    assert_eq!(registered, Ok(4));
+    assert_eq!(backend.flushed, [Vtl0, Vtl0]);
+    let mut backend = Notes::default();
+    let read_write = Flags::READABLE | Flags::WRITABLE;
+    let changed = protector.change_default_vtl_protections(Vtl0, read_write, &mut backend);
+    assert_eq!(changed, Ok(6));
+    let pages: Vec<_> = backend.protects.iter().map(|p| p.pages).collect();
+    let run = |first, count| PageRun { first, count };
+    assert_eq!(pages, [run(0, 5), run(6, 10), run(32, 8)]);
+    assert_eq!(protector.default_vtl0_protections(), Ok(read_write));
+    let mut backend = Notes::default();
+    let unregistered = protector.unregister_overlay_page(Vtl0, 5, &mut backend);
+    assert_eq!(unregistered, Ok(4));
+    assert_eq!(backend.protects[0].flags, read_write);
+    protector.lock_gpns(Vtl0, &[5]).expect("there is room");
+    let changed = protector.change_default_vtl_protections(Vtl0, Flags::ALL, &mut backend);
+    assert_eq!(changed, Err(ChangeError::Refused(Refusal::Locked)));
+    assert_eq!(protector.default_vtl0_protections(), Ok(Flags::ALL));
+}
+
+#[test]
+fn overlays_are_counted_and_fail_without_a_halt() {
+    let mut protector = built(IsolationType::Cca, false);
+    let overlay = guest(3, Flags::ALL, None);
+    let mut backend = Notes::default();
+    let mut register = |overlay| protector.register_overlay_page(Vtl1, overlay, &mut backend);
+    assert_eq!(register(overlay), Ok(3));
+    assert_eq!(register(overlay), Ok(0));
+    assert_eq!(protector.is_overlay_page(Vtl1, 3), Ok(true));
+    assert_eq!(protector.is_overlay_page(Vtl0, 3), Ok(false));
+    let mut backend = failing("Protect", 0);
+    let mut unregister = |gpn| protector.unregister_overlay_page(Vtl1, gpn, &mut backend);
+    assert_eq!(unregister(3), Ok(0));
+    let failed = ChangeError::Failed {
+        code: 8,
+        index: 0,
+        count: 1,
+    };
+    assert_eq!(unregister(3), Err(failed));
+    assert_eq!(unregister(4), Err(ChangeError::Refused(Refusal::NoOverlay)));
+    assert_eq!(protector.is_overlay_page(Vtl1, 3), Ok(true));
+    let dma = Overlay {
+        gpn: 1 << 45,
+        source: GpnSource::Dma,
+        ..overlay
+    };
+    let started = protector.start_register_overlay_page(Vtl0, dma);
+    assert_eq!(started, Ok(Progress::Asked(Operation::Wait)));
+    assert_eq!(protector.is_overlay_page(Vtl0, dma.gpn), Err(Refusal::Busy));
+    let flush = Operation::Flush(Vtl0);
+    assert_eq!(protector.answer_done(), Ok(Progress::Asked(flush)));
+}
+
+#[test]
+fn lists_are_locked_and_unlocked_whole() {
+    let mut protector = built(IsolationType::Snp, false);
+    assert_eq!(protector.lock_gpns(Vtl1, &[7, 8]), Ok(()));
+    let other_way_round = protector.unlock_gpns(Vtl1, &[8, 7]);
+    assert_eq!(other_way_round, Err(Refusal::NotLocked));
+    assert_eq!(protector.unlock_gpns(Vtl1, &[7, 8]), Ok(()));
+    for _ in 0..64 {
+        assert_eq!(protector.lock_gpns(Vtl0, &[]), Ok(()));
+    }
+    assert_eq!(protector.lock_gpns(Vtl0, &[]), Err(Refusal::Full));
+    let enabled = protector.set_vtl1_protections_enabled();
+    assert_eq!(enabled, Err(Refusal::Untracked));
+    assert_eq!(protector.vtl1_protections_enabled(), Ok(false));
 }

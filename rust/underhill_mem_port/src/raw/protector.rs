@@ -7,7 +7,7 @@
 pub struct Reply {
     /// Document 01's number; 0 where none.
     pub number: u64,
-    /// The hypervisor's code of 7, 10, 11, 15 and 16.
+    /// The hypervisor's code of 7 and 10 to 16.
     pub code: u64,
     /// The place in the list that `code` is about.
     pub index: u64,
@@ -15,7 +15,7 @@ pub struct Reply {
     pub count: u64,
     /// The operation asked for, see [`operation`]; 0 if the call is finished or refused.
     pub operation: u64,
-    /// Of Protect, with `flags` and, on SNP, the RMPADJUST `operand`.
+    /// Of Flush and TlbWait, and of Protect, with `flags` and, on SNP, the RMPADJUST `operand`.
     pub vtl: u64,
     pub flags: u64,
     pub operand: u64,
@@ -47,6 +47,8 @@ pub mod operation {
     pub const MODIFY: u64 = 6;
     pub const ACCEPT: u64 = 7;
     pub const ZERO: u64 = 8;
+    pub const FLUSH: u64 = 9;
+    pub const TLB_WAIT: u64 = 10;
 }
 
 /// The words of a protector's state block.
@@ -67,6 +69,15 @@ pub mod place {
     pub const DEFAULT0: usize = 20;
     /// and of VTL1, above 15 where none are given.
     pub const DEFAULT1: usize = 21;
+}
+
+/// The tables of overlays and locks: of each VTL, how many and then the entries, the rest zero.
+pub mod table {
+    /// Where the overlays of each VTL begin, five words an entry: page, previous flags, own flags,
+    /// count, source.
+    pub const OVERLAYS: [usize; 2] = [0, 641];
+    /// Where the locked lists of each VTL begin: of each its length, then its pages.
+    pub const LOCKS: [usize; 2] = [1282, 2371];
 }
 
 /// The bitmaps: page p is bit p % 8 of byte p / 8. The last four are empty if untracked.
@@ -307,6 +318,10 @@ macro_rules! call {
         }
     }};
 }
+
+mod changes;
+
+pub use changes::*;
 
 /// `ram` is three words an entry: start, end, node. `isolation` is 2 for SNP, 3 for TDX, 4 for
 /// CCA; `tracked` and `release` are 0 or 1.
