@@ -20,8 +20,14 @@ use underhill_mem_port::raw::protector::PAGES_WORDS;
 use underhill_mem_port::raw::protector::Reply;
 use underhill_mem_port::raw::protector::STATE_WORDS;
 use underhill_mem_port::raw::protector::TABLES_WORDS;
+use underhill_mem_port::raw::protector::Value;
 use underhill_mem_port::raw::protector::operation;
 use underhill_mem_port::raw::protector::place;
+use underhill_mem_port::raw::protector::table;
+
+mod changes;
+
+pub use changes::permissions;
 
 /// The most bytes that a map may have here.
 const MOST_BYTES: u64 = 1 << 26;
@@ -38,6 +44,17 @@ struct Built {
     state: Vec<u64>,
     pages: Vec<u64>,
     tables: Vec<u64>,
+    /// Of the call under way.
+    kind: Kind,
+}
+
+/// Whether a call's errors have a place in a list.
+#[derive(Clone, Copy, PartialEq, Eq)]
+enum Kind {
+    Indexed,
+    Plain,
+    /// An answer: as the call under way.
+    Answer,
 }
 
 impl Built {
@@ -47,6 +64,7 @@ impl Built {
             state: vec![0; STATE_WORDS],
             pages: vec![0; PAGES_WORDS],
             tables: vec![0; TABLES_WORDS],
+            kind: Kind::Indexed,
         }
     }
 
@@ -96,6 +114,12 @@ impl Built {
         match reply.operation {
             operation::WAIT => Op::Wait,
             operation::FLUSH_ALL => Op::FlushAll,
+            operation::FLUSH => Op::Flush {
+                vtl: reply.vtl as u8,
+            },
+            operation::TLB_WAIT => Op::TlbWait {
+                vtl: reply.vtl as u8,
+            },
             operation::PROTECT => Op::Protect {
                 vtl: reply.vtl as u8,
                 flags: Some(reply.flags as u8),
@@ -179,7 +203,7 @@ impl Protector {
         let vtl = parse::number(vtl)?;
         let to = named(to, &[("private", 0), ("shared", 1)])?;
         let list = list(pages)?;
-        self.call(run, |lent| {
+        self.call(run, Kind::Indexed, |lent| {
             raw::change_host_visibility(lent, vtl, to, &list)
         })
     }
@@ -188,10 +212,10 @@ impl Protector {
     pub fn answer(&mut self, args: &[&str], mut run: Run) -> Parsed<String> {
         run.step = true;
         match args {
-            ["done"] => self.call(run, raw::answer_done),
+            ["done"] => self.call(run, Kind::Answer, raw::answer_done),
             ["failed", code, processed] => {
                 let failure = parse::failure(code, processed)?;
-                self.call(run, |lent| {
+                self.call(run, Kind::Answer, |lent| {
                     raw::answer_failed(lent, failure.code, failure.processed)
                 })
             }
@@ -204,27 +228,23 @@ impl Protector {
         plain(&format!("ok {}", self.built()?.show()))
     }
 
-    pub fn tables(&mut self, args: &[&str]) -> Parsed<String> {
-        let [] = exactly(args)?;
-        let state = &self.built()?.state;
-        let enabled = state[place::ENABLED];
-        let default0 = state[place::DEFAULT0];
-        let default1 = match state[place::DEFAULT1] {
-            flags @ 0..=15 => flags.to_string(),
-            _ => "-".to_string(),
-        };
-        // No entry fills the tables yet.
-        plain(&format!(
-            "ok enabled={enabled} default0={default0} default1={default1} overlays0=[] \
-             overlays1=[] locks0=[] locks1=[]"
-        ))
-    }
-
     /// Makes a call and, unless stepped, answers it to its end.
-    fn call(&mut self, run: Run, entry: impl FnOnce(Lent<'_>) -> Reply) -> Parsed<String> {
+    fn call(
+        &mut self,
+        run: Run,
+        kind: Kind,
+        entry: impl FnOnce(Lent<'_>) -> Reply,
+    ) -> Parsed<String> {
         let built = self.built()?;
         let mut lends = run.lends;
         let mut reply = entry(built.lent(&mut lends));
+        let kind = match kind {
+            Kind::Answer => built.kind,
+            kind => kind,
+        };
+        if reply.operation != 0 {
+            built.kind = kind;
+        }
         let mut ops = Vec::new();
         let mut refused = Vec::new();
         while reply.operation != 0 {
@@ -255,14 +275,17 @@ impl Protector {
         let refused =
             (!refused.is_empty()).then(|| format!("refused21={}", show::joined(refused, ",")));
         let more = count.into_iter().chain(refused).chain(lends.written());
-        Ok(show::answer(&result(&reply), &ops, &Vec::from_iter(more)))
+        Ok(show::answer(
+            &result(&reply, kind),
+            &ops,
+            &Vec::from_iter(more),
+        ))
     }
 }
 
 mod queries {
     use super::*;
     use underhill_mem_port::raw::protector::Seen;
-    use underhill_mem_port::raw::protector::Value;
 
     /// What an output is filled with before a query writes to it.
     const UNTOUCHED: u8 = 0xA5;
@@ -296,7 +319,7 @@ mod queries {
                 _ => '_',
             };
             let digits: String = out.iter().map(digit).collect();
-            let result = match (reply.number, result(&reply)) {
+            let result = match (reply.number, result(&reply, Kind::Indexed)) {
                 (0 | 7, result) => format!("{result} out=[{digits}]"),
                 (_, result) => result,
             };
@@ -340,15 +363,15 @@ mod queries {
             valued(given, |flags| flags.to_string())
         }
     }
+}
 
-    fn valued(given: Value, shown: impl FnOnce(u64) -> String) -> Parsed<String> {
-        plain(&match given.number {
-            0 => format!("ok {}", shown(given.value)),
-            7 => format!("err {} #7", given.value),
-            24 => "err NoPermissionsTracked #24".to_string(),
-            number => format!("refused {number}"),
-        })
-    }
+fn valued(given: Value, shown: impl FnOnce(u64) -> String) -> Parsed<String> {
+    plain(&match given.number {
+        0 => format!("ok {}", shown(given.value)),
+        7 => format!("err {} #7", given.value),
+        24 => "err NoPermissionsTracked #24".to_string(),
+        number => format!("refused {number}"),
+    })
 }
 
 /// One of a few words, or a number that is handed on.
@@ -402,12 +425,13 @@ fn bytes(map: &[u8]) -> String {
 }
 
 /// RESULT, with 01's number.
-fn result(reply: &Reply) -> String {
+fn result(reply: &Reply, kind: Kind) -> String {
     let &Reply { code, index, .. } = reply;
     match reply.number {
         0 if reply.operation == 0 => "ok".to_string(),
         0 => "asked".to_string(),
-        number @ (7 | 10 | 11 | 15 | 16) => format!("err {code} {index} #{number}"),
+        number @ (7 | 10..=16) if kind == Kind::Plain => format!("err {code} #{number}"),
+        number @ (7 | 10..=16) => format!("err {code} {index} #{number}"),
         // A refusal by 20 has no count.
         20 if reply.count != 0 => "halted".to_string(),
         number => format!("refused {number}"),

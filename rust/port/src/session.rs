@@ -1,6 +1,7 @@
 //! A conversation: which command a line is, and what earlier lines set.
 
 use crate::lend::Lends;
+use crate::protector;
 use crate::protector::Protector;
 use crate::registrar::Registrar;
 use protocol::Parsed;
@@ -10,21 +11,6 @@ use protocol::parse::Failures;
 use protocol::parse::exactly;
 use protocol::serve;
 use protocol::show;
-
-/// The protector's commands whose entries aren't in the library yet.
-const UNSERVED: &[&str] = &[
-    "change_vtl_protections",
-    "change_default_vtl_protections",
-    "register_overlay_page",
-    "unregister_overlay_page",
-    "is_overlay_page",
-    "lock_gpns",
-    "unlock_gpns",
-    "set_vtl1_protections_enabled",
-    "vtl1_protections_enabled",
-    "default_vtl0_protections",
-    "permissions",
-];
 
 /// A conversation: at most one protector and one registrar.
 #[derive(Default)]
@@ -75,6 +61,21 @@ impl Session {
         match name {
             "build" => self.protector.build(args, run),
             "change_host_visibility" => self.protector.change_host_visibility(args, run),
+            "change_vtl_protections" => self.protector.change_vtl_protections(args, run),
+            "change_default_vtl_protections" => {
+                self.protector.change_default_vtl_protections(args, run)
+            }
+            "register_overlay_page" => self.protector.register_overlay_page(args, run),
+            "unregister_overlay_page" => self.protector.unregister_overlay_page(args, run),
+            "is_overlay_page" => self.protector.is_overlay_page(args, run),
+            "lock_gpns" => self.protector.lock_gpns(args, run),
+            "unlock_gpns" => self.protector.unlock_gpns(args, run),
+            "set_vtl1_protections_enabled" => {
+                self.protector.set_vtl1_protections_enabled(args, run)
+            }
+            "vtl1_protections_enabled" => self.protector.vtl1_protections_enabled(args, run),
+            "default_vtl0_protections" => self.protector.default_vtl0_protections(args, run),
+            "permissions" => protector::permissions(args),
             "query_host_visibility" => self.protector.query_host_visibility(args, run),
             "query_lower_vtl_permissions" => self.protector.query_lower_vtl_permissions(args, run),
             "query_access_permission" => self.protector.query_access_permission(args, run),
@@ -90,7 +91,6 @@ impl Session {
             "lend" => self.lend(args),
             "step" => self.set_step(args),
             "trace" => self.set_trace(args),
-            name if UNSERVED.contains(&name) => bad("not in this build"),
             _ => bad("unknown command"),
         }
     }
