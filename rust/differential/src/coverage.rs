@@ -3,9 +3,76 @@
 use std::collections::BTreeMap;
 use std::fmt;
 
+/// The numbers that each call can give.
+pub const NUMBERS: [(&str, &[u64]); 23] = [
+    ("build", &[1, 2, 3, 4, 8]),
+    (
+        "change_host_visibility",
+        &[4, 5, 6, 7, 8, 10, 11, 15, 16, 19, 20],
+    ),
+    ("change_vtl_protections", &[4, 5, 7, 8, 10, 11, 12, 19, 20]),
+    ("change_default_vtl_protections", &[4, 8, 10, 19, 20]),
+    (
+        "register_overlay_page",
+        &[4, 7, 8, 10, 12, 13, 16, 17, 19, 20],
+    ),
+    ("unregister_overlay_page", &[4, 8, 14, 16, 19, 20]),
+    ("is_overlay_page", &[4, 8, 19, 20]),
+    ("lock_gpns", &[4, 5, 8, 17, 19, 20]),
+    ("unlock_gpns", &[4, 5, 8, 18, 19, 20]),
+    ("set_vtl1_protections_enabled", &[4, 19, 20, 24]),
+    ("vtl1_protections_enabled", &[4, 19, 20]),
+    ("default_vtl0_protections", &[4, 19, 20]),
+    ("query_host_visibility", &[4, 5, 7, 8, 19, 20]),
+    ("query_lower_vtl_permissions", &[4, 7, 8]),
+    ("query_access_permission", &[4, 7, 24]),
+    ("page_fault", &[4, 7, 8]),
+    ("answer done", &[4, 15, 16, 20, 21]),
+    ("answer failed", &[4, 16, 20, 21]),
+    ("registrar", &[1, 2, 4, 9]),
+    ("register", &[4, 9, 19, 23]),
+    ("register_all_aligned", &[4, 8, 9, 19, 22, 23]),
+    ("ranswer done", &[4, 21, 22, 23]),
+    ("ranswer failed", &[4, 21, 23]),
+];
+
+pub const OPERATIONS: [&str; 11] = [
+    "Wait",
+    "FlushAll",
+    "Flush",
+    "TlbWait",
+    "Protect",
+    "Invalidate",
+    "Release",
+    "Modify",
+    "Accept",
+    "Zero",
+    "Register",
+];
+
+/// The operations whose failure halts a call.
+pub const HALTS: [&str; 10] = [
+    "Protect of to shared",
+    "Invalidate of to shared",
+    "Release of to shared",
+    "Modify of to shared",
+    "Modify of to private",
+    "Accept of to private",
+    "Zero of to private",
+    "Protect of to private",
+    "Protect of change_vtl_protections",
+    "Protect of change_default_vtl_protections",
+];
+
 #[derive(Debug, Default)]
 pub struct Coverage {
     met: BTreeMap<String, u64>,
+    /// Document 01's numbers by call, 0 where it gave none.
+    numbers: BTreeMap<String, BTreeMap<u64, u64>>,
+    /// What the port asked for.
+    asked: BTreeMap<&'static str, u64>,
+    /// Operations of calls that halted at them.
+    halts: BTreeMap<String, u64>,
     /// Calls whose answer was compared with the original's.
     pub with_original: u64,
     /// Calls that lie outside document 01's domain, or that stopped half way: compared with the
@@ -18,6 +85,38 @@ pub struct Coverage {
 impl Coverage {
     pub fn meet(&mut self, what: String) {
         *self.met.entry(what).or_default() += 1;
+    }
+
+    pub fn number(&mut self, call: &str, number: u64) {
+        let numbers = self.numbers.entry(call.to_string()).or_default();
+        *numbers.entry(number).or_default() += 1;
+    }
+
+    pub fn operation(&mut self, name: &'static str) {
+        *self.asked.entry(name).or_default() += 1;
+    }
+
+    pub fn halt(&mut self, what: String) {
+        *self.halts.entry(what).or_default() += 1;
+    }
+
+    /// What was never met: numbers, operations and halts.
+    pub fn missing(&self) -> Vec<String> {
+        let calls = NUMBERS.iter();
+        let numbers = calls.flat_map(|(call, numbers)| {
+            let met = self.numbers.get(*call);
+            let numbers = numbers.iter();
+            numbers
+                .filter(move |n| met.is_none_or(|met| !met.contains_key(n)))
+                .map(move |n| format!("{n} at {call}"))
+        });
+        let asked = OPERATIONS.iter();
+        let asked = asked.filter(|name| !self.asked.contains_key(*name));
+        let halts = HALTS.iter();
+        let halts = halts.filter(|what| !self.halts.contains_key(**what));
+        let rest = asked.map(|name| name.to_string());
+        let rest = rest.chain(halts.map(|what| format!("a halt at {what}")));
+        numbers.chain(rest).collect()
     }
 
     pub fn calls(&self) -> u64 {
@@ -36,6 +135,21 @@ impl fmt::Display for Coverage {
         for (what, times) in &self.met {
             writeln!(f, "  {what:width$} {times:>10}")?;
         }
+        writeln!(f, "numbers of document 01, by call:")?;
+        for (call, numbers) in &self.numbers {
+            let given: Vec<_> = numbers.iter().map(|(n, t)| format!("{n}: {t}")).collect();
+            writeln!(f, "  {call:31} {}", given.join(", "))?;
+        }
+        for (what, met) in [
+            ("operations", pairs(&self.asked)),
+            ("halts at", pairs(&self.halts)),
+        ] {
+            writeln!(f, "{what}: {}", met.join(", "))?;
+        }
+        match self.missing() {
+            missing if missing.is_empty() => writeln!(f, "nothing that can arise was not met")?,
+            missing => writeln!(f, "not met: {}", missing.join(", "))?,
+        }
         write!(
             f,
             "{} calls: {} compared with the original and predicted, {} predicted alone; {} operations",
@@ -45,4 +159,10 @@ impl fmt::Display for Coverage {
             self.operations
         )
     }
+}
+
+fn pairs<K: fmt::Display>(met: &BTreeMap<K, u64>) -> Vec<String> {
+    met.iter()
+        .map(|(what, times)| format!("{what} {times}"))
+        .collect()
 }

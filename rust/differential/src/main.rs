@@ -1,5 +1,5 @@
 //! `differential --calls N --seed S [--part P] [--case I]`: runs the port and the original on N
-//! generated calls and compares. `--part registrar|protector|raw|forged` takes the cases of one part
+//! generated calls and compares. `--part registrar|protector|raw` takes the cases of one part
 //! alone; `--case` runs one case of that seed alone and prints it.
 
 use differential::coverage::Coverage;
@@ -23,7 +23,7 @@ fn main() -> ExitCode {
         Err(text) => {
             eprintln!("differential: {text}");
             eprintln!(
-                "usage: differential --calls N --seed S [--part registrar|protector|raw|forged] [--case I]"
+                "usage: differential --calls N --seed S [--part registrar|protector|raw] [--case I]"
             );
             return ExitCode::from(2);
         }

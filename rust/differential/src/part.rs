@@ -3,7 +3,6 @@
 use crate::case;
 use crate::coverage::Coverage;
 use crate::generate;
-use crate::protector::forged;
 use crate::protector::generate as protector_cases;
 use crate::protector::lines;
 use crate::protector::raw;
@@ -20,8 +19,6 @@ pub enum Part {
     Protector,
     /// The protector's entries, on any words.
     Raw,
-    /// The protector's entries, on the original's tables.
-    Forged,
 }
 
 impl Part {
@@ -30,7 +27,6 @@ impl Part {
             "registrar" => Some(Self::Registrar),
             "protector" => Some(Self::Protector),
             "raw" => Some(Self::Raw),
-            "forged" => Some(Self::Forged),
             _ => None,
         }
     }
@@ -40,26 +36,18 @@ pub enum Case {
     Registrar(Vec<case::Act>),
     Protector(Vec<lines::Act>),
     Raw(Vec<raw::Act>),
-    Forged(Vec<forged::Act>),
 }
 
 impl Case {
     /// The case of a seed and a number: of one part, or of all in turn.
     pub fn new(seed: u64, number: u64, part: Option<Part>) -> Self {
-        let in_turn = [
-            Part::Registrar,
-            Part::Protector,
-            Part::Raw,
-            Part::Protector,
-            Part::Forged,
-        ];
-        let part = part.unwrap_or(in_turn[(number % 5) as usize]);
+        let in_turn = [Part::Registrar, Part::Protector, Part::Raw, Part::Protector];
+        let part = part.unwrap_or(in_turn[(number % 4) as usize]);
         let random = &mut Random::new(seed, number);
         match part {
             Part::Registrar => Self::Registrar(generate::case(random)),
             Part::Protector => Self::Protector(protector_cases::case(random)),
             Part::Raw => Self::Raw(raw::case(random)),
-            Part::Forged => Self::Forged(protector_cases::forged(random)),
         }
     }
 
@@ -69,7 +57,6 @@ impl Case {
             Self::Registrar(acts) => run::run(acts, coverage),
             Self::Protector(acts) => lines::run(acts, coverage),
             Self::Raw(acts) => raw::run(acts, coverage),
-            Self::Forged(acts) => forged::run(acts, coverage),
         }
     }
 
@@ -86,9 +73,6 @@ impl Case {
             Self::Raw(acts) => Self::Raw(shrink(acts, |acts| {
                 raw::run(acts, &mut none()).map(|d| d.place)
             })),
-            Self::Forged(acts) => Self::Forged(shrink(acts, |acts| {
-                forged::run(acts, &mut none()).map(|d| d.place)
-            })),
         }
     }
 
@@ -96,7 +80,6 @@ impl Case {
     pub fn readers(&self) -> &'static str {
         match self {
             Self::Raw(_) => "",
-            Self::Forged(_) => ", which oracle reads too",
             _ => ", which port and oracle read too",
         }
     }
@@ -106,7 +89,6 @@ impl Case {
             Self::Registrar(acts) => acts.iter().flat_map(case::Act::lines).collect(),
             Self::Protector(acts) => acts.iter().flat_map(lines::Act::lines).collect(),
             Self::Raw(acts) => acts.iter().map(raw::Act::line).collect(),
-            Self::Forged(acts) => acts.iter().map(forged::Act::line).collect(),
         }
     }
 }

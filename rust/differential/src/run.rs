@@ -244,6 +244,21 @@ impl Run<'_> {
                 format!("#22, {kind} edge, {after}")
             }
         };
+        let number = match awaited {
+            Awaited::Bad => None,
+            Awaited::Refused(number) => Some(*number),
+            Awaited::Ended(End::Unaligned { .. }, _) => Some(22),
+            Awaited::Ended(End::Failed { .. }, _) => Some(23),
+            Awaited::Asks(_) | Awaited::Ended(End::Done, _) => Some(0),
+        };
+        if let Some(number) = number {
+            self.coverage.number(name, number);
+        }
+        if let (Awaited::Ended(_, asked), What::Call { .. }) = (awaited, &act.what) {
+            asked
+                .iter()
+                .for_each(|_| self.coverage.operation("Register"));
+        }
         self.coverage.meet(format!("{name}{asks}: {given}"));
         match with_original {
             true => self.coverage.with_original += 1,

@@ -1,5 +1,9 @@
 //! Scripts of the protector's calls, put to the port, the original and the predictor.
 
+use super::change::Change;
+use super::change::Failures;
+use super::change::List;
+use super::change::runs;
 use super::predict::Answer;
 use super::predict::Call;
 use super::predict::Given;
@@ -32,22 +36,6 @@ pub struct Build {
     pub ram: Vec<Entry>,
 }
 
-/// A list as it is written.
-#[derive(Debug, Clone, PartialEq, Eq)]
-pub enum List {
-    Pages(Vec<u64>),
-    Bytes(Vec<u8>),
-}
-
-/// A visibility change.
-#[derive(Debug, Clone, PartialEq, Eq)]
-pub struct Change {
-    pub vtl: u64,
-    /// 0 private, 1 shared, or unfit.
-    pub visibility: u64,
-    pub list: List,
-}
-
 #[derive(Debug, Clone, PartialEq, Eq)]
 pub enum What {
     /// Whether maps are shown at each operation.
@@ -56,7 +44,7 @@ pub enum What {
     /// Run to its end; of those operations, counted from 1, the answer is failed.
     Call {
         change: Change,
-        failures: BTreeMap<u64, (u16, u64)>,
+        failures: Failures,
     },
     /// Run to its first operation.
     Start(Change),
@@ -76,44 +64,6 @@ pub type Lend = [Option<u64>; 9];
 pub struct Act {
     pub what: What,
     pub lend: Lend,
-}
-
-impl List {
-    pub fn bytes(&self) -> Vec<u8> {
-        match self {
-            List::Pages(pages) => pages.iter().flat_map(|page| page.to_le_bytes()).collect(),
-            List::Bytes(bytes) => bytes.clone(),
-        }
-    }
-
-    fn text(&self) -> String {
-        match self {
-            List::Pages(pages) if pages.is_empty() => ".".to_string(),
-            List::Pages(pages) => runs(pages),
-            List::Bytes(bytes) => {
-                let digits: String = bytes.iter().map(|byte| format!("{byte:02X}")).collect();
-                format!("hex:{digits}")
-            }
-        }
-    }
-}
-
-/// Pages in list order, ascending neighbours shortened.
-fn runs(pages: &[u64]) -> String {
-    let mut texts = Vec::new();
-    let mut i = 0;
-    while i < pages.len() {
-        let mut last = i;
-        while last + 1 < pages.len() && pages[last].checked_add(1) == Some(pages[last + 1]) {
-            last += 1;
-        }
-        texts.push(match last == i {
-            true => pages[i].to_string(),
-            false => format!("{}-{}", pages[i], pages[last]),
-        });
-        i = last + 1;
-    }
-    texts.join(",")
 }
 
 impl Build {
@@ -145,51 +95,6 @@ impl Build {
     }
 }
 
-impl Change {
-    /// Whether there is a page from 2^52 on: the original takes it for another one.
-    pub(super) fn is_high(&self) -> bool {
-        let pages = numbers(&self.list.bytes());
-        pages.iter().any(|page| page >> 52 != 0)
-    }
-
-    fn line(&self) -> String {
-        let to = match self.visibility {
-            0 => "private".to_string(),
-            1 => "shared".to_string(),
-            unfit => unfit.to_string(),
-        };
-        format!(
-            "change_host_visibility {} {to} {}",
-            self.vtl,
-            self.list.text()
-        )
-    }
-
-    pub(super) fn line_failing(&self, failures: &BTreeMap<u64, (u16, u64)>) -> String {
-        let mut line = self.line();
-        for (place, (code, processed)) in failures {
-            line += &format!(" fail={place}:{code}:{processed}");
-        }
-        line
-    }
-
-    /// With its whole pages by their numbers: the original reads no raw bytes.
-    pub(super) fn by_numbers(&self) -> Self {
-        Self {
-            list: List::Pages(numbers(&self.list.bytes())),
-            ..self.clone()
-        }
-    }
-
-    pub(super) fn call(&self) -> Call {
-        Call::Change {
-            vtl: self.vtl,
-            visibility: self.visibility,
-            list: self.list.bytes(),
-        }
-    }
-}
-
 impl Act {
     pub fn line(&self) -> String {
         match &self.what {
@@ -209,6 +114,22 @@ impl Act {
             .filter_map(|(name, len)| len.map(|len| format!(" {name}={len}")))
             .collect();
         (!words.is_empty()).then(|| format!("lend{words}"))
+    }
+
+    /// What of a lend line its call is lent: a lock call has state and tables, the setter the state.
+    pub(super) fn taken(&self, lend: Lend) -> Lend {
+        let (What::Call { change, .. } | What::Start(change)) = &self.what else {
+            return lend;
+        };
+        let mut taken = [None; 9];
+        match change {
+            Change::Enable => taken[6] = lend[6],
+            Change::Lock { .. } | Change::Unlock { .. } => {
+                (taken[6], taken[8]) = (lend[6], lend[8]);
+            }
+            _ => taken = lend,
+        }
+        taken
     }
 
     /// All its lines: a call that is stopped at its first operation is stepped.
@@ -232,7 +153,7 @@ struct Open {
     change: Change,
     /// What it asked for so far, as the port wrote it.
     asked: Vec<String>,
-    failures: BTreeMap<u64, (u16, u64)>,
+    failures: Failures,
 }
 
 struct Run<'a> {
@@ -244,6 +165,8 @@ struct Run<'a> {
     open: Option<Open>,
     /// Whether the original still answers: it is gone once it panicked.
     lives: bool,
+    /// Whether the port went where the original can't go.
+    apart: bool,
     coverage: &'a mut Coverage,
 }
 
@@ -259,6 +182,7 @@ pub fn run(acts: &[Act], coverage: &mut Coverage) -> Option<Difference> {
         trace: false,
         open: None,
         lives: false,
+        apart: false,
         coverage,
     };
     let mut acts = acts.iter().enumerate();
@@ -270,8 +194,6 @@ struct Awaited {
     /// The line, or `bad`.
     line: String,
     last: Given,
-    /// The operations that the line itself asked for.
-    asked: u64,
     kind: Kind,
 }
 
@@ -298,7 +220,7 @@ impl Run<'_> {
         if stepped {
             self.expect(place, "step 1", "ok | ops=0")?;
         }
-        let lent = self.lend(place, act)?;
+        let lent = act.taken(self.lend(place, act)?);
         let line = act.line();
         let given = self.send(&line);
         if let What::Trace(on) = act.what {
@@ -383,7 +305,8 @@ impl Run<'_> {
                 &mut spare
             }
         };
-        let none = BTreeMap::new();
+        let none = Failures::new();
+        let open = self.open.as_ref().is_none_or(|o| o.change.is_indexed());
         let (first, failures, steps) = match &act.what {
             What::Call { change, failures } => (change.call(), failures, false),
             What::Start(change) => (change.call(), &none, true),
@@ -402,6 +325,7 @@ impl Run<'_> {
         let mut ops = Vec::new();
         let mut refused = Vec::new();
         while last.operation != 0 {
+            self.coverage.operation(OPERATIONS[last.operation as usize]);
             let op = operation(world, &last);
             ops.push(match self.trace {
                 true => format!("{op} {{{}}}", maps(world)),
@@ -422,7 +346,11 @@ impl Run<'_> {
                 },
             };
         }
-        let (result, kind) = result(&last);
+        let indexed = match &act.what {
+            What::Call { change, .. } | What::Start(change) => change.is_indexed(),
+            _ => open,
+        };
+        let (result, kind) = result(&last, indexed);
         let mut line = format!("{result} | ops={}", ops.len());
         if !ops.is_empty() {
             line += &format!(" | {}", ops.join("; "));
@@ -433,12 +361,7 @@ impl Run<'_> {
         if !refused.is_empty() {
             line += &format!(" | refused21={}", refused.join(","));
         }
-        Awaited {
-            line,
-            last,
-            asked: ops.len() as u64,
-            kind,
-        }
+        Awaited { line, last, kind }
     }
 
     /// A query or a fault, answered by the port.
@@ -454,6 +377,7 @@ impl Run<'_> {
             };
         };
         let awaited = lent_world(world, lent).query(query);
+        self.coverage.number(name, awaited.number);
         let result = query_result(query, &awaited);
         let predicted = format!("{result} | ops=0");
         let kind = match (awaited.number, query) {
@@ -470,6 +394,7 @@ impl Run<'_> {
             Query::Fault { .. } => awaited.number == 0,
             Query::Lower { gpn, .. } => [0, 7].contains(&awaited.number) && gpn >> 52 == 0,
             Query::Access { .. } => [0, 24].contains(&awaited.number),
+            Query::Overlay { .. } | Query::Enabled | Query::Default0 => awaited.number == 0,
         };
         let asked = in_domain && self.lives && self.open.is_none() && world.state[0] == 0;
         let original = asked.then(|| self.ask_original(&query_line(query, true)));
@@ -527,7 +452,6 @@ impl Run<'_> {
         Awaited {
             line: format!("{result} | ops=0"),
             last,
-            asked: 0,
             kind,
         }
     }
@@ -544,6 +468,7 @@ impl Run<'_> {
         if is_build && awaited.kind != Kind::Bad {
             self.open = None;
             self.lives = awaited.kind == Kind::Ended;
+            self.apart = false;
         }
         match awaited.kind {
             Kind::Bad | Kind::Refused => None,
@@ -554,7 +479,7 @@ impl Run<'_> {
                         *open = Some(Open {
                             change: change.clone(),
                             asked: vec![op],
-                            failures: BTreeMap::new(),
+                            failures: Failures::new(),
                         });
                     }
                     (what, Some(open)) => {
@@ -565,43 +490,66 @@ impl Run<'_> {
                 }
                 None
             }
-            Kind::Ended => {
-                let (line, from_port) = match (&act.what, self.open.take()) {
-                    (What::Done | What::Failed { .. }, Some(mut open)) => {
-                        open.note(&act.what);
-                        let line = open.change.by_numbers().line_failing(&open.failures);
-                        let result = plain_result(given);
-                        let (count, asked) = (open.asked.len(), open.asked.join("; "));
-                        (line, format!("{result} | ops={count} | {asked}"))
-                    }
-                    (What::Call { change, failures }, _) => {
-                        (change.by_numbers().line_failing(failures), plain(given))
-                    }
-                    (What::Start(change), _) => (change.by_numbers().line(), plain(given)),
-                    _ => (act.line(), plain(given)),
-                };
-                let strange = match &act.what {
-                    What::Call { change, .. } | What::Start(change) => change.is_high(),
-                    What::Build(build) => build.is_strange(),
-                    _ => false,
-                };
-                if !self.lives || strange {
-                    return None;
-                }
-                let answer = self.ask_original(&line);
-                let answer = without_more(&answer);
-                if answer.starts_with("panic") {
-                    self.lives = false;
-                }
-                self.coverage.with_original += 1;
-                self.coverage.predicted_alone -= 1;
-                self.coverage.operations += awaited.asked;
-                let from_port = match answer.contains("flags=?") {
-                    true => without_flags(&from_port),
-                    false => from_port,
-                };
-                Some((from_port, answer))
+            Kind::Ended => self.original_end(act, awaited, given),
+        }
+    }
+
+    /// The same, of a call that has ended.
+    fn original_end(
+        &mut self,
+        act: &Act,
+        awaited: &Awaited,
+        given: &str,
+    ) -> Option<(String, String)> {
+        let answer = matches!(act.what, What::Done | What::Failed { .. });
+        let open = self.open.take().filter(|_| answer);
+        let none = Failures::new();
+        let (change, failures, from_port) = match (&act.what, &open) {
+            (_, Some(open)) => {
+                let (count, asked) = (open.asked.len(), open.asked.join("; "));
+                let from_port = format!("{} | ops={count} | {asked}", plain_result(given));
+                (Some(&open.change), &open.with(&act.what), from_port)
             }
+            (What::Call { change, failures }, _) => (Some(change), failures, plain(given)),
+            (What::Start(change), _) => (Some(change), &none, plain(given)),
+            _ => (None, &none, plain(given)),
+        };
+        let is_default = matches!(change, Some(Change::Default { .. }));
+        let number = awaited.last.number;
+        if let Some(change) = change {
+            // Cuts differ, so no failure of a default change is scripted.
+            let halts = is_default && number == 20;
+            if halts || change.is_high() && matches!(number, 0 | 16) {
+                self.apart = true;
+                self.lives = false;
+            }
+        }
+        let strange = match &act.what {
+            What::Build(build) => build.is_strange(),
+            _ => change.is_some_and(Change::is_high),
+        };
+        if !self.lives || strange {
+            return None;
+        }
+        let line = match change {
+            Some(change) if is_default => change.line(),
+            Some(change) => change.by_numbers().line_failing(failures),
+            None => act.line(),
+        };
+        let answer = without_more(&self.ask_original(&line));
+        if answer.starts_with("panic") {
+            self.lives = false;
+        }
+        self.coverage.with_original += 1;
+        self.coverage.predicted_alone -= 1;
+        self.coverage.operations += awaited.last.count;
+        let from_port = match answer.contains("flags=?") {
+            true => without_flags(&from_port),
+            false => from_port,
+        };
+        match is_default {
+            true => Some((by_pages(&from_port), by_pages(&answer))),
+            false => Some((from_port, answer)),
         }
     }
 
@@ -617,12 +565,10 @@ impl Run<'_> {
             };
             let predicted = match line {
                 "dump" => format!("ok {} | ops=0", maps(world)),
-                _ => "ok enabled=0 default0=15 default1=- overlays0=[] overlays1=[] locks0=[] \
-                      locks1=[] | ops=0"
-                    .to_string(),
+                _ => format!("ok {} | ops=0", tables(world)),
             };
             // What a panic left behind is shown too.
-            let asked = self.open.is_none() && world.state[0] < 2;
+            let asked = self.open.is_none() && world.state[0] < 2 && !self.apart;
             let original = asked.then(|| self.ask_original(line));
             if given != predicted || original.as_ref().is_some_and(|answer| *answer != given) {
                 return differ(place, line.to_string(), given, original, predicted);
@@ -632,53 +578,75 @@ impl Run<'_> {
     }
 
     fn count(&mut self, act: &Act, awaited: &Awaited) {
-        let (name, stepped) = match &act.what {
-            What::Trace(_) | What::Query(_) => ("line", ""),
-            What::Build(_) => ("build", ""),
-            What::Call { change, .. } => (change_name(change), ""),
-            What::Start(change) => (change_name(change), ", stepped"),
-            What::Done => ("answer done", ""),
-            What::Failed { .. } => ("answer failed", ""),
+        let open = self.open.as_ref().map(|open| &open.change);
+        let (name, call, stepped) = match &act.what {
+            What::Trace(_) | What::Query(_) => ("line", None, ""),
+            What::Build(_) => ("build", None, ""),
+            What::Call { change, .. } => (label(change), Some(change), ""),
+            What::Start(change) => (label(change), Some(change), ", stepped"),
+            What::Done => ("answer done", open, ""),
+            What::Failed { .. } => ("answer failed", open, ""),
         };
-        let last = &awaited.last;
-        let world = self.world.as_ref();
-        let isolation = match world.map(|world| world.state[16]) {
+        let isolation = match self.world.as_ref().map(|world| world.state[16]) {
             Some(2) => " (snp)",
             Some(3) => " (tdx)",
             Some(4) => " (cca)",
             _ => "",
         };
+        let last = &awaited.last;
         let given = match (awaited.kind, last.number) {
             (Kind::Bad, _) => "bad".to_string(),
             (Kind::Refused, number) => format!("refused {number}"),
             (Kind::Asks, _) => format!("asks {}{isolation}", OPERATIONS[last.operation as usize]),
             (Kind::Ended, 0) => format!("ok{isolation}{}", many(last.count)),
-            (Kind::Ended, 20) => {
-                let kind = match &act.what {
-                    What::Failed { .. } => String::new(),
-                    _ => awaited
-                        .line
-                        .split(" | ")
-                        .nth(2)
-                        .and_then(|ops| ops.rsplit("; ").next())
-                        .and_then(|op| op.split_ascii_whitespace().next())
-                        .map_or(String::new(), |op| format!(" at {op}")),
-                };
-                format!("halts{isolation}{kind}")
-            }
+            (Kind::Ended, 20) => format!("halts{isolation}{}", last_op(&awaited.line)),
             (Kind::Ended, number) => format!("#{number}{isolation}{}", many(last.count)),
         };
+        if awaited.kind != Kind::Bad {
+            let name = match &act.what {
+                What::Call { change, .. } | What::Start(change) => change.name(),
+                _ => name,
+            };
+            self.coverage.number(name, last.number);
+        }
         self.coverage.meet(format!("{name}{stepped}: {given}"));
-        if let What::Call { change, .. } | What::Start(change) = &act.what {
-            let pages = change.list.bytes().len() / 8;
+        if (awaited.kind, last.number) == (Kind::Ended, 20) {
+            let op = match (&act.what, &self.open) {
+                (What::Failed { .. }, Some(open)) => {
+                    let op = open.asked.last().map_or("", |op| op.as_str());
+                    op.split(' ').next().unwrap_or("").to_string()
+                }
+                _ => last_op(&awaited.line)
+                    .trim_start_matches(" at ")
+                    .to_string(),
+            };
+            let call = call.map_or("no call", label);
+            self.coverage.halt(format!("{op} of {call}"));
+        }
+        if let What::Call { change, .. } | What::Start(change) = &act.what
+            && let Some(list) = change.list()
+        {
+            let pages = list.bytes().len() / 8;
             let size = match pages {
                 0 | 1 | 511 | 512 => pages.to_string(),
                 513.. => "over 512".to_string(),
                 _ => "2 to 510".to_string(),
             };
-            self.coverage.meet(format!("a list of {size} pages"));
+            let name = label(change);
+            self.coverage
+                .meet(format!("{name}: a list of {size} pages"));
         }
         self.coverage.predicted_alone += 1;
+    }
+}
+
+/// The kind of the last operation on a line.
+fn last_op(line: &str) -> String {
+    let ops = line.split(" | ").nth(2).unwrap_or("");
+    let last = ops.rsplit("; ").next().unwrap_or("");
+    match last.split(' ').next() {
+        Some(op) if op.starts_with(char::is_uppercase) => format!(" at {op}"),
+        _ => String::new(),
     }
 }
 
@@ -718,6 +686,9 @@ fn query_line(query: &Query, for_original: bool) -> String {
         ),
         Query::Lower { vtl, gpn } => format!("query_lower_vtl_permissions {vtl} {gpn}"),
         Query::Access { gpn } => format!("query_access_permission {gpn}"),
+        Query::Overlay { vtl, gpn } => format!("is_overlay_page {vtl} {gpn}"),
+        Query::Enabled => "vtl1_protections_enabled".to_string(),
+        Query::Default0 => "default_vtl0_protections".to_string(),
     }
 }
 
@@ -757,21 +728,29 @@ fn many(count: u64) -> &'static str {
     }
 }
 
-fn change_name(change: &Change) -> &'static str {
-    match change.visibility {
-        0 => "to private",
-        1 => "to shared",
-        _ => "to no visibility",
+fn label(change: &Change) -> &'static str {
+    match change {
+        Change::Visibility { visibility: 0, .. } => "to private",
+        Change::Visibility { visibility: 1, .. } => "to shared",
+        Change::Visibility { .. } => "to no visibility",
+        other => other.name(),
     }
 }
 
 impl Open {
     /// A failed answer that was taken.
     fn note(&mut self, what: &What) {
+        self.failures = self.with(what);
+    }
+
+    /// The failures so far, and this one.
+    fn with(&self, what: &What) -> Failures {
+        let mut failures = self.failures.clone();
         if let What::Failed { code, processed } = what {
             let place = self.asked.len() as u64;
-            self.failures.insert(place, (*code, *processed));
+            failures.insert(place, (*code, *processed));
         }
+        failures
     }
 }
 
@@ -779,7 +758,6 @@ fn awaited_bad() -> Awaited {
     Awaited {
         line: "bad".to_string(),
         last: Given::default(),
-        asked: 0,
         kind: Kind::Bad,
     }
 }
@@ -801,7 +779,7 @@ fn lent_world(world: &World, lent: &Lend) -> World {
     world
 }
 
-const OPERATIONS: [&str; 9] = [
+pub(super) const OPERATIONS: [&str; 11] = [
     "nothing",
     "Wait",
     "FlushAll",
@@ -811,6 +789,8 @@ const OPERATIONS: [&str; 9] = [
     "Modify",
     "Accept",
     "Zero",
+    "Flush",
+    "TlbWait",
 ];
 
 pub(super) fn operation(world: &World, given: &Given) -> String {
@@ -818,10 +798,11 @@ pub(super) fn operation(world: &World, given: &Given) -> String {
     let pages = match given.pages {
         0 => "none".to_string(),
         1 => given.first.to_string(),
-        count => format!("{}-{}", given.first, given.first + count - 1),
+        count => format!("{}-{}", given.first, given.first + (count - 1)),
     };
     match given.operation {
         1 | 2 => name.to_string(),
+        9 | 10 => format!("{name} vtl={}", given.vtl),
         3 => {
             let (vtl, flags) = (given.vtl, given.flags);
             let operand = match given.operand {
@@ -861,6 +842,34 @@ pub(super) fn maps(world: &World) -> String {
     shown.collect::<Vec<_>>().join(" ")
 }
 
+/// The settings, overlays and locks as a line shows them.
+fn tables(world: &World) -> String {
+    let default1 = match world.state[21] {
+        flags @ 0..16 => flags.to_string(),
+        _ => "-".to_string(),
+    };
+    let overlays = [0, 641].map(|at| {
+        let entries = world.tables[at + 1..].chunks(5);
+        let entries = entries.take(world.tables[at] as usize).map(|e| {
+            let source = ["guest", "dma"][e[4] as usize];
+            format!("{}:{}:{}:{}:{source}", e[0], e[1], e[2], e[3])
+        });
+        entries.collect::<Vec<_>>().join(",")
+    });
+    let locks = [0, 1].map(|vtl| {
+        let lists = world.locks(vtl).into_iter().map(|(_, pages)| {
+            let pages: Vec<_> = pages.iter().map(u64::to_string).collect();
+            format!("({})", pages.join(","))
+        });
+        lists.collect::<String>()
+    });
+    format!(
+        "enabled={} default0={} default1={default1} overlays0=[{}] overlays1=[{}] locks0=[{}] \
+         locks1=[{}]",
+        world.state[19], world.state[20], overlays[0], overlays[1], locks[0], locks[1]
+    )
+}
+
 /// Nonzero runs, in which four or more equal bytes are counted.
 fn sparse(map: &[u8]) -> String {
     let mut shown = Vec::new();
@@ -883,12 +892,13 @@ fn sparse(map: &[u8]) -> String {
     format!("sparse({})[{}]", map.len(), shown.join(";"))
 }
 
-pub(super) fn result(last: &Given) -> (String, Kind) {
+fn result(last: &Given, indexed: bool) -> (String, Kind) {
     let &Given { code, index, .. } = last;
     match last.number {
         0 if last.operation == 0 => ("ok".to_string(), Kind::Ended),
         0 => ("asked".to_string(), Kind::Asks),
-        number @ (7 | 10 | 11 | 15 | 16) => (format!("err {code} {index} #{number}"), Kind::Ended),
+        number @ (7 | 10..=16) if !indexed => (format!("err {code} #{number}"), Kind::Ended),
+        number @ (7 | 10..=16) => (format!("err {code} {index} #{number}"), Kind::Ended),
         20 if last.count != 0 => ("halted".to_string(), Kind::Ended),
         number => (format!("refused {number}"), Kind::Refused),
     }
@@ -918,6 +928,40 @@ pub(super) fn plain_result(given: &str) -> String {
         "halted" => "panic".to_string(),
         other => other.to_string(),
     }
+}
+
+/// A default change's line by its pages: they are protected in any order and any cuts, and maps
+/// meanwhile aren't looked at. What follows stays as it is.
+fn by_pages(line: &str) -> String {
+    let mut parts = line.split(" | ");
+    let result = parts.next().unwrap_or("");
+    let ops = parts.find(|part| part.starts_with(char::is_uppercase));
+    let ops: Vec<&str> = ops.map_or(Vec::new(), |ops| ops.split("; ").collect());
+    let protects = ops.iter().take_while(|op| op.starts_with("Protect "));
+    let count = protects.clone().count();
+    let mut runs: BTreeMap<String, Vec<(u64, u64)>> = BTreeMap::new();
+    for op in protects {
+        let op = op.split(" {").next().unwrap_or(op);
+        let (kind, pages) = op.split_once(" pages=").unwrap_or((op, ""));
+        let (first, last) = pages.split_once('-').unwrap_or((pages, pages));
+        let number = |text: &str| text.parse().unwrap_or(u64::MAX);
+        let run = (number(first), number(last));
+        runs.entry(kind.to_string()).or_default().push(run);
+    }
+    let mut texts = vec![result.to_string()];
+    for (kind, mut runs) in runs {
+        runs.sort();
+        let mut joined: Vec<(u64, u64)> = Vec::new();
+        for (first, last) in runs {
+            match joined.last_mut() {
+                Some(run) if run.1.checked_add(1) == Some(first) => run.1 = last,
+                _ => joined.push((first, last)),
+            }
+        }
+        texts.push(format!("{kind} pages={joined:?}"));
+    }
+    texts.extend(ops[count..].iter().map(|op| op.to_string()));
+    texts.join("; ")
 }
 
 /// The port's line as the original writes it: without its count, and what can't fail by its name.
@@ -1002,7 +1046,7 @@ impl Simpler for Act {
                         failures: fewer,
                     });
                 }
-                for change in shorter(change) {
+                for change in change.simpler() {
                     with(What::Call {
                         change,
                         failures: failures.clone(),
@@ -1012,9 +1056,9 @@ impl Simpler for Act {
             What::Start(change) => {
                 with(What::Call {
                     change: change.clone(),
-                    failures: BTreeMap::new(),
+                    failures: Failures::new(),
                 });
-                for change in shorter(change) {
+                for change in change.simpler() {
                     with(What::Start(change));
                 }
             }
@@ -1024,13 +1068,8 @@ impl Simpler for Act {
             }),
             What::Failed { .. } => with(What::Done),
             What::Query(Query::Visibility { list, out }) => {
-                let pages = Change {
-                    vtl: 0,
-                    visibility: 0,
-                    list: List::Pages(numbers(list)),
-                };
-                for change in shorter(&pages) {
-                    let list = change.list.bytes();
+                for list in List::Pages(numbers(list)).shorter() {
+                    let list = list.bytes();
                     with(What::Query(Query::Visibility { list, out: *out }));
                 }
             }
@@ -1044,23 +1083,4 @@ impl Simpler for Act {
         }
         acts
     }
-}
-
-pub(super) fn shorter(change: &Change) -> Vec<Change> {
-    let List::Pages(pages) = &change.list else {
-        return vec![change.by_numbers()];
-    };
-    let mut changes = Vec::new();
-    for size in [256, 64, 16, 4, 1] {
-        let mut from = 0;
-        while from + size <= pages.len() {
-            let list = List::Pages([&pages[..from], &pages[from + size..]].concat());
-            changes.push(Change {
-                list,
-                ..change.clone()
-            });
-            from += size;
-        }
-    }
-    changes
 }

@@ -1,5 +1,6 @@
 //! Any words in any lengths: the library's entries against the predictor, every buffer compared.
 
+use super::lines::OPERATIONS;
 use super::predict::Answer;
 use super::predict::Call;
 use super::predict::Given;
@@ -104,7 +105,7 @@ fn inner<T>(buffer: &mut [T]) -> &mut [T] {
 }
 
 /// Makes the call by the library's entry; none if it wrote beside a buffer.
-pub(super) fn library(world: &World, call: &Call) -> Option<(World, Reply)> {
+fn library(world: &World, call: &Call) -> Option<(World, Reply)> {
     let mut maps = world.maps.each_ref().map(|map| guarded(map, GUARD_BYTE));
     let mut state = guarded(&world.state, GUARD_WORD);
     let mut pages = guarded(&world.pages, GUARD_WORD);
@@ -135,6 +136,21 @@ pub(super) fn library(world: &World, call: &Call) -> Option<(World, Reply)> {
             visibility,
             list,
         } => entries::change_host_visibility(lent, *vtl, *visibility, list),
+        Call::Protections { vtl, flags, list } => {
+            entries::change_vtl_protections(lent, *vtl, *flags, list)
+        }
+        Call::Default { vtl, flags } => entries::change_default_vtl_protections(lent, *vtl, *flags),
+        &Call::Register {
+            vtl,
+            gpn,
+            source,
+            checked,
+            new,
+        } => entries::register_overlay_page(lent, vtl, gpn, source, checked, new),
+        Call::Unregister { vtl, gpn } => entries::unregister_overlay_page(lent, *vtl, *gpn),
+        Call::Lock { vtl, list } => entries::lock_gpns(lent.state, lent.tables, *vtl, list),
+        Call::Unlock { vtl, list } => entries::unlock_gpns(lent.state, lent.tables, *vtl, list),
+        Call::Enable => entries::set_vtl1_protections_enabled(lent.state),
         Call::Done => entries::answer_done(lent),
         Call::Failed { code, processed } => entries::answer_failed(lent, *code, *processed),
     };
@@ -150,7 +166,7 @@ pub(super) fn library(world: &World, call: &Call) -> Option<(World, Reply)> {
     Some((after, reply))
 }
 
-pub(super) fn given(reply: &Reply) -> Given {
+fn given(reply: &Reply) -> Given {
     Given {
         number: reply.number,
         code: reply.code,
@@ -215,6 +231,9 @@ pub fn run(acts: &[Act], coverage: &mut Coverage) -> Option<Difference> {
             }
             _ => continue,
         };
+        if world.walks_far(call) {
+            continue;
+        }
         let mut predicted = world.clone();
         let awaited = predicted.call(call);
         count(call, &world, &awaited, coverage);
@@ -279,6 +298,11 @@ fn ask(world: &World, query: &Query) -> Answer {
         } => entries::page_fault(seen, mapping, view, address, writes, failure),
         &Query::Lower { vtl, gpn } => entries::query_lower_vtl_permissions(seen, vtl, gpn),
         &Query::Access { gpn } => entries::query_access_permission(seen, gpn),
+        &Query::Overlay { vtl, gpn } => {
+            entries::is_overlay_page(&world.state, &world.tables, vtl, gpn)
+        }
+        Query::Enabled => entries::vtl1_protections_enabled(&world.state),
+        Query::Default0 => entries::default_vtl0_protections(&world.state),
     };
     Answer {
         number: value.number,
@@ -293,7 +317,11 @@ fn count_query(query: &Query, awaited: &Answer, coverage: &mut Coverage) {
         Query::Fault { .. } => "page_fault",
         Query::Lower { .. } => "query_lower_vtl_permissions",
         Query::Access { .. } => "query_access_permission",
+        Query::Overlay { .. } => "is_overlay_page",
+        Query::Enabled => "vtl1_protections_enabled",
+        Query::Default0 => "default_vtl0_protections",
     };
+    coverage.number(name, awaited.number);
     let given = match (query, awaited.number) {
         (Query::Fault { .. }, 0) => format!("answer {}", awaited.value),
         (_, 0) => "ok".to_string(),
@@ -307,11 +335,18 @@ fn count(call: &Call, world: &World, awaited: &Given, coverage: &mut Coverage) {
     let name = match call {
         Call::Build { .. } => "build",
         Call::Change { .. } => "change_host_visibility",
+        Call::Protections { .. } => "change_vtl_protections",
+        Call::Default { .. } => "change_default_vtl_protections",
+        Call::Register { .. } => "register_overlay_page",
+        Call::Unregister { .. } => "unregister_overlay_page",
+        Call::Lock { .. } => "lock_gpns",
+        Call::Unlock { .. } => "unlock_gpns",
+        Call::Enable => "set_vtl1_protections_enabled",
         Call::Done => "answer done",
         Call::Failed { .. } => "answer failed",
     };
     let phase = match world.state.first() {
-        Some(&phase @ 2..=12) => format!(" at phase {phase}"),
+        Some(&phase @ 2..=19) => format!(" at phase {phase}"),
         Some(0) | None => String::new(),
         Some(1) => " halted".to_string(),
         Some(_) => " at no phase".to_string(),
@@ -322,6 +357,10 @@ fn count(call: &Call, world: &World, awaited: &Given, coverage: &mut Coverage) {
         (20, _) if awaited.count != 0 => "halts".to_string(),
         (number, _) => format!("number {number}"),
     };
+    coverage.number(name, awaited.number);
+    if awaited.operation != 0 {
+        coverage.operation(OPERATIONS[awaited.operation as usize]);
+    }
     coverage.meet(format!("raw {name}{phase}: {given}"));
     coverage.predicted_alone += 1;
 }
@@ -423,6 +462,14 @@ fn page(random: &mut Random, pages: &[u64]) -> u64 {
     }
 }
 
+/// Often one of the first few, so that calls meet what was put there.
+fn near(random: &mut Random, pages: &[u64]) -> u64 {
+    match random.chance(80) {
+        true => random.pick(&pages[..3]),
+        false => page(random, pages),
+    }
+}
+
 /// Words where a call reads them.
 fn forge(random: &mut Random, pages: &[u64], bytes: usize) -> Act {
     let put = |buffer: usize, at: u64, words: Vec<u64>| Act::Put {
@@ -430,9 +477,19 @@ fn forge(random: &mut Random, pages: &[u64], bytes: usize) -> Act {
         at: at as usize,
         words,
     };
-    match random.below(15) {
-        0..=2 => put(6, 0, vec![random.below(15)]),
-        3 => {
+    match random.below(22) {
+        0..=3 => {
+            let phase = random.below(22);
+            put(6, 0, vec![random.pick(&[0, phase, phase])])
+        }
+        15 => put(
+            6,
+            10,
+            vec![random.below(3), word(random), word(random), random.below(3)],
+        ),
+        16..=17 | 19..=20 => put(8, 641 * random.below(2), overlays(random, pages)),
+        18 => put(6, 4, vec![page(random, pages)]),
+        14 => {
             let n = random.pick(&[0, 1, 2, 7, 511, 512, 513, 600, u64::MAX]);
             let at = random.below(n.min(520) + 3);
             put(6, 3, vec![n, at])
@@ -481,24 +538,35 @@ fn forge(random: &mut Random, pages: &[u64], bytes: usize) -> Act {
             }
             put(7, at, words)
         }
-        13 => {
-            let mut words = vec![random.pick(&[0, 1, 2, 3, 128, 129, u64::MAX])];
-            for _ in 0..random.below(4) {
-                words.extend([page(random, pages), 15, 15, 1, 0]);
-            }
-            put(8, 641 * random.below(2), words)
-        }
         _ => {
             let lists = random.below(4);
             let mut words = vec![random.pick(&[lists, lists, 64, 65, u64::MAX])];
             for _ in 0..lists {
                 let len = random.below(4);
                 words.push(random.pick(&[len, len, len, 1088, u64::MAX]));
-                words.extend((0..len).map(|_| page(random, pages)));
+                words.extend((0..len).map(|_| near(random, pages)));
             }
             put(8, 1282 + 1089 * random.below(2), words)
         }
     }
+}
+
+/// Overlay entries: as calls leave them, or any.
+fn overlays(random: &mut Random, pages: &[u64]) -> Vec<u64> {
+    let entries = random.pick(&[0, 1, 2, 3, 3, 8]);
+    let mut words = vec![random.pick(&[entries, entries, entries, 127, 128, 129, u64::MAX])];
+    let odd = random.chance(30);
+    for _ in 0..entries {
+        words.push(near(random, pages));
+        match odd {
+            true => words.extend([word(random), word(random)]),
+            false => words.extend([random.below(16), random.below(16)]),
+        }
+        let any = word(random);
+        words.push(random.pick(&[0, 1, 1, 1, 2, 65_534, 65_535, 65_536, any]));
+        words.push(random.pick(&[0, 0, 0, 1, 1, 2, any]));
+    }
+    words
 }
 
 fn build(random: &mut Random, ram: &[u64], tracked: u64) -> Call {
@@ -544,7 +612,10 @@ fn query(random: &mut Random, pages: &[u64]) -> Query {
         true => word(random),
         false => random.below(end),
     };
-    match small(4) {
+    match small(7) {
+        4 => Query::Overlay { vtl: small(2), gpn },
+        5 => Query::Enabled,
+        6 => Query::Default0,
         0 => {
             let most = random.pick(&[0, 1, 5, 40, 512, 513]);
             let mut list: Vec<u8> = (0..most)
@@ -578,45 +649,89 @@ fn query(random: &mut Random, pages: &[u64]) -> Query {
 fn call(random: &mut Random, ram: &[u64], tracked: u64, pages: &[u64]) -> Call {
     match random.below(100) {
         0..=1 => build(random, ram, tracked),
-        2..=64 => Call::Done,
-        65..=79 => Call::Failed {
+        2..=49 => Call::Done,
+        50..=61 => Call::Failed {
             code: random.bits() as u16,
             processed: random.pick(&[0, 1, 2, 3, 5, 100, 511, 512, 513, u64::MAX]),
         },
-        _ => {
-            let mut vtl = random.below(2);
-            let mut visibility = random.below(2);
-            let mut list: Vec<u8> = Vec::new();
-            let most = random.pick(&[0, 1, 3, 10, 60, 512, 513]);
-            let first = random.below(pages.len() as u64) as usize;
-            let mut chosen: Vec<u64> = match random.below(3) {
-                0 => (0..most).map(|_| page(random, pages)).collect(),
-                _ => pages.iter().skip(first).take(most).copied().collect(),
-            };
-            if random.chance(30) {
-                chosen.reverse();
-            }
-            if random.chance(80) {
-                let mut seen = std::collections::BTreeSet::new();
-                chosen.retain(|page| seen.insert(*page));
-            }
-            list.extend(chosen.iter().flat_map(|page| page.to_le_bytes()));
-            if random.chance(4) {
-                list.extend((0..random.within(1, 9)).map(|i| i as u8));
-            }
-            if random.chance(4) {
-                vtl = word(random);
-            }
-            if random.chance(4) {
-                visibility = word(random);
-            }
+        62..=73 => {
+            let list = list(random, pages, 80);
+            let (vtl, visibility) = (small(random, 2), small(random, 2));
             Call::Change {
                 vtl,
                 visibility,
                 list,
             }
         }
+        74..=79 => Call::Protections {
+            vtl: small(random, 2),
+            flags: small(random, 16),
+            list: list(random, pages, 30),
+        },
+        80..=82 => Call::Default {
+            vtl: small(random, 2),
+            flags: small(random, 16),
+        },
+        83..=89 => Call::Register {
+            vtl: small(random, 2),
+            gpn: near(random, pages),
+            source: small(random, 2),
+            checked: small(random, 16),
+            new: small(random, 17),
+        },
+        90..=92 => Call::Unregister {
+            vtl: small(random, 2),
+            gpn: near(random, pages),
+        },
+        93..=95 => Call::Lock {
+            vtl: small(random, 2),
+            list: few(random, pages),
+        },
+        96..=98 => Call::Unlock {
+            vtl: small(random, 2),
+            list: few(random, pages),
+        },
+        _ => Call::Enable,
     }
+}
+
+/// Below an end, seldom any.
+fn small(random: &mut Random, end: u64) -> u64 {
+    match random.chance(3) {
+        true => word(random),
+        false => random.below(end),
+    }
+}
+
+/// A short list, so that it is met again; seldom any.
+fn few(random: &mut Random, pages: &[u64]) -> Vec<u8> {
+    if random.chance(25) {
+        return list(random, pages, 30);
+    }
+    let chosen = (0..random.below(3)).map(|_| near(random, pages));
+    chosen.flat_map(|page| page.to_le_bytes()).collect()
+}
+
+/// A list; so many times in a hundred without repeats.
+fn list(random: &mut Random, pages: &[u64], unlike: u64) -> Vec<u8> {
+    let most = random.pick(&[0, 1, 1, 3, 10, 60, 512, 513]);
+    let first = random.below(pages.len() as u64) as usize;
+    let mut chosen: Vec<u64> = match random.below(3) {
+        0 => (0..most).map(|_| page(random, pages)).collect(),
+        _ => pages.iter().skip(first).take(most).copied().collect(),
+    };
+    if random.chance(30) {
+        chosen.reverse();
+    }
+    if random.chance(unlike) {
+        let mut seen = std::collections::BTreeSet::new();
+        chosen.retain(|page| seen.insert(*page));
+    }
+    let mut list: Vec<u8> = chosen.iter().flat_map(|page| page.to_le_bytes()).collect();
+    if random.chance(4) {
+        list.extend((0..random.within(1, 9)).map(|i| i as u8));
+    }
+    list
 }
 
 impl Simpler for Act {
@@ -643,27 +758,38 @@ impl Simpler for Act {
                 }
                 simpler
             }
-            Act::Call(Call::Change {
-                vtl,
-                visibility,
-                list,
-            }) => shorter(list)
-                .into_iter()
-                .map(|list| {
-                    Act::Call(Call::Change {
-                        vtl: *vtl,
-                        visibility: *visibility,
-                        list,
-                    })
-                })
-                .collect(),
+            Act::Call(call) => shorter_calls(call).into_iter().map(Act::Call).collect(),
             Act::Query(Query::Visibility { list, out }) => shorter(list)
                 .into_iter()
                 .map(|list| Act::Query(Query::Visibility { list, out: *out }))
                 .collect(),
-            Act::Call(_) | Act::Query(_) => Vec::new(),
+            Act::Query(_) => Vec::new(),
         }
     }
+}
+
+/// A call with a shorter list.
+fn shorter_calls(call: &Call) -> Vec<Call> {
+    let (Call::Change { list, .. }
+    | Call::Protections { list, .. }
+    | Call::Lock { list, .. }
+    | Call::Unlock { list, .. }) = call
+    else {
+        return Vec::new();
+    };
+    let lists = shorter(list).into_iter();
+    let with = |other: Vec<u8>| {
+        let mut call = call.clone();
+        match &mut call {
+            Call::Change { list, .. }
+            | Call::Protections { list, .. }
+            | Call::Lock { list, .. }
+            | Call::Unlock { list, .. } => *list = other,
+            _ => (),
+        }
+        call
+    };
+    lists.map(with).collect()
 }
 
 /// A list without some of its pages.

@@ -35,6 +35,10 @@ impl Backend for Idle {
 
     fn flush_all(&mut self) {}
 
+    fn flush(&mut self, _: underhill_mem_port::GuestVtl) {}
+
+    fn tlb_wait(&mut self, _: underhill_mem_port::GuestVtl) {}
+
     fn protect(&mut self, _: Protect) -> Result<(), ()> {
         Ok(())
     }
