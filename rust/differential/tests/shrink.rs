@@ -6,7 +6,12 @@ use differential::case::Entry;
 use differential::case::Lend;
 use differential::case::Request;
 use differential::case::What;
+use differential::protector::change::Change;
+use differential::protector::change::List;
+use differential::protector::lines;
+use differential::protector::raw;
 use differential::shrink::shrink;
+use std::collections::BTreeMap;
 
 fn register(address: u64, len: u64) -> Act {
     Act {
@@ -67,4 +72,81 @@ fn a_difference_is_shortened() {
         lines[0]
     );
     assert_eq!(lines[0].matches(',').count(), 1, "{}", lines[0]);
+}
+
+fn called(change: Change) -> lines::Act {
+    lines::Act {
+        what: lines::What::Call {
+            change,
+            failures: BTreeMap::from([(2, (5, 1))]),
+        },
+        lend: [None; 9],
+    }
+}
+
+/// As if an overlay of page 7 behind a lock of page 9 differed.
+#[test]
+fn overlays_and_locks_are_shortened() {
+    let lock = |pages: Vec<u64>| {
+        called(Change::Lock {
+            vtl: 1,
+            list: List::Pages(pages),
+        })
+    };
+    let register = |gpn: u64| {
+        called(Change::Register {
+            vtl: 0,
+            gpn,
+            source: 0,
+            checked: 9,
+            new: 3,
+        })
+    };
+    let default = called(Change::Default { vtl: 0, flags: 3 });
+    let case = [
+        lock((0..40).collect()),
+        default,
+        register(8),
+        lock(vec![3]),
+        register(7),
+        register(9),
+    ];
+    let differs = |acts: &[lines::Act]| {
+        let locks = acts.iter().position(|act| match &act.what {
+            lines::What::Call {
+                change: Change::Lock { list, .. },
+                ..
+            } => matches!(list, List::Pages(pages) if pages.contains(&9)),
+            _ => false,
+        })?;
+        let mut behind = acts[locks..].iter();
+        let place = behind.position(|act| {
+            let line = act.line();
+            line.starts_with("register_overlay_page 0 7 ")
+        })?;
+        Some(locks + place)
+    };
+    let short = shrink(&case, differs);
+    let lines: Vec<_> = short.iter().map(lines::Act::line).collect();
+    assert_eq!(
+        lines,
+        ["lock_gpns 1 9", "register_overlay_page 0 7 guest 0 ."]
+    );
+}
+
+/// As if an unlock of a list with page 5 differed.
+#[test]
+fn raw_lists_are_shortened() {
+    use differential::protector::predict::Call;
+    let list = (0..100).flat_map(u64::to_le_bytes).collect();
+    let case = [raw::Act::Call(Call::Unlock { vtl: 0, list })];
+    let differs = |acts: &[raw::Act]| {
+        acts.iter().position(|act| match act {
+            raw::Act::Call(Call::Unlock { list, .. }) => list.chunks(8).any(|p| p[0] == 5),
+            _ => false,
+        })
+    };
+    let short = shrink(&case, differs);
+    let list = vec![5, 0, 0, 0, 0, 0, 0, 0];
+    assert_eq!(short, [raw::Act::Call(Call::Unlock { vtl: 0, list })]);
 }

@@ -1,15 +1,26 @@
 //! Times the port against the original in one run, on the same calls, with backends that do
-//! nothing. Build it with --release.
+//! nothing. Build it with --release. `bench [visibility|protections|registrar ..]` times these alone.
 
+mod protections;
 mod registrar;
+mod subjects;
 mod visibility;
 
 use std::time::Duration;
 
 fn main() {
     recorder::set_idle(true);
-    visibility::run();
-    registrar::run();
+    let named: Vec<String> = std::env::args().skip(1).collect();
+    let parts: [(&str, fn()); 3] = [
+        ("visibility", visibility::run),
+        ("protections", protections::run),
+        ("registrar", registrar::run),
+    ];
+    for (name, run) in parts {
+        if named.is_empty() || named.iter().any(|named| named == name) {
+            run();
+        }
+    }
 }
 
 fn heading(what: &str) {

@@ -1,0 +1,206 @@
+//! What is measured: a protector of either kind, with backends that do nothing.
+
+use hcl::GuestVtl;
+use hvdef::HvMapGpaFlags;
+use memory_range::MemoryRange;
+use underhill_mem_port::Backend;
+use underhill_mem_port::Flags;
+use underhill_mem_port::GpnSource;
+use underhill_mem_port::HardwareIsolatedMemoryProtector;
+use underhill_mem_port::IsolationType;
+use underhill_mem_port::ModifyError;
+use underhill_mem_port::Overlay;
+use underhill_mem_port::PageRun;
+use underhill_mem_port::Protect;
+use underhill_mem_port::Visibility;
+use underhill_mem_source::Init;
+use underhill_mem_source::MemoryMappings;
+use virt_mshv_vtl::ProtectIsolatedMemory;
+use virt_mshv_vtl::TlbFlushLockAccess;
+use vm_topology::memory::MemoryLayout;
+use vm_topology::memory::MemoryRangeWithNode;
+
+/// A backend that does nothing, of either kind.
+struct Idle;
+
+impl Backend for Idle {
+    type Error = ();
+
+    fn wait(&mut self) {}
+
+    fn flush_all(&mut self) {}
+
+    fn flush(&mut self, _: underhill_mem_port::GuestVtl) {}
+
+    fn tlb_wait(&mut self, _: underhill_mem_port::GuestVtl) {}
+
+    fn protect(&mut self, _: Protect) -> Result<(), ()> {
+        Ok(())
+    }
+
+    fn invalidate(&mut self, _: PageRun) -> Result<(), ()> {
+        Ok(())
+    }
+
+    fn release(&mut self, _: PageRun) -> Result<(), ()> {
+        Ok(())
+    }
+
+    fn modify(&mut self, _: Visibility, _: &[u64]) -> Result<(), ModifyError> {
+        Ok(())
+    }
+
+    fn accept(&mut self, _: PageRun) -> Result<(), ()> {
+        Ok(())
+    }
+
+    fn zero(&mut self, _: PageRun) -> Result<(), ()> {
+        Ok(())
+    }
+}
+
+impl TlbFlushLockAccess for Idle {
+    fn flush(&mut self, _: GuestVtl) {}
+
+    fn flush_entire(&mut self) {}
+
+    fn set_wait_for_tlb_locks(&mut self, _: GuestVtl) {}
+}
+
+/// VTL0's calls; each says whether it went well.
+pub trait Subject {
+    fn change(&mut self, shared: bool, pages: &[u64]) -> bool;
+    fn protect(&mut self, flags: u8, pages: &[u64]) -> bool;
+    fn set_default(&mut self, flags: u8) -> bool;
+    /// An overlay in guest memory that is read and written from now on.
+    fn register(&mut self, gpn: u64) -> bool;
+    fn unregister(&mut self, gpn: u64) -> bool;
+    fn lock(&mut self, pages: &[u64]) -> bool;
+    fn unlock(&mut self, pages: &[u64]) -> bool;
+}
+
+const VTL0: underhill_mem_port::GuestVtl = underhill_mem_port::GuestVtl::Vtl0;
+
+fn port_flags(bits: u8) -> Flags {
+    Flags::from_bits(bits.into()).expect("they are below 16")
+}
+
+impl Subject for HardwareIsolatedMemoryProtector {
+    fn change(&mut self, shared: bool, pages: &[u64]) -> bool {
+        let to = match shared {
+            true => Visibility::Shared,
+            false => Visibility::Private,
+        };
+        self.change_host_visibility(VTL0, to, pages, &mut Idle)
+            .is_ok()
+    }
+
+    fn protect(&mut self, flags: u8, pages: &[u64]) -> bool {
+        self.change_vtl_protections(VTL0, pages, port_flags(flags), &mut Idle)
+            .is_ok()
+    }
+
+    fn set_default(&mut self, flags: u8) -> bool {
+        self.change_default_vtl_protections(VTL0, port_flags(flags), &mut Idle)
+            .is_ok()
+    }
+
+    fn register(&mut self, gpn: u64) -> bool {
+        let overlay = Overlay {
+            gpn,
+            source: GpnSource::GuestMemory,
+            checked: Flags::NONE,
+            new: Some(Flags::READABLE | Flags::WRITABLE),
+        };
+        self.register_overlay_page(VTL0, overlay, &mut Idle).is_ok()
+    }
+
+    fn unregister(&mut self, gpn: u64) -> bool {
+        self.unregister_overlay_page(VTL0, gpn, &mut Idle).is_ok()
+    }
+
+    fn lock(&mut self, pages: &[u64]) -> bool {
+        self.lock_gpns(VTL0, pages).is_ok()
+    }
+
+    fn unlock(&mut self, pages: &[u64]) -> bool {
+        self.unlock_gpns(VTL0, pages).is_ok()
+    }
+}
+
+fn flags(bits: u8) -> HvMapGpaFlags {
+    HvMapGpaFlags::from_bits(bits.into())
+}
+
+impl Subject for MemoryMappings {
+    fn change(&mut self, shared: bool, pages: &[u64]) -> bool {
+        let protector = &self.protector;
+        let changed = protector.change_host_visibility(GuestVtl::Vtl0, shared, pages, &mut Idle);
+        changed.is_ok()
+    }
+
+    fn protect(&mut self, bits: u8, pages: &[u64]) -> bool {
+        let protector = &self.protector;
+        let changed =
+            protector.change_vtl_protections(GuestVtl::Vtl0, pages, flags(bits), &mut Idle);
+        changed.is_ok()
+    }
+
+    fn set_default(&mut self, bits: u8) -> bool {
+        let protector = &self.protector;
+        let changed =
+            protector.change_default_vtl_protections(GuestVtl::Vtl0, flags(bits), &mut Idle);
+        changed.is_ok()
+    }
+
+    fn register(&mut self, gpn: u64) -> bool {
+        let source = virt_mshv_vtl::GpnSource::GuestMemory;
+        let (vtl, new) = (GuestVtl::Vtl0, Some(flags(3)));
+        let protector = &self.protector;
+        let registered =
+            protector.register_overlay_page(vtl, gpn, source, flags(0), new, &mut Idle);
+        registered.is_ok()
+    }
+
+    fn unregister(&mut self, gpn: u64) -> bool {
+        let protector = &self.protector;
+        let gone = protector.unregister_overlay_page(GuestVtl::Vtl0, gpn, &mut Idle);
+        gone.is_ok()
+    }
+
+    fn lock(&mut self, pages: &[u64]) -> bool {
+        self.protector.lock_gpns(GuestVtl::Vtl0, pages).is_ok()
+    }
+
+    fn unlock(&mut self, pages: &[u64]) -> bool {
+        self.protector.unlock_gpns(GuestVtl::Vtl0, pages);
+        true
+    }
+}
+
+/// One entry of RAM, permissions tracked.
+pub fn port(isolation: IsolationType, end: u64) -> HardwareIsolatedMemoryProtector {
+    let ram = [underhill_mem_port::MemoryRangeWithNode {
+        range: underhill_mem_port::MemoryRange { start: 0, end },
+        vnode: 0,
+    }];
+    HardwareIsolatedMemoryProtector::new(&ram, isolation, true, false).expect("the layout is fit")
+}
+
+pub fn original(isolation: IsolationType, end: u64) -> MemoryMappings {
+    let ram = vec![MemoryRangeWithNode {
+        range: MemoryRange::new(0..end),
+        vnode: 0,
+    }];
+    let params = Init {
+        isolation: match isolation {
+            IsolationType::Snp => virt::IsolationType::Snp,
+            IsolationType::Tdx => virt::IsolationType::Tdx,
+            IsolationType::Cca => virt::IsolationType::Cca,
+        },
+        tracked: true,
+        layout: MemoryLayout::new(ram).expect("the layout is fit"),
+        vp_count: 2,
+    };
+    underhill_mem_source::init(&params).expect("the layout is fit")
+}
