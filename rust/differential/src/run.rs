@@ -244,14 +244,7 @@ impl Run<'_> {
                 format!("#22, {kind} edge, {after}")
             }
         };
-        let number = match awaited {
-            Awaited::Bad => None,
-            Awaited::Refused(number) => Some(*number),
-            Awaited::Ended(End::Unaligned { .. }, _) => Some(22),
-            Awaited::Ended(End::Failed { .. }, _) => Some(23),
-            Awaited::Asks(_) | Awaited::Ended(End::Done, _) => Some(0),
-        };
-        if let Some(number) = number {
+        if let Some(number) = number(awaited) {
             self.coverage.number(name, number);
         }
         if let (Awaited::Ended(_, asked), What::Call { .. }) = (awaited, &act.what) {
@@ -267,6 +260,17 @@ impl Run<'_> {
         if let (Awaited::Ended(_, asked), true) = (awaited, with_original) {
             self.coverage.operations += asked.len() as u64;
         }
+    }
+}
+
+/// Document 01's number.
+fn number(awaited: &Awaited) -> Option<u64> {
+    match awaited {
+        Awaited::Bad => None,
+        Awaited::Refused(number) => Some(*number),
+        Awaited::Ended(End::Unaligned { .. }, _) => Some(22),
+        Awaited::Ended(End::Failed { .. }, _) => Some(23),
+        Awaited::Asks(_) | Awaited::Ended(End::Done, _) => Some(0),
     }
 }
 

@@ -189,6 +189,62 @@ pub fn run(acts: &[Act], coverage: &mut Coverage) -> Option<Difference> {
     acts.find_map(|(place, act)| run.act(place, act).err().map(|difference| *difference))
 }
 
+/// A call that is predicted operation by operation.
+struct Driven {
+    last: Given,
+    ops: Vec<String>,
+    /// The operations whose failure 21 refused.
+    refused: Vec<String>,
+}
+
+impl Driven {
+    fn new(last: Given) -> Self {
+        Self {
+            last,
+            ops: Vec::new(),
+            refused: Vec::new(),
+        }
+    }
+
+    fn note(&mut self, world: &World, trace: bool) {
+        let op = operation(world, &self.last);
+        self.ops.push(match trace {
+            true => format!("{op} {{{}}}", maps(world)),
+            false => op,
+        });
+    }
+
+    fn answer(&mut self, world: &mut World, failures: &Failures) {
+        let place = self.ops.len() as u64;
+        let failed = failures
+            .get(&place)
+            .map(|&(code, processed)| world.call(&Call::Failed { code, processed }));
+        self.last = match failed {
+            Some(given) if given.number != 21 => given,
+            other => {
+                self.refused.extend(other.map(|_| place.to_string()));
+                world.call(&Call::Done)
+            }
+        };
+    }
+
+    fn awaited(self, indexed: bool) -> Awaited {
+        let Self { last, ops, refused } = self;
+        let (result, kind) = result(&last, indexed);
+        let mut line = format!("{result} | ops={}", ops.len());
+        if !ops.is_empty() {
+            line += &format!(" | {}", ops.join("; "));
+        }
+        if kind == Kind::Ended && last.count != 0 {
+            line += &format!(" | count={}", last.count);
+        }
+        if !refused.is_empty() {
+            line += &format!(" | refused21={}", refused.join(","));
+        }
+        Awaited { line, last, kind }
+    }
+}
+
 /// What a line leads to.
 struct Awaited {
     /// The line, or `bad`.
@@ -305,63 +361,29 @@ impl Run<'_> {
                 &mut spare
             }
         };
-        let none = Failures::new();
-        let open = self.open.as_ref().is_none_or(|o| o.change.is_indexed());
-        let (first, failures, steps) = match &act.what {
-            What::Call { change, failures } => (change.call(), failures, false),
-            What::Start(change) => (change.call(), &none, true),
-            What::Done => (Call::Done, &none, true),
-            What::Failed { code, processed } => (
-                Call::Failed {
-                    code: *code,
-                    processed: *processed,
-                },
-                &none,
-                true,
-            ),
+        let under_way = self.open.as_ref().map(|open| &open.change);
+        let (first, failures, call) = match &act.what {
+            What::Call { change, failures } => (change.call(), Some(failures), Some(change)),
+            What::Start(change) => (change.call(), None, Some(change)),
+            What::Done => (Call::Done, None, under_way),
+            What::Failed { code, processed } => {
+                let (code, processed) = (*code, *processed);
+                (Call::Failed { code, processed }, None, under_way)
+            }
             What::Build(_) | What::Trace(_) | What::Query(_) => unreachable!("they are seen to"),
         };
-        let mut last = world.call(&first);
-        let mut ops = Vec::new();
-        let mut refused = Vec::new();
-        while last.operation != 0 {
-            self.coverage.operation(OPERATIONS[last.operation as usize]);
-            let op = operation(world, &last);
-            ops.push(match self.trace {
-                true => format!("{op} {{{}}}", maps(world)),
-                false => op,
-            });
-            if steps {
+        let mut driven = Driven::new(world.call(&first));
+        while driven.last.operation != 0 {
+            let name = OPERATIONS[driven.last.operation as usize];
+            self.coverage.operation(name);
+            driven.note(world, self.trace);
+            // What isn't run to its end is stepped.
+            let Some(failures) = failures else {
                 break;
-            }
-            let place = ops.len() as u64;
-            last = match failures.get(&place) {
-                None => world.call(&Call::Done),
-                Some(&(code, processed)) => match world.call(&Call::Failed { code, processed }) {
-                    given if given.number == 21 => {
-                        refused.push(place.to_string());
-                        world.call(&Call::Done)
-                    }
-                    given => given,
-                },
             };
+            driven.answer(world, failures);
         }
-        let indexed = match &act.what {
-            What::Call { change, .. } | What::Start(change) => change.is_indexed(),
-            _ => open,
-        };
-        let (result, kind) = result(&last, indexed);
-        let mut line = format!("{result} | ops={}", ops.len());
-        if !ops.is_empty() {
-            line += &format!(" | {}", ops.join("; "));
-        }
-        if kind == Kind::Ended && last.count != 0 {
-            line += &format!(" | count={}", last.count);
-        }
-        if !refused.is_empty() {
-            line += &format!(" | refused21={}", refused.join(","));
-        }
-        Awaited { line, last, kind }
+        driven.awaited(call.is_none_or(Change::is_indexed))
     }
 
     /// A query or a fault, answered by the port.
@@ -1009,78 +1031,90 @@ pub(super) fn without_flags(line: &str) -> String {
 impl Simpler for Act {
     fn simpler(&self) -> Vec<Self> {
         let lend = self.lend;
-        let mut acts = Vec::new();
-        let mut with = |what: What| acts.push(Act { what, lend });
-        match &self.what {
-            What::Build(build) => {
-                for place in 0..build.ram.len() {
-                    let mut fewer = build.clone();
-                    fewer.ram.remove(place);
-                    with(What::Build(fewer));
-                }
-                for place in 0..build.ram.len() {
-                    let entry = build.ram[place];
-                    let end = entry.start.saturating_add(32_768);
-                    if end < entry.end {
-                        let mut smaller = build.clone();
-                        smaller.ram[place].end = end;
-                        with(What::Build(smaller));
-                    }
-                }
-                for (tracked, release) in [(0, build.release), (build.tracked, 0)] {
-                    if (tracked, release) < (build.tracked, build.release) {
-                        with(What::Build(Build {
-                            tracked,
-                            release,
-                            ..build.clone()
-                        }));
-                    }
-                }
-            }
-            What::Call { change, failures } => {
-                for place in failures.keys() {
-                    let mut fewer = failures.clone();
-                    fewer.remove(place);
-                    with(What::Call {
-                        change: change.clone(),
-                        failures: fewer,
-                    });
-                }
-                for change in change.simpler() {
-                    with(What::Call {
-                        change,
-                        failures: failures.clone(),
-                    });
-                }
-            }
-            What::Start(change) => {
-                with(What::Call {
-                    change: change.clone(),
-                    failures: Failures::new(),
-                });
-                for change in change.simpler() {
-                    with(What::Start(change));
-                }
-            }
-            What::Failed { processed, .. } if *processed > 0 => with(What::Failed {
-                code: 5,
-                processed: processed / 2,
-            }),
-            What::Failed { .. } => with(What::Done),
-            What::Query(Query::Visibility { list, out }) => {
-                for list in List::Pages(numbers(list)).shorter() {
-                    let list = list.bytes();
-                    with(What::Query(Query::Visibility { list, out: *out }));
-                }
-            }
-            What::Trace(_) | What::Done | What::Query(_) => (),
-        }
-        if self.lend != [None; 9] {
+        let simpler = self.what.simpler().into_iter();
+        let mut acts: Vec<_> = simpler.map(|what| Act { what, lend }).collect();
+        if lend != [None; 9] {
             acts.push(Act {
                 what: self.what.clone(),
                 lend: [None; 9],
             });
         }
         acts
+    }
+}
+
+impl What {
+    fn simpler(&self) -> Vec<Self> {
+        match self {
+            What::Build(build) => build.simpler().into_iter().map(What::Build).collect(),
+            What::Call { change, failures } => simpler_calls(change, failures),
+            What::Start(change) => {
+                let call = What::Call {
+                    change: change.clone(),
+                    failures: Failures::new(),
+                };
+                let simpler = change.simpler().into_iter().map(What::Start);
+                [call].into_iter().chain(simpler).collect()
+            }
+            What::Failed { processed, .. } if *processed > 0 => vec![What::Failed {
+                code: 5,
+                processed: processed / 2,
+            }],
+            What::Failed { .. } => vec![What::Done],
+            What::Query(Query::Visibility { list, out }) => {
+                let lists = List::Pages(numbers(list)).shorter().into_iter();
+                let with = |list: List| Query::Visibility {
+                    list: list.bytes(),
+                    out: *out,
+                };
+                lists.map(|list| What::Query(with(list))).collect()
+            }
+            What::Trace(_) | What::Done | What::Query(_) => Vec::new(),
+        }
+    }
+}
+
+fn simpler_calls(change: &Change, failures: &Failures) -> Vec<What> {
+    let fewer = failures.keys().map(|place| {
+        let mut fewer = failures.clone();
+        fewer.remove(place);
+        What::Call {
+            change: change.clone(),
+            failures: fewer,
+        }
+    });
+    let simpler = change.simpler().into_iter().map(|change| What::Call {
+        change,
+        failures: failures.clone(),
+    });
+    fewer.chain(simpler).collect()
+}
+
+impl Build {
+    fn simpler(&self) -> Vec<Self> {
+        let mut builds = Vec::new();
+        for place in 0..self.ram.len() {
+            let mut fewer = self.clone();
+            fewer.ram.remove(place);
+            builds.push(fewer);
+        }
+        for (place, entry) in self.ram.iter().enumerate() {
+            let end = entry.start.saturating_add(32_768);
+            if end < entry.end {
+                let mut smaller = self.clone();
+                smaller.ram[place].end = end;
+                builds.push(smaller);
+            }
+        }
+        for (tracked, release) in [(0, self.release), (self.tracked, 0)] {
+            if (tracked, release) < (self.tracked, self.release) {
+                builds.push(Build {
+                    tracked,
+                    release,
+                    ..self.clone()
+                });
+            }
+        }
+        builds
     }
 }

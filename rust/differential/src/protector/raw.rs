@@ -470,66 +470,26 @@ fn near(random: &mut Random, pages: &[u64]) -> u64 {
     }
 }
 
-/// Words where a call reads them.
-fn forge(random: &mut Random, pages: &[u64], bytes: usize) -> Act {
-    let put = |buffer: usize, at: u64, words: Vec<u64>| Act::Put {
+fn put(buffer: usize, at: u64, words: Vec<u64>) -> Act {
+    Act::Put {
         buffer,
         at: at as usize,
         words,
-    };
+    }
+}
+
+/// Words where a call reads them.
+fn forge(random: &mut Random, pages: &[u64], bytes: usize) -> Act {
     match random.below(22) {
-        0..=3 => {
-            let phase = random.below(22);
-            put(6, 0, vec![random.pick(&[0, phase, phase])])
-        }
-        15 => put(
-            6,
-            10,
-            vec![random.below(3), word(random), word(random), random.below(3)],
-        ),
-        16..=17 | 19..=20 => put(8, 641 * random.below(2), overlays(random, pages)),
-        18 => put(6, 4, vec![page(random, pages)]),
-        14 => {
-            let n = random.pick(&[0, 1, 2, 7, 511, 512, 513, 600, u64::MAX]);
-            let at = random.below(n.min(520) + 3);
-            put(6, 3, vec![n, at])
-        }
-        4 => {
-            let n = random.below(20);
-            let request = [random.below(3), random.below(3), n, random.below(n + 2)];
-            let (stopped, failed) = (random.below(3), random.below(3));
-            let (index, code, count) = (word(random), word(random), word(random));
-            put(
-                6,
-                1,
-                [&request[..], &[stopped, failed, index, code, count]].concat(),
-            )
-        }
-        5 => put(6, random.below(10), vec![word(random)]),
-        6 => put(
-            6,
-            16,
-            vec![random.within(1, 6), random.below(3), random.below(3)],
-        ),
-        7 => put(6, 19, vec![random.pick(&[0, 1, 1, 2])]),
-        8 => put(6, 20, vec![random.below(18), random.below(18)]),
-        9 => match random.below(4) {
-            0 => put(
-                6,
-                31,
-                vec![random.pick(&[0, 1, 2, 31, 32, 33, 1 << 63, u64::MAX / 3 + 1])],
-            ),
-            1 => put(6, random.within(32, 127), vec![word(random)]),
-            2 => put(6, random.below(130), vec![word(random)]),
-            _ => put(6, random.within(10, 30), vec![word(random)]),
-        },
-        10 => {
+        0..=7 => forge_request(random, pages),
+        8..=11 => forge_settings(random),
+        12 => {
             let buffer = random.below(6) as usize;
             let at = random.below(bytes as u64 + 1);
             let words = (0..random.within(1, 20)).map(|_| random.bits()).collect();
             put(buffer, at, words)
         }
-        11..=12 => {
+        13..=14 => {
             let at = random.pick(&[0, 0, 0, 1, 7, 500, 512, 515]);
             let mut words = Vec::new();
             for _ in 0..random.within(1, 12) {
@@ -538,17 +498,72 @@ fn forge(random: &mut Random, pages: &[u64], bytes: usize) -> Act {
             }
             put(7, at, words)
         }
-        _ => {
-            let lists = random.below(4);
-            let mut words = vec![random.pick(&[lists, lists, 64, 65, u64::MAX])];
-            for _ in 0..lists {
-                let len = random.below(4);
-                words.push(random.pick(&[len, len, len, 1088, u64::MAX]));
-                words.extend((0..len).map(|_| near(random, pages)));
-            }
-            put(8, 1282 + 1089 * random.below(2), words)
-        }
+        15..=18 => put(8, 641 * random.below(2), overlays(random, pages)),
+        _ => put(8, 1282 + 1089 * random.below(2), locks(random, pages)),
     }
+}
+
+/// The words of what is under way.
+fn forge_request(random: &mut Random, pages: &[u64]) -> Act {
+    match random.below(8) {
+        0..=3 => {
+            let phase = random.below(22);
+            put(6, 0, vec![random.pick(&[0, phase, phase])])
+        }
+        4 => {
+            let n = random.pick(&[0, 1, 2, 7, 511, 512, 513, 600, u64::MAX]);
+            let at = random.below(n.min(520) + 3);
+            put(6, 3, vec![n, at])
+        }
+        5 => {
+            let n = random.below(20);
+            let request = [random.below(3), random.below(3), n, random.below(n + 2)];
+            let (stopped, failed) = (random.below(3), random.below(3));
+            let (index, code, count) = (word(random), word(random), word(random));
+            let more = [stopped, failed, index, code, count];
+            put(6, 1, [&request[..], &more].concat())
+        }
+        6 => {
+            let (flush, flags, previous) = (random.below(3), word(random), word(random));
+            let change = vec![flush, flags, previous, random.below(3)];
+            put(6, 10, change)
+        }
+        _ => match random.chance(50) {
+            true => put(6, 4, vec![page(random, pages)]),
+            false => put(6, random.below(14), vec![word(random)]),
+        },
+    }
+}
+
+/// Isolation, flags, defaults and layout.
+fn forge_settings(random: &mut Random) -> Act {
+    match random.below(7) {
+        0 => {
+            let flags = [random.below(3), random.below(3)];
+            put(6, 16, vec![random.within(1, 6), flags[0], flags[1]])
+        }
+        1 => put(6, 19, vec![random.pick(&[0, 1, 1, 2])]),
+        2 => put(6, 20, vec![random.below(18), random.below(18)]),
+        3 => {
+            let entries = random.pick(&[0, 1, 2, 31, 32, 33, 1 << 63, u64::MAX / 3 + 1]);
+            put(6, 31, vec![entries])
+        }
+        4 => put(6, random.within(32, 127), vec![word(random)]),
+        5 => put(6, random.below(130), vec![word(random)]),
+        _ => put(6, random.within(10, 30), vec![word(random)]),
+    }
+}
+
+/// Locked lists: as calls leave them, or any.
+fn locks(random: &mut Random, pages: &[u64]) -> Vec<u64> {
+    let lists = random.below(4);
+    let mut words = vec![random.pick(&[lists, lists, lists, 64, 65, u64::MAX])];
+    for _ in 0..lists {
+        let len = random.below(4);
+        words.push(random.pick(&[len, len, len, len, 1088, u64::MAX]));
+        words.extend((0..len).map(|_| near(random, pages)));
+    }
+    words
 }
 
 /// Overlay entries: as calls leave them, or any.
