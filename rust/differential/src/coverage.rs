@@ -147,7 +147,7 @@ impl fmt::Display for Coverage {
             writeln!(f, "{what}: {}", met.join(", "))?;
         }
         match self.missing() {
-            missing if missing.is_empty() => writeln!(f, "nothing that can arise was not met")?,
+            missing if missing.is_empty() => writeln!(f, "all that can arise was met")?,
             missing => writeln!(f, "not met: {}", missing.join(", "))?,
         }
         write!(

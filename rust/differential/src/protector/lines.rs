@@ -544,6 +544,9 @@ impl Run<'_> {
             if halts || change.is_high() && matches!(number, 0 | 16) {
                 self.apart = true;
                 self.lives = false;
+                let name = change.name();
+                self.coverage
+                    .meet(format!("parted from the original by {name}"));
             }
         }
         let strange = match &act.what {
