@@ -107,6 +107,8 @@ struct protector_reply protector_change_default_vtl_protections(const uint8_t *p
     uint8_t *read, size_t read_bytes, uint8_t *write, size_t write_bytes, uint8_t *kernel, size_t kernel_bytes,
     uint8_t *user, size_t user_bytes, uint64_t *state, size_t state_words,
     const uint64_t *pages, size_t pages_words, uint64_t *tables, size_t tables_words, uint64_t vtl, uint64_t flags);
+
+/* The setter and what is set: libvtl1_protections.a */
 struct protector_reply protector_set_vtl1_protections_enabled(uint64_t *state, size_t state_words);
 struct protector_value protector_vtl1_protections_enabled(const uint64_t *state, size_t state_words);
 struct protector_value protector_default_vtl0_protections(const uint64_t *state, size_t state_words);

@@ -10,12 +10,13 @@ use std::process::Command;
 use std::time::SystemTime;
 
 /// The crates that are linked, each as libNAME.a.
-const LIBRARIES: [&str; 5] = [
+const LIBRARIES: [&str; 6] = [
     "registrar",
     "underhill_mem",
     "locked_pages",
     "overlay_pages",
     "vtl_protections",
+    "vtl1_protections",
 ];
 
 fn main() {

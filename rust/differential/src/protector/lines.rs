@@ -624,7 +624,10 @@ impl Run<'_> {
             (Kind::Refused, number) => format!("refused {number}"),
             (Kind::Asks, _) => format!("asks {}{isolation}", OPERATIONS[last.operation as usize]),
             (Kind::Ended, 0) => format!("ok{isolation}{}", many(last.count)),
-            (Kind::Ended, 20) => format!("halts{isolation}{}", last_op(&awaited.line)),
+            (Kind::Ended, 20) => {
+                let at = last_op(&awaited.line).map(|op| format!(" at {op}"));
+                format!("halts{isolation}{}", at.unwrap_or_default())
+            }
             (Kind::Ended, number) => format!("#{number}{isolation}{}", many(last.count)),
         };
         if awaited.kind != Kind::Bad {
@@ -635,44 +638,54 @@ impl Run<'_> {
             self.coverage.number(name, last.number);
         }
         self.coverage.meet(format!("{name}{stepped}: {given}"));
+        self.coverage.predicted_alone += 1;
         if (awaited.kind, last.number) == (Kind::Ended, 20) {
             let op = match (&act.what, &self.open) {
-                (What::Failed { .. }, Some(open)) => {
-                    let op = open.asked.last().map_or("", |op| op.as_str());
-                    op.split(' ').next().unwrap_or("").to_string()
-                }
-                _ => last_op(&awaited.line)
-                    .trim_start_matches(" at ")
-                    .to_string(),
+                (What::Failed { .. }, Some(open)) => open.asked.last().map(|op| kind_of(op)),
+                _ => last_op(&awaited.line),
             };
             let call = call.map_or("no call", label);
+            let op = op.unwrap_or("nothing").to_string();
             self.coverage.halt(format!("{op} of {call}"));
         }
-        if let What::Call { change, .. } | What::Start(change) = &act.what
-            && let Some(list) = change.list()
-        {
-            let pages = list.bytes().len() / 8;
-            let size = match pages {
-                0 | 1 | 511 | 512 => pages.to_string(),
+        if let What::Call { change, .. } | What::Start(change) = &act.what {
+            self.coverage.meet_sizes(change);
+        }
+    }
+}
+
+impl Coverage {
+    /// The boundaries that a call is at.
+    fn meet_sizes(&mut self, change: &Change) {
+        if let Some(list) = change.list() {
+            let size = match list.bytes().len() / 8 {
+                pages @ (0 | 1 | 511 | 512) => pages.to_string(),
                 513.. => "over 512".to_string(),
                 _ => "2 to 510".to_string(),
             };
             let name = label(change);
-            self.coverage
-                .meet(format!("{name}: a list of {size} pages"));
+            self.meet(format!("{name}: a list of {size} pages"));
         }
-        self.coverage.predicted_alone += 1;
+        if let Change::Register { gpn, .. } = change {
+            let place = match gpn >> 40 {
+                0 => "below 2^40",
+                1..4096 => "from 2^40 on",
+                _ => "from 2^52 on",
+            };
+            self.meet(format!("register_overlay_page: a page {place}"));
+        }
     }
 }
 
 /// The kind of the last operation on a line.
-fn last_op(line: &str) -> String {
-    let ops = line.split(" | ").nth(2).unwrap_or("");
-    let last = ops.rsplit("; ").next().unwrap_or("");
-    match last.split(' ').next() {
-        Some(op) if op.starts_with(char::is_uppercase) => format!(" at {op}"),
-        _ => String::new(),
-    }
+fn last_op(line: &str) -> Option<&str> {
+    let ops = line.split(" | ").nth(2)?;
+    let op = kind_of(ops.rsplit("; ").next()?);
+    op.starts_with(char::is_uppercase).then_some(op)
+}
+
+fn kind_of(op: &str) -> &str {
+    op.split(' ').next().unwrap_or(op)
 }
 
 const FAULTS: [&str; 5] = [
