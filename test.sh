@@ -1,7 +1,12 @@
 #!/usr/bin/env bash
-# All that must hold: the Rust beside the port, then every proof, must-fail edit and program.
+# All that must hold: every proof, must-fail edit and program, then the Rust beside the port, over the libraries just proved.
 set -euo pipefail
 cd "$(dirname "${BASH_SOURCE[0]}")"
+
+verdict=$(mktemp)
+trap 'rm -f "$verdict"' EXIT
+rt fmt --check
+rt ci | tee "$verdict"
 
 left_out=()
 if [ ! -d "${UNDERHILL_MEM_SRC:-../shared/docs/src/openhcl/underhill_mem/src}" ]; then
@@ -15,5 +20,5 @@ else
     echo "differential: not run"
 fi
 
-rt fmt --check
-rt ci
+# The verdict of rt ci, once more, as the last line.
+tail -n 1 "$verdict"
