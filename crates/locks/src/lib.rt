@@ -19,9 +19,16 @@ fn count(t: &[u64]) -> u64
 fn next(t: &[u64], place: u64) -> u64
     ensures { λ r. ⌜ r ≡ nextAt (now (t .entry)) place ⌝ }
 {
-    let n = numbers::word_at(t, place);
-    let first = words::place_after(t, place, 1);
-    words::place_after(t, first, n)
+    let end = t.len() as u64;
+    if end <= place {
+        return end;
+    }
+    let k = place as usize;
+    let n = t[k];
+    if end - place <= n {
+        return end;
+    }
+    place + 1 + n
 }
 
 // The place after the first n lists.
@@ -77,9 +84,15 @@ fn pages_between(place: u64, end: u64) -> u64
     numbers::minus(numbers::minus(end, place), 1)
 }
 
-// How many pages the first n lists have.
-fn total_of(t: &[u64], n: u64) -> u64
-    ensures { λ r. ⌜ r ≡ total (listsFrom (now (t .entry)) n 1) ⌝ }
+// The place after some lists, and how many pages they have.
+struct Extent {
+    place: u64,
+    total: u64,
+}
+
+// The extent of the first n lists.
+fn extent_of(t: &[u64], n: u64) -> Extent
+    ensures { λ r. ⌜ (r .place ≡ endFrom (now (t .entry)) n 1) × (r .total ≡ total (listsFrom (now (t .entry)) n 1)) ⌝ }
 {
     let mut left = n;
     let mut place: u64 = 1;
@@ -90,7 +103,10 @@ fn total_of(t: &[u64], n: u64) -> u64
         place = end;
         left -= 1;
     }
-    sum
+    Extent {
+        place: place,
+        total: sum,
+    }
 }
 
 // Whether n pages have room beside c lists with `sum` pages.
@@ -125,11 +141,11 @@ pub fn lock(t: &mut [u64], list: &[u8]) -> u64
 {
     let n = pages::page_count(list);
     let c = count(t);
-    let sum = total_of(t, c);
-    if !has_room(c, sum, n) {
+    let taken = extent_of(t, c);
+    if !has_room(c, taken.total, n) {
         return 17;
     }
-    let place = end_of(t, c);
+    let place = taken.place;
     words::put(t, place, n);
     put_pages(t, place, list);
     words::put(t, 0, c + 1);

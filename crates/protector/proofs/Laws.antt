@@ -7,7 +7,7 @@ use native.Mathlib.Numerals.{add-one}
 use lib.Dec.{eqb}
 use lib.ListN.{length, getD, drop, drop-of-length-le}
 use lib.Seq.{drop-cons}
-use borrow.Author.Tests.{eq-eqb, ne-eqb, eqb-true}
+use borrow.Author.Tests.{eq-eqb, ne-eqb, eqb-true, leb-true}
 use Rattle.laws.specs.Bools.{and-left, and-right}
 use Rattle.layout.specs.Layout.{entriesOf, mapLen}
 use Rattle.permissions.specs.declared.GuestVtl.{GuestVtl}
@@ -15,7 +15,8 @@ use Rattle.pages.specs.Pages.{pagesOf}
 use Rattle.mapping.specs.Maps.{Maps, maps, marksFit, permissionLen, permissionsFit}
 use Rattle.acceptor.specs.declared.Writes.{Writes}
 use Rattle.protector_state.specs.State.{settingsOf, ramOf, entriesIn}
-use Rattle.protector.specs.World.{pagesLen, tablesLen, overlaysOf, locksOf, lengthsFit, putPlaces, applied}
+use Rattle.request.proofs.Runs.{put-none}
+use Rattle.protector.specs.World.{pagesLen, tablesLen, overlaysOf, locksOf, lengthsFit, putPlaces, applied, isEmpty, isNothing}
 use Rattle.protector.specs.Calls.{pageRefusal, firstRefusal}
 
 -- ---- a choice by a test t that the code made as b
@@ -78,3 +79,13 @@ pub applies : (t : List ℕ) (w : Writes) (m : Maps) (p s r x k u : List ℕ) �
     → maps p s r x k u ≡ applied t w m
 unfolding applied
 applies t w m p s r x k u a b d e f g = rw (a, b, d, e, f, g) refl
+
+pub nothing-applied : (t : List ℕ) (w : Writes) (m : Maps) (b : Bool) → b ≡ isNothing w → b ≡ true → m ≡ applied t w m
+unfolding applied
+nothing-applied t w m b e h =
+    let all = sym e ∙ h in
+    let p = leb-true (w .private .to) (w .private .from) (and-left (isEmpty (w .private)) (isEmpty (w .shared) && isEmpty (w .permissions)) all) in
+    let rest = and-right (isEmpty (w .private)) (isEmpty (w .shared) && isEmpty (w .permissions)) all in
+    let s = leb-true (w .shared .to) (w .shared .from) (and-left (isEmpty (w .shared)) (isEmpty (w .permissions)) rest) in
+    let x = leb-true (w .permissions .to) (w .permissions .from) (and-right (isEmpty (w .shared)) (isEmpty (w .permissions)) rest) in
+    rw (put-none t (w .private .to) (w .private .from) (w .state) (m .private) p, put-none t (w .shared .to) (w .shared .from) (w .state) (m .shared) s, put-none t (w .permissions .to) (w .permissions .from) (w .flags .readable) (m .permissions .read) x, put-none t (w .permissions .to) (w .permissions .from) (w .flags .writable) (m .permissions .write) x, put-none t (w .permissions .to) (w .permissions .from) (w .flags .«kernel_executable») (m .permissions .kernel) x, put-none t (w .permissions .to) (w .permissions .from) (w .flags .«user_executable») (m .permissions .user) x) refl

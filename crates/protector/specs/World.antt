@@ -2,7 +2,7 @@
 use mathlib.Core.Bool.{Bool, true, false, cond, not, _&&_}
 use mathlib.Core.List.{List, _++_}
 use Prim.Native.Nat.{ℕ, _+_, _*_}
-use lib.Dec.{eqb}
+use lib.Dec.{eqb, leb}
 use lib.ListN.{length, drop, take}
 use Rattle.permissions.specs.declared.GuestVtl.{GuestVtl}
 use Rattle.permissions.specs.declared.HvMapGpaFlags.{HvMapGpaFlags}
@@ -142,6 +142,13 @@ applied t w m =
       shared = putPlaces t (w .shared) (w .state) (m .shared);
       permissions = putPermissions t (w .permissions) (w .flags) (m .permissions);
     }
+
+abbrev pub isEmpty : Places → Bool
+isEmpty p = leb (p .to) (p .from)
+
+-- a step that writes nothing
+abbrev pub isNothing : Writes → Bool
+isNothing w = isEmpty (w .private) && (isEmpty (w .shared) && isEmpty (w .permissions))
 
 -- ---- what a step of another change writes: the permissions of a run of pages, and an overlay entry
 

@@ -8,7 +8,7 @@ ghost use Rattle.mapping.specs.Maps.{maps, marksFit};
 ghost use Rattle.pages.specs.Pages.{pagesOf};
 ghost use Rattle.protector_state.specs.State.{stateLen, withRequest, entriesIn};
 ghost use Rattle.protector_state.specs.Reply.{flatOf};
-ghost use Rattle.protector.specs.World.{pagesLen, tablesLen, overlaysOf, locksOf, isLocked, lengthsFit, statusOf, statusIn, takes, takesAt, takesIn, putPlaces, applied};
+ghost use Rattle.protector.specs.World.{pagesLen, tablesLen, overlaysOf, locksOf, isLocked, lengthsFit, statusOf, statusIn, takes, takesAt, takesIn, putPlaces, applied, isEmpty, isNothing};
 ghost use Rattle.protector.specs.Calls.{permissionMapsFit, buildRefusal, pageRefusal, firstRefusal, visibilityRefusal, looksAt, answerRefusal};
 use acceptor::Phase;
 use acceptor::Places;
@@ -318,6 +318,28 @@ fn set_marks(map: &mut [u8], pages: &[u64], places: Places, state: bool)
     request::set_places(map, pages, from, to, state);
 }
 
+fn is_empty(p: Places) -> bool
+    ensures { λ r. ⌜ r ≡ isEmpty p ⌝ }
+{
+    p.to <= p.from
+}
+
+// Whether a step writes nothing.
+fn is_nothing(w: Writes) -> bool
+    ensures { λ r. ⌜ r ≡ isNothing w ⌝ }
+{
+    let p = w.private;
+    let s = w.shared;
+    let m = w.permissions;
+    if !is_empty(p) {
+        return false;
+    }
+    if !is_empty(s) {
+        return false;
+    }
+    is_empty(m)
+}
+
 // What a step writes. Places of no page write nothing.
 pub fn apply(
     private: &mut [u8],
@@ -335,6 +357,9 @@ pub fn apply(
     let s = w.shared;
     let m = w.permissions;
     let f = w.flags;
+    if is_nothing(w) {
+        return;
+    }
     set_marks(private, pages, p, w.state);
     set_marks(shared, pages, s, w.state);
     set_marks(read, pages, m, f.readable);

@@ -55,10 +55,19 @@ pub fn put_after(t: &mut [u64], place: u64, n: u64, v: u64)
 pub fn close_gap(t: &mut [u64], place: u64, n: u64)
     ensures { λ _. ⌜ now (t .exit) ≡ closed (now (t .entry)) place n ⌝ }
 {
+    let len = t.len() as u64;
+    let end = numbers::minus(len, n);
     let mut i = place;
-    while i < t.len() as u64 {
-        let w = word_after(t, i, n);
-        put(t, i, w);
+    while i < end {
+        let from = (i + n) as usize;
+        let to = i as usize;
+        let w = t[from];
+        t[to] = w;
+        i += 1;
+    }
+    while i < len {
+        let to = i as usize;
+        t[to] = 0;
         i += 1;
     }
 }

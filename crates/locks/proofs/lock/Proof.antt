@@ -13,8 +13,8 @@ page-count-requires c κs = search needs
 count-requires : tie.Need-count-requires
 count-requires c κs = search needs
 
-total-of-requires : tie.Need-total-of-requires
-total-of-requires c κs = search needs
+extent-of-requires : tie.Need-extent-of-requires
+extent-of-requires c κs = search needs
 
 has-room-requires : tie.Need-has-room-requires
 has-room-requires c κs = search needs
@@ -25,10 +25,7 @@ same-length c = search needs
 returns : tie.Need-returns
 returns c =
     let a = c .before .before .before .before .before .before .before .before .before .args in
-    laws.lock-full (a .t .now) (pagesOf (a .list .now)) _ _ _ _ (c .before .before .before .before .before .before .page-count .ensures) (c .before .before .before .before .count .ensures) (c .before .before .total-of .ensures) (c .before .has-room .ensures) (not-true (c .before .has-room .result) (c .if1 .taken))
-
-end-of-requires : tie.Need-end-of-requires
-end-of-requires c κs = search needs
+    laws.lock-full (a .t .now) (pagesOf (a .list .now)) _ _ _ _ (c .before .before .before .before .before .before .page-count .ensures) (c .before .before .before .before .count .ensures) (c .before .before .extent-of .ensures .1) (c .before .has-room .ensures) (not-true (c .before .has-room .result) (c .if1 .taken))
 
 put-requires : tie.Need-put-requires
 put-requires c κs = search needs
@@ -47,9 +44,9 @@ same-length-2 c = search needs
 
 returns-2 : tie.Need-returns-2
 returns-2 c =
-    let a = c .before .before .before .before .before .before .before .before .before .before .before .before .before .before .before .before .before .before .before .before .before .before .before .args in
-    laws.lock-made (a .t .now) (pagesOf (a .list .now)) _ _ _ _ (c .before .before .before .before .before .before .before .before .before .before .before .before .before .before .before .before .before .before .before .before .page-count .ensures) (c .before .before .before .before .before .before .before .before .before .before .before .before .before .before .before .before .before .before .count .ensures) (c .before .before .before .before .before .before .before .before .before .before .before .before .before .before .before .before .total-of .ensures) (c .before .before .before .before .before .before .before .before .before .before .before .before .before .before .before .has-room .ensures)
-    (not-false (c .before .before .before .before .before .before .before .before .before .before .before .before .before .before .before .has-room .result) (c .before .before .before .before .before .before .before .before .before .before .before .before .before .before .if1 .left)) _ _ _ _ (c .before .before .before .before .before .before .before .before .before .before .before .before .end-of .ensures) (c .before .before .before .before .before .before .before .before .before .before .put .ensures) (c .before .before .before .before .before .before .put-pages .ensures) (c .before .before .put2 .ensures)
+    let a = c .before .before .before .before .before .before .before .before .before .before .before .before .before .before .before .before .before .before .before .before .before .args in
+    laws.lock-made (a .t .now) (pagesOf (a .list .now)) _ _ _ _ (c .before .before .before .before .before .before .before .before .before .before .before .before .before .before .before .before .before .before .page-count .ensures) (c .before .before .before .before .before .before .before .before .before .before .before .before .before .before .before .before .count .ensures) (c .before .before .before .before .before .before .before .before .before .before .before .before .before .before .extent-of .ensures .1) (c .before .before .before .before .before .before .before .before .before .before .before .before .before .has-room .ensures)
+    (not-false (c .before .before .before .before .before .before .before .before .before .before .before .before .before .has-room .result) (c .before .before .before .before .before .before .before .before .before .before .before .before .if1 .left)) _ _ _ _ (c .before .before .before .before .before .before .before .before .before .before .before .before .before .before .extent-of .ensures .0) (c .before .before .before .before .before .before .before .before .before .before .put .ensures) (c .before .before .before .before .before .before .put-pages .ensures) (c .before .before .put2 .ensures)
 
 pub lock-spec : {M : Type 1} → statement M
 lock-spec =
@@ -57,11 +54,10 @@ lock-spec =
     (tie.spec
     page-count-requires
     count-requires
-    total-of-requires
+    extent-of-requires
     has-room-requires
     same-length
     returns
-    end-of-requires
     put-requires
     put-pages-requires
     add-put

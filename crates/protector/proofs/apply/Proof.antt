@@ -5,6 +5,14 @@ use Rattle.protector.proofs.apply.Statement.{statement}
 use Rattle.protector.proofs.apply.Tie as tie
 use Rattle.protector.proofs.Laws as laws
 
+is-nothing-requires : tie.Need-is-nothing-requires
+is-nothing-requires c κs = search needs
+
+returns : tie.Need-returns
+returns c =
+    let a = c .before .before .before .before .before .before .before .before .before .before .before .before .before .args in
+    laws.nothing-applied (a .pages .now) (a .w) (maps (a .private .now) (a .shared .now) (a .read .now) (a .write .now) (a .kernel .now) (a .user .now)) _ (c .before .is-nothing .ensures) (c .if1 .taken)
+
 set-marks-requires : tie.Need-set-marks-requires
 set-marks-requires c κs = search needs
 
@@ -41,13 +49,15 @@ same-length-5 c = search needs
 same-length-6 : tie.Need-same-length-6
 same-length-6 c = search needs
 
-returns : tie.Need-returns
-returns c = let a = c .before .before .before .before .before .before .before .before .before .before .before .before .before .before .before .before .before .before .before .before .before .before .before .before .before .before .before .before .before .before .before .before .before .before .before .args in laws.applies (a .pages .now) (a .w) (maps (a .private .now) (a .shared .now) (a .read .now) (a .write .now) (a .kernel .now) (a .user .now)) (c .before .before .before .before .before .before .before .before .before .before .before .before .before .before .before .before .before .before .before .before .before .before .set-marks .last .0) (c .before .before .before .before .before .before .before .before .before .before .before .before .before .before .before .before .before .before .set-marks2 .last .0) (c .before .before .before .before .before .before .before .before .before .before .before .before .before .before .set-marks3 .last .0) (c .before .before .before .before .before .before .before .before .before .before .set-marks4 .last .0) (c .before .before .before .before .before .before .set-marks5 .last .0) (c .before .before .set-marks6 .last .0) (c .before .before .before .before .before .before .before .before .before .before .before .before .before .before .before .before .before .before .before .before .before .before .set-marks .ensures) (c .before .before .before .before .before .before .before .before .before .before .before .before .before .before .before .before .before .before .set-marks2 .ensures) (c .before .before .before .before .before .before .before .before .before .before .before .before .before .before .set-marks3 .ensures) (c .before .before .before .before .before .before .before .before .before .before .set-marks4 .ensures) (c .before .before .before .before .before .before .set-marks5 .ensures) (c .before .before .set-marks6 .ensures)
+returns-2 : tie.Need-returns-2
+returns-2 c = let a = c .before .before .before .before .before .before .before .before .before .before .before .before .before .before .before .before .before .before .before .before .before .before .before .before .before .before .before .before .before .before .before .before .before .before .before .before .before .args in laws.applies (a .pages .now) (a .w) (maps (a .private .now) (a .shared .now) (a .read .now) (a .write .now) (a .kernel .now) (a .user .now)) (c .before .before .before .before .before .before .before .before .before .before .before .before .before .before .before .before .before .before .before .before .before .before .set-marks .last .0) (c .before .before .before .before .before .before .before .before .before .before .before .before .before .before .before .before .before .before .set-marks2 .last .0) (c .before .before .before .before .before .before .before .before .before .before .before .before .before .before .set-marks3 .last .0) (c .before .before .before .before .before .before .before .before .before .before .set-marks4 .last .0) (c .before .before .before .before .before .before .set-marks5 .last .0) (c .before .before .set-marks6 .last .0) (c .before .before .before .before .before .before .before .before .before .before .before .before .before .before .before .before .before .before .before .before .before .before .set-marks .ensures) (c .before .before .before .before .before .before .before .before .before .before .before .before .before .before .before .before .before .before .set-marks2 .ensures) (c .before .before .before .before .before .before .before .before .before .before .before .before .before .before .set-marks3 .ensures) (c .before .before .before .before .before .before .before .before .before .before .set-marks4 .ensures) (c .before .before .before .before .before .before .set-marks5 .ensures) (c .before .before .set-marks6 .ensures)
 
 pub apply-spec : {M : Type 1} → statement M
 apply-spec =
     tie.close
     (tie.spec
+    is-nothing-requires
+    returns
     set-marks-requires
     set-marks-requires-2
     set-marks-requires-3
@@ -60,4 +70,4 @@ apply-spec =
     same-length-4
     same-length-5
     same-length-6
-    returns)
+    returns-2)
