@@ -18,7 +18,7 @@ use Rattle.underhill_mem.proofs.protector_answer_done.Kinds as kDone
 use Rattle.underhill_mem.proofs.protector_answer_failed.Kinds as kFailed
 
 -- a visibility change spares the tables
-visibility-tables : (w : World) (vtl share : ℕ) (l : List ℕ) → visibilityOf w vtl share l .world .tables ≡ w .tables
+pub visibility-tables : (w : World) (vtl share : ℕ) (l : List ℕ) → visibilityOf w vtl share l .world .tables ≡ w .tables
 unfolding visibilityOf visibilityTaken carriedOut
 visibility-tables w vtl share l = go (eqb n 0)
   where
@@ -29,7 +29,7 @@ visibility-tables w vtl share l = go (eqb n 0)
     go true = refl
     go false = refl
 
-pub visibility-may : (κs : Lfts 10) (a : Dens κs kVisibility.ps) → let w = world (maps (now (a .0)) (now (a .1 .0)) (now (a .1 .1 .0)) (now (a .1 .1 .1 .0)) (now (a .1 .1 .1 .1 .0)) (now (a .1 .1 .1 .1 .1 .0))) (now (a .1 .1 .1 .1 .1 .1 .0)) (now (a .1 .1 .1 .1 .1 .1 .1 .0)) (now (a .1 .1 .1 .1 .1 .1 .1 .1 .0)) in VisibilityCall w (visibilityOf w (a .1 .1 .1 .1 .1 .1 .1 .1 .1 .0) (a .1 .1 .1 .1 .1 .1 .1 .1 .1 .1 .0) (now (a .1 .1 .1 .1 .1 .1 .1 .1 .1 .1 .1 .0)) .world)
+unfoldable pub visibility-may : (κs : Lfts 10) (a : Dens κs kVisibility.ps) → let w = world (maps (now (a .0)) (now (a .1 .0)) (now (a .1 .1 .0)) (now (a .1 .1 .1 .0)) (now (a .1 .1 .1 .1 .0)) (now (a .1 .1 .1 .1 .1 .0))) (now (a .1 .1 .1 .1 .1 .1 .0)) (now (a .1 .1 .1 .1 .1 .1 .1 .0)) (now (a .1 .1 .1 .1 .1 .1 .1 .1 .0)) in VisibilityCall w (visibilityOf w (a .1 .1 .1 .1 .1 .1 .1 .1 .1 .0) (a .1 .1 .1 .1 .1 .1 .1 .1 .1 .1 .0) (now (a .1 .1 .1 .1 .1 .1 .1 .1 .1 .1 .1 .0)) .world)
 visibility-may κs a =
     let w : World = world (maps (now (a .0)) (now (a .1 .0)) (now (a .1 .1 .0)) (now (a .1 .1 .1 .0)) (now (a .1 .1 .1 .1 .0)) (now (a .1 .1 .1 .1 .1 .0))) (now (a .1 .1 .1 .1 .1 .1 .0)) (now (a .1 .1 .1 .1 .1 .1 .1 .0)) (now (a .1 .1 .1 .1 .1 .1 .1 .1 .0)) in
     let x : Outcome = visibilityOf w (a .1 .1 .1 .1 .1 .1 .1 .1 .1 .0) (a .1 .1 .1 .1 .1 .1 .1 .1 .1 .1 .0) (now (a .1 .1 .1 .1 .1 .1 .1 .1 .1 .1 .1 .0)) in
@@ -43,7 +43,7 @@ visibility-may κs a =
       left = ap (λ (t : List ℕ). world (x .world .maps) (x .world .state) (x .world .pages) t) (visibility-tables w (a .1 .1 .1 .1 .1 .1 .1 .1 .1 .0) (a .1 .1 .1 .1 .1 .1 .1 .1 .1 .1 .0) (now (a .1 .1 .1 .1 .1 .1 .1 .1 .1 .1 .1 .0)));
     }
 
-pub done-may : (κs : Lfts 9) (a : Dens κs kDone.ps) → let w = world (maps (now (a .0)) (now (a .1 .0)) (now (a .1 .1 .0)) (now (a .1 .1 .1 .0)) (now (a .1 .1 .1 .1 .0)) (now (a .1 .1 .1 .1 .1 .0))) (now (a .1 .1 .1 .1 .1 .1 .0)) (now (a .1 .1 .1 .1 .1 .1 .1 .0)) (now (a .1 .1 .1 .1 .1 .1 .1 .1 .0)) in DoneCall w (answerDone w .world)
+unfoldable pub done-may : (κs : Lfts 9) (a : Dens κs kDone.ps) → let w = world (maps (now (a .0)) (now (a .1 .0)) (now (a .1 .1 .0)) (now (a .1 .1 .1 .0)) (now (a .1 .1 .1 .1 .0)) (now (a .1 .1 .1 .1 .1 .0))) (now (a .1 .1 .1 .1 .1 .1 .0)) (now (a .1 .1 .1 .1 .1 .1 .1 .0)) (now (a .1 .1 .1 .1 .1 .1 .1 .1 .0)) in DoneCall w (answerDone w .world)
 done-may κs a =
     let w : World = world (maps (now (a .0)) (now (a .1 .0)) (now (a .1 .1 .0)) (now (a .1 .1 .1 .0)) (now (a .1 .1 .1 .1 .0)) (now (a .1 .1 .1 .1 .1 .0))) (now (a .1 .1 .1 .1 .1 .1 .0)) (now (a .1 .1 .1 .1 .1 .1 .1 .0)) (now (a .1 .1 .1 .1 .1 .1 .1 .1 .0)) in
     let x : Outcome = answerDone w in
@@ -57,7 +57,7 @@ done-may κs a =
       left = refl;
     }
 
-pub failed-may : (κs : Lfts 9) (a : Dens κs kFailed.ps) → let w = world (maps (now (a .0)) (now (a .1 .0)) (now (a .1 .1 .0)) (now (a .1 .1 .1 .0)) (now (a .1 .1 .1 .1 .0)) (now (a .1 .1 .1 .1 .1 .0))) (now (a .1 .1 .1 .1 .1 .1 .0)) (now (a .1 .1 .1 .1 .1 .1 .1 .0)) (now (a .1 .1 .1 .1 .1 .1 .1 .1 .0)) in FailedCall w (answerFailed w (a .1 .1 .1 .1 .1 .1 .1 .1 .1 .0) (a .1 .1 .1 .1 .1 .1 .1 .1 .1 .1 .0) .world)
+unfoldable pub failed-may : (κs : Lfts 9) (a : Dens κs kFailed.ps) → let w = world (maps (now (a .0)) (now (a .1 .0)) (now (a .1 .1 .0)) (now (a .1 .1 .1 .0)) (now (a .1 .1 .1 .1 .0)) (now (a .1 .1 .1 .1 .1 .0))) (now (a .1 .1 .1 .1 .1 .1 .0)) (now (a .1 .1 .1 .1 .1 .1 .1 .0)) (now (a .1 .1 .1 .1 .1 .1 .1 .1 .0)) in FailedCall w (answerFailed w (a .1 .1 .1 .1 .1 .1 .1 .1 .1 .0) (a .1 .1 .1 .1 .1 .1 .1 .1 .1 .1 .0) .world)
 failed-may κs a =
     let w : World = world (maps (now (a .0)) (now (a .1 .0)) (now (a .1 .1 .0)) (now (a .1 .1 .1 .0)) (now (a .1 .1 .1 .1 .0)) (now (a .1 .1 .1 .1 .1 .0))) (now (a .1 .1 .1 .1 .1 .1 .0)) (now (a .1 .1 .1 .1 .1 .1 .1 .0)) (now (a .1 .1 .1 .1 .1 .1 .1 .1 .0)) in
     let x : Outcome = answerFailed w (a .1 .1 .1 .1 .1 .1 .1 .1 .1 .0) (a .1 .1 .1 .1 .1 .1 .1 .1 .1 .1 .0) in

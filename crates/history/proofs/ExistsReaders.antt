@@ -19,30 +19,30 @@ use Rattle.underhill_mem.proofs.protector_page_fault.Kinds as kFault
 use Rattle.underhill_mem.proofs.protector_query_lower_vtl_permissions.Kinds as kLower
 use Rattle.underhill_mem.proofs.protector_query_access_permission.Kinds as kAccess
 
-pub tell-enabled-may : (m : Maps) (p t : List ℕ) (κs : Lfts 1) (a : Dens κs kTellEnabled.ps) → TellEnabledCall (world m (now (a .0)) p t)
+unfoldable pub tell-enabled-may : (m : Maps) (p t : List ℕ) (κs : Lfts 1) (a : Dens κs kTellEnabled.ps) → TellEnabledCall (world m (now (a .0)) p t)
 tell-enabled-may m p t κs a = record { κs = κs; args = a; result = enabledIn (now (a .0)); exit = (a .0, tt); contract = refl; given-state = refl }
 
-pub tell-default-may : (m : Maps) (p t : List ℕ) (κs : Lfts 1) (a : Dens κs kTellDefault.ps) → TellDefaultCall (world m (now (a .0)) p t)
+unfoldable pub tell-default-may : (m : Maps) (p t : List ℕ) (κs : Lfts 1) (a : Dens κs kTellDefault.ps) → TellDefaultCall (world m (now (a .0)) p t)
 tell-default-may m p t κs a = record { κs = κs; args = a; result = defaultIn (now (a .0)); exit = (a .0, tt); contract = refl; given-state = refl }
 
-pub is-overlay-may : (m : Maps) (p : List ℕ) (κs : Lfts 2) (a : Dens κs kIsOverlay.ps) → IsOverlayCall (world m (now (a .0)) p (now (a .1 .0)))
+unfoldable pub is-overlay-may : (m : Maps) (p : List ℕ) (κs : Lfts 2) (a : Dens κs kIsOverlay.ps) → IsOverlayCall (world m (now (a .0)) p (now (a .1 .0)))
 is-overlay-may m p κs a =
     record { κs = κs; args = a; result = isOverlayIn (now (a .0)) (now (a .1 .0)) (a .1 .1 .0) (a .1 .1 .1 .0); exit = (a .0, (a .1 .0, (a .1 .1 .0, (a .1 .1 .1 .0, tt)))); contract = refl; given-state = refl; given-tables = refl }
 
-pub query-may : (m : List ℕ) (q : Permissions) (p t : List ℕ) (κs : Lfts 4) (a : Dens κs kQuery.ps)
+unfoldable pub query-may : (m : List ℕ) (q : Permissions) (p t : List ℕ) (κs : Lfts 4) (a : Dens κs kQuery.ps)
     → QueryCall (world (record { private = m; shared = now (a .1 .0); permissions = q }) (now (a .0)) p t)
 query-may m q p t κs a =
     let x : Query = queryOf (now (a .0)) (now (a .1 .0)) (now (a .1 .1 .0)) (now (a .1 .1 .1 .0)) in
     record { κs = κs; args = a; result = x .reply; exit = (a .0, (a .1 .0, (a .1 .1 .0, (at-last (a .1 .1 .1 .0) (x .out), tt)))); contract = refl; given-state = refl; given-shared = refl }
 
-pub fault-may : (p t : List ℕ) (κs : Lfts 7) (a : Dens κs kFault.ps) → FaultCall (world (maps (now (a .0)) (now (a .1 .0)) (now (a .1 .1 .0)) (now (a .1 .1 .1 .0)) (now (a .1 .1 .1 .1 .0)) (now (a .1 .1 .1 .1 .1 .0))) (now (a .1 .1 .1 .1 .1 .1 .0)) p t)
+unfoldable pub fault-may : (p t : List ℕ) (κs : Lfts 7) (a : Dens κs kFault.ps) → FaultCall (world (maps (now (a .0)) (now (a .1 .0)) (now (a .1 .1 .0)) (now (a .1 .1 .1 .0)) (now (a .1 .1 .1 .1 .0)) (now (a .1 .1 .1 .1 .1 .0))) (now (a .1 .1 .1 .1 .1 .1 .0)) p t)
 fault-may p t κs a =
     record { κs = κs; args = a; result = faultIn (now (a .1 .1 .1 .1 .1 .1 .0)) (maps (now (a .0)) (now (a .1 .0)) (now (a .1 .1 .0)) (now (a .1 .1 .1 .0)) (now (a .1 .1 .1 .1 .0)) (now (a .1 .1 .1 .1 .1 .0))) (a .1 .1 .1 .1 .1 .1 .1 .0) (a .1 .1 .1 .1 .1 .1 .1 .1 .0) (a .1 .1 .1 .1 .1 .1 .1 .1 .1 .0) (a .1 .1 .1 .1 .1 .1 .1 .1 .1 .1 .0) (a .1 .1 .1 .1 .1 .1 .1 .1 .1 .1 .1 .0); exit = (a .0, (a .1 .0, (a .1 .1 .0, (a .1 .1 .1 .0, (a .1 .1 .1 .1 .0, (a .1 .1 .1 .1 .1 .0, (a .1 .1 .1 .1 .1 .1 .0, (a .1 .1 .1 .1 .1 .1 .1 .0, (a .1 .1 .1 .1 .1 .1 .1 .1 .0, (a .1 .1 .1 .1 .1 .1 .1 .1 .1 .0, (a .1 .1 .1 .1 .1 .1 .1 .1 .1 .1 .0, (a .1 .1 .1 .1 .1 .1 .1 .1 .1 .1 .1 .0, tt)))))))))))); contract = refl; given-private = refl; given-shared = refl; given-read = refl; given-write = refl; given-kernel = refl; given-user = refl; given-state = refl }
 
-pub lower-may : (p t : List ℕ) (κs : Lfts 7) (a : Dens κs kLower.ps) → LowerCall (world (maps (now (a .0)) (now (a .1 .0)) (now (a .1 .1 .0)) (now (a .1 .1 .1 .0)) (now (a .1 .1 .1 .1 .0)) (now (a .1 .1 .1 .1 .1 .0))) (now (a .1 .1 .1 .1 .1 .1 .0)) p t)
+unfoldable pub lower-may : (p t : List ℕ) (κs : Lfts 7) (a : Dens κs kLower.ps) → LowerCall (world (maps (now (a .0)) (now (a .1 .0)) (now (a .1 .1 .0)) (now (a .1 .1 .1 .0)) (now (a .1 .1 .1 .1 .0)) (now (a .1 .1 .1 .1 .1 .0))) (now (a .1 .1 .1 .1 .1 .1 .0)) p t)
 lower-may p t κs a =
     record { κs = κs; args = a; result = lowerIn (now (a .1 .1 .1 .1 .1 .1 .0)) (maps (now (a .0)) (now (a .1 .0)) (now (a .1 .1 .0)) (now (a .1 .1 .1 .0)) (now (a .1 .1 .1 .1 .0)) (now (a .1 .1 .1 .1 .1 .0))) (a .1 .1 .1 .1 .1 .1 .1 .0) (a .1 .1 .1 .1 .1 .1 .1 .1 .0); exit = (a .0, (a .1 .0, (a .1 .1 .0, (a .1 .1 .1 .0, (a .1 .1 .1 .1 .0, (a .1 .1 .1 .1 .1 .0, (a .1 .1 .1 .1 .1 .1 .0, (a .1 .1 .1 .1 .1 .1 .1 .0, (a .1 .1 .1 .1 .1 .1 .1 .1 .0, tt))))))))); contract = refl; given-private = refl; given-shared = refl; given-read = refl; given-write = refl; given-kernel = refl; given-user = refl; given-state = refl }
 
-pub access-may : (p t : List ℕ) (κs : Lfts 7) (a : Dens κs kAccess.ps) → AccessCall (world (maps (now (a .0)) (now (a .1 .0)) (now (a .1 .1 .0)) (now (a .1 .1 .1 .0)) (now (a .1 .1 .1 .1 .0)) (now (a .1 .1 .1 .1 .1 .0))) (now (a .1 .1 .1 .1 .1 .1 .0)) p t)
+unfoldable pub access-may : (p t : List ℕ) (κs : Lfts 7) (a : Dens κs kAccess.ps) → AccessCall (world (maps (now (a .0)) (now (a .1 .0)) (now (a .1 .1 .0)) (now (a .1 .1 .1 .0)) (now (a .1 .1 .1 .1 .0)) (now (a .1 .1 .1 .1 .1 .0))) (now (a .1 .1 .1 .1 .1 .1 .0)) p t)
 access-may p t κs a =
     record { κs = κs; args = a; result = accessIn (now (a .1 .1 .1 .1 .1 .1 .0)) (maps (now (a .0)) (now (a .1 .0)) (now (a .1 .1 .0)) (now (a .1 .1 .1 .0)) (now (a .1 .1 .1 .1 .0)) (now (a .1 .1 .1 .1 .1 .0))) (a .1 .1 .1 .1 .1 .1 .1 .0); exit = (a .0, (a .1 .0, (a .1 .1 .0, (a .1 .1 .1 .0, (a .1 .1 .1 .1 .0, (a .1 .1 .1 .1 .1 .0, (a .1 .1 .1 .1 .1 .1 .0, (a .1 .1 .1 .1 .1 .1 .1 .0, tt)))))))); contract = refl; given-private = refl; given-shared = refl; given-read = refl; given-write = refl; given-kernel = refl; given-user = refl; given-state = refl }

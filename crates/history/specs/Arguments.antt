@@ -1,0 +1,49 @@
+-- The arguments of each call beside what it is lent, by name; the other calls have none.
+use mathlib.Core.Path.{_≡_}
+use mathlib.Core.List.{List}
+use Prim.Native.Nat.{ℕ}
+use denote.Ref.{now}
+use Rattle.protector.specs.World.{World}
+use Rattle.history.specs.History.{VisibilityCall, FailedCall, ProtectionCall, DefaultCall, RegisterCall, UnregisterCall, LockCall, UnlockCall, IsOverlayCall, QueryCall, FaultCall, LowerCall, AccessCall, BuildCall}
+
+abbrev pub VisibilityWith : {w v : World} → VisibilityCall w v → ℕ → ℕ → List ℕ → Type 0
+VisibilityWith c vtl visibility l = (c .args .1 .1 .1 .1 .1 .1 .1 .1 .1 .0 ≡ vtl) × (c .args .1 .1 .1 .1 .1 .1 .1 .1 .1 .1 .0 ≡ visibility) × (now (c .args .1 .1 .1 .1 .1 .1 .1 .1 .1 .1 .1 .0) ≡ l)
+
+abbrev pub FailedWith : {w v : World} → FailedCall w v → ℕ → ℕ → Type 0
+FailedWith c code processed = (c .args .1 .1 .1 .1 .1 .1 .1 .1 .1 .0 ≡ code) × (c .args .1 .1 .1 .1 .1 .1 .1 .1 .1 .1 .0 ≡ processed)
+
+abbrev pub ProtectionWith : {w v : World} → ProtectionCall w v → ℕ → ℕ → List ℕ → Type 0
+ProtectionWith c vtl flags l = (c .args .1 .1 .1 .1 .1 .1 .1 .1 .1 .0 ≡ vtl) × (c .args .1 .1 .1 .1 .1 .1 .1 .1 .1 .1 .0 ≡ flags) × (now (c .args .1 .1 .1 .1 .1 .1 .1 .1 .1 .1 .1 .0) ≡ l)
+
+abbrev pub DefaultWith : {w v : World} → DefaultCall w v → ℕ → ℕ → Type 0
+DefaultWith c vtl flags = (c .args .1 .1 .1 .1 .1 .1 .1 .1 .1 .0 ≡ vtl) × (c .args .1 .1 .1 .1 .1 .1 .1 .1 .1 .1 .0 ≡ flags)
+
+abbrev pub RegisterWith : {w v : World} → RegisterCall w v → ℕ → ℕ → ℕ → ℕ → ℕ → Type 0
+RegisterWith c vtl p source checked new = (c .args .1 .1 .1 .1 .1 .1 .1 .1 .1 .0 ≡ vtl) × (c .args .1 .1 .1 .1 .1 .1 .1 .1 .1 .1 .0 ≡ p) × (c .args .1 .1 .1 .1 .1 .1 .1 .1 .1 .1 .1 .0 ≡ source) × (c .args .1 .1 .1 .1 .1 .1 .1 .1 .1 .1 .1 .1 .0 ≡ checked) × (c .args .1 .1 .1 .1 .1 .1 .1 .1 .1 .1 .1 .1 .1 .0 ≡ new)
+
+abbrev pub UnregisterWith : {w v : World} → UnregisterCall w v → ℕ → ℕ → Type 0
+UnregisterWith c vtl p = (c .args .1 .1 .1 .1 .1 .1 .1 .1 .1 .0 ≡ vtl) × (c .args .1 .1 .1 .1 .1 .1 .1 .1 .1 .1 .0 ≡ p)
+
+abbrev pub LockWith : {w v : World} → LockCall w v → ℕ → List ℕ → Type 0
+LockWith c vtl l = (c .args .1 .1 .0 ≡ vtl) × (now (c .args .1 .1 .1 .0) ≡ l)
+
+abbrev pub UnlockWith : {w v : World} → UnlockCall w v → ℕ → List ℕ → Type 0
+UnlockWith c vtl l = (c .args .1 .1 .0 ≡ vtl) × (now (c .args .1 .1 .1 .0) ≡ l)
+
+abbrev pub IsOverlayWith : {w : World} → IsOverlayCall w → ℕ → ℕ → Type 0
+IsOverlayWith c vtl p = (c .args .1 .1 .0 ≡ vtl) × (c .args .1 .1 .1 .0 ≡ p)
+
+abbrev pub QueryWith : {w : World} → QueryCall w → List ℕ → List ℕ → Type 0
+QueryWith c l out = (now (c .args .1 .1 .0) ≡ l) × (now (c .args .1 .1 .1 .0) ≡ out)
+
+abbrev pub FaultWith : {w : World} → FaultCall w → ℕ → ℕ → ℕ → ℕ → ℕ → Type 0
+FaultWith c mapping view address writes failure = (c .args .1 .1 .1 .1 .1 .1 .1 .0 ≡ mapping) × (c .args .1 .1 .1 .1 .1 .1 .1 .1 .0 ≡ view) × (c .args .1 .1 .1 .1 .1 .1 .1 .1 .1 .0 ≡ address) × (c .args .1 .1 .1 .1 .1 .1 .1 .1 .1 .1 .0 ≡ writes) × (c .args .1 .1 .1 .1 .1 .1 .1 .1 .1 .1 .1 .0 ≡ failure)
+
+abbrev pub LowerWith : {w : World} → LowerCall w → ℕ → ℕ → Type 0
+LowerWith c vtl p = (c .args .1 .1 .1 .1 .1 .1 .1 .0 ≡ vtl) × (c .args .1 .1 .1 .1 .1 .1 .1 .1 .0 ≡ p)
+
+abbrev pub AccessWith : {w : World} → AccessCall w → ℕ → Type 0
+AccessWith c p = (c .args .1 .1 .1 .1 .1 .1 .1 .0 ≡ p)
+
+abbrev pub BuildWith : {w v : World} → BuildCall w v → List ℕ → ℕ → ℕ → ℕ → Type 0
+BuildWith c ram isolation tracked release = (now (c .args .0) ≡ ram) × (c .args .1 .0 ≡ isolation) × (c .args .1 .1 .0 ≡ tracked) × (c .args .1 .1 .1 .0 ≡ release)
