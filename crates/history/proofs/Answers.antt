@@ -32,12 +32,12 @@ use Rattle.change_state.specs.State.{stageIn, isChanging, changeIn}
 use Rattle.protector.specs.World.{World, world, Outcome, fits, statusIn, takes, takesAt, takesIn, applied}
 use Rattle.protector.specs.Calls.{refusedBy, decided, carriedOut, carriedChange, answerRefusal, afterDone, afterFailed, visibilityDone, visibilityFailed, changeDone, changeFailed, answerDone, answerFailed}
 use Rattle.visibility_claims.specs.Whole.{Given, Succeeds, Fails}
-use Rattle.visibility_claims.specs.Calls.{answerOf}
+use Rattle.visibility_claims.specs.Calls.{answerOf, takenBy}
 use Rattle.visibility_claims.proofs.Calls.{few-done, few-failed}
 use Rattle.history.specs.Seen.{Seen, asks, lastAfter, isTaken, goesOn, seesTaken, seesAnswer}
 use Rattle.history.proofs.Right.{opened, isHalted, isQuiet, Right, Fits, Moves, made-right}
 use Rattle.history.proofs.Steps.{after, done-fits, failed-fits, done-moves, failed-moves}
-use Rattle.history.proofs.World.{Stands, settled, right-same, quiet-last, seen-last, stops, quiet-names, changing-shut, stands-step, stands-change}
+use Rattle.history.proofs.World.{Stands, settled, right-same, quiet-last, seen-last, stops, goes, quiet-names, changing-shut, stands-step, stands-change}
 
 -- ---- what a step of another change tells: nothing that Modify, Accept or Zero would
 
@@ -45,16 +45,17 @@ pub record Told (i : IsolationType) (x : ChangeStep) : Type 0 where
   pub not4 : eqb (flatOf i (x .answer) .number) 4 ≡ false
   pub not21 : eqb (flatOf i (x .answer) .number) 21 ≡ false
   pub halts : eqb (flatOf i (x .answer) .number) 20 ≡ stops (x .stage)
+  pub waits : asks (flatOf i (x .answer)) ≡ goes (x .stage)
   pub quiet : isQuiet (flatOf i (x .answer)) ≡ true
 
 module _ (i : IsolationType) where
-  protect-told : (tracked : Bool) (g : Stage) (q : Change) (a : ℕ) (r : PageRun) → stops g ≡ false → Told i (protect tracked g q a r)
+  protect-told : (tracked : Bool) (g : Stage) (q : Change) (a : ℕ) (r : PageRun) → stops g ≡ false → goes g ≡ true → Told i (protect tracked g q a r)
   unfolding protect flatOf askedOf
-  protect-told tracked g q a r h = record { not4 = refl; not21 = refl; halts = sym h; quiet = refl }
+  protect-told tracked g q a r h d = record { not4 = refl; not21 = refl; halts = sym h; waits = sym d; quiet = refl }
 
   wait-told : (q : Change) (e : Entry) → Told i (wait q e)
   unfolding wait ask flatOf askedOf
-  wait-told q e = record { not4 = refl; not21 = refl; halts = refl; quiet = refl }
+  wait-told q e = record { not4 = refl; not21 = refl; halts = refl; waits = refl; quiet = refl }
 
   pick : {x y : ChangeStep} (b : Bool) → Told i x → Told i y → Told i (cond b x y)
   pick true f g = f
@@ -62,19 +63,19 @@ module _ (i : IsolationType) where
 
   pages-told : (tracked : Bool) (q : Change) (t : List ℕ) (a : ℕ) → Told i (protectPages tracked q t a)
   unfolding protectPages
-  pages-told tracked q t a = pick (ltb a (q .n)) (protect-told tracked stage.ProtectPages q a _ refl) (wait-told q _)
+  pages-told tracked q t a = pick (ltb a (q .n)) (protect-told tracked stage.ProtectPages q a _ refl refl) (wait-told q _)
 
   ram-told : (tracked : Bool) (q : Change) (r : PageRun) → Told i (protectRam tracked q r)
   unfolding protectRam
-  ram-told tracked q r = pick (eqb (r .count) 0) (wait-told q _) (protect-told tracked stage.ProtectRam q _ r refl)
+  ram-told tracked q r = pick (eqb (r .count) 0) (wait-told q _) (protect-told tracked stage.ProtectRam q _ r refl refl)
 
   pub new-told : (tracked : Bool) (v : GuestVtl) (p source current new : ℕ) → Told i (startNew tracked v p source current new)
   unfolding startNew
-  new-told tracked v p source current new = pick (ltb new 16) (protect-told tracked stage.ProtectNew _ p _ refl) (wait-told _ _)
+  new-told tracked v p source current new = pick (ltb new 16) (protect-told tracked stage.ProtectNew _ p _ refl refl) (wait-told _ _)
 
   pub old-told : (tracked : Bool) (v : GuestVtl) (p previous source : ℕ) → Told i (startOld tracked v p previous source)
   unfolding startOld
-  old-told tracked v p previous source = protect-told tracked stage.ProtectOld _ p _ refl
+  old-told tracked v p previous source = protect-told tracked stage.ProtectOld _ p _ refl refl
 
   pub start-pages-told : (tracked : Bool) (v : GuestVtl) (flags n : ℕ) (t : List ℕ) → Told i (startPages tracked v flags n t)
   start-pages-told tracked v flags n t = pages-told tracked (changeOf v flags n) t 0
@@ -90,18 +91,18 @@ module _ (i : IsolationType) where
   done-told tracked stage.ProtectRam q t next h = ram-told tracked q next
   done-told tracked stage.ProtectNew q t next h = wait-told q _
   done-told tracked stage.ProtectOld q t next h = wait-told q _
-  done-told tracked stage.Wait q t next h = record { not4 = refl; not21 = refl; halts = refl; quiet = refl }
-  done-told tracked stage.Flush q t next h = record { not4 = refl; not21 = refl; halts = refl; quiet = refl }
-  done-told tracked stage.TlbWait q t next h = record { not4 = refl; not21 = refl; halts = refl; quiet = refl }
+  done-told tracked stage.Wait q t next h = record { not4 = refl; not21 = refl; halts = refl; waits = refl; quiet = refl }
+  done-told tracked stage.Flush q t next h = record { not4 = refl; not21 = refl; halts = refl; waits = refl; quiet = refl }
+  done-told tracked stage.TlbWait q t next h = record { not4 = refl; not21 = refl; halts = refl; waits = refl; quiet = refl }
 
   pub failed-told : (g : Stage) (q : Change) → takesAt g true ≡ true → Told i (failedOf g q)
   unfolding failedOf halt finish flatOf
   failed-told stage.Idle q h = false≢true h
   failed-told stage.Halted q h = false≢true h
-  failed-told stage.ProtectPages q h = record { not4 = refl; not21 = refl; halts = refl; quiet = refl }
-  failed-told stage.ProtectRam q h = record { not4 = refl; not21 = refl; halts = refl; quiet = refl }
-  failed-told stage.ProtectNew q h = record { not4 = refl; not21 = refl; halts = refl; quiet = refl }
-  failed-told stage.ProtectOld q h = record { not4 = refl; not21 = refl; halts = refl; quiet = refl }
+  failed-told stage.ProtectPages q h = record { not4 = refl; not21 = refl; halts = refl; waits = refl; quiet = refl }
+  failed-told stage.ProtectRam q h = record { not4 = refl; not21 = refl; halts = refl; waits = refl; quiet = refl }
+  failed-told stage.ProtectNew q h = record { not4 = refl; not21 = refl; halts = refl; waits = refl; quiet = refl }
+  failed-told stage.ProtectOld q h = record { not4 = refl; not21 = refl; halts = refl; waits = refl; quiet = refl }
   failed-told stage.Wait q h = false≢true h
   failed-told stage.Flush q h = false≢true h
   failed-told stage.TlbWait q h = false≢true h
@@ -158,6 +159,25 @@ module _ (K : World → Seen → Type 0) (w : World) (o : Seen) (halts : o .halt
           ap (λ (b : Bool). counts b n) halts ∙ chain-untaken (eqb (length (w .state)) stateLen) h (fits w) (takesIn (w .state) failed) e in
           subst (λ (b : Bool). K w (cond b (seesTaken g (refusedBy w n .reply) (w .pages) o) o)) (sym y) k
 
+  -- and whether it is taken is seen
+  pub told : (g : Given) (failed : Bool) (T : Outcome) → (o .halted ≡ false → takesIn (w .state) failed ≡ true → Leads K o g T)
+      → isTaken o (decided w (answerRefusal (w .state) (fits w) failed) T .reply) ≡ eqb (answerRefusal (w .state) (fits w) failed) 0
+  unfolding answerRefusal
+  told g failed T f = go (eqb n 0) refl
+    where
+      h : Bool
+      h = eqb (statusIn (w .state)) 20
+
+      n : ℕ
+      n = chain (eqb (length (w .state)) stateLen) h (fits w) (takesIn (w .state) failed)
+
+      go : (b : Bool) → eqb n 0 ≡ b → isTaken o (cond b T (refusedBy w n) .reply) ≡ b
+      go true e =
+          let c = chain-taken (eqb (length (w .state)) stateLen) h (fits w) (takesIn (w .state) failed) e in
+          let x = f (halts ∙ c .0) (c .1) in
+          rw (halts ∙ c .0, x .not4, x .not21)
+      go false e = ap (λ (b : Bool). counts b n) halts ∙ chain-untaken (eqb (length (w .state)) stateLen) h (fits w) (takesIn (w .state) failed) e
+
   pub either : (g : Given) (c : Bool) (A B : Outcome) → isChanging (w .state) ≡ c → (isChanging (w .state) ≡ true → Leads K o g A) → (isChanging (w .state) ≡ false → Leads K o g B) → Leads K o g (cond c A B)
   either g true A B e f h = f e
   either g false A B e f h = h e
@@ -193,7 +213,7 @@ module _ (es : List MemoryRangeWithNode) (w : World) (o : Seen) (k : Stands es w
           not21 = f .tells .not21;
           stands = stands-step es (applied (w .pages) (x .writes) (w .maps)) (w .state) (w .pages) (w .tables) (seesTaken g r (w .pages) o) (x .phase) (x .request) few (k .layout)
               (subst (λ (h : Bool). Right (isRam es) (applied (w .pages) (x .writes) (w .maps) .private) (applied (w .pages) (x .writes) (w .maps) .shared) (x .phase) (x .request) (w .pages) h listed′ (lastAfter g o)) (sym (f .tells .halts)) same)
-              (f .tells .halts) (f .tells .names) (λ _. refl);
+              (f .tells .halts) (f .tells .waits) (f .tells .names) (λ _. refl);
         }
 
     -- of another change
@@ -208,31 +228,44 @@ module _ (es : List MemoryRangeWithNode) (w : World) (o : Seen) (k : Stands es w
           not4 = t .not4;
           not21 = t .not21;
           stands = stands-change es _ (w .state) (w .pages) _ (seesTaken g r (w .pages) o) (x .stage) (x .change) (k .layout)
-              (λ p′ q′ s. settled (lastAfter g o) p′ q′ (w .pages) _ _ shut s (quiet-last g o still) before) (t .halts) (t .quiet);
+              (λ p′ q′ s. settled (lastAfter g o) p′ q′ (w .pages) _ _ shut s (quiet-last g o still) before) (t .halts) (t .waits) (t .quiet);
         }
 
   few : requestOf (w .state) .n ≤ 512
   few = omega arith
 
-  pub answer-stands : (g : Given) → Stands es (answerOf g w .world) (seesAnswer g (answerOf g w .reply) (answerOf g w .world .pages) o)
-  unfolding answerDone answerFailed afterDone afterFailed
-  answer-stands Succeeds =
+  -- what a taken answer leads to
+  done-leads : o .halted ≡ false → takesIn (w .state) false ≡ true → Leads (Stands es) o Succeeds (cond (isChanging (w .state)) (changeDone w) (visibilityDone w))
+  unfolding afterDone
+  done-leads free t =
       let s = settingsOf (w .state) in
       let p′ = phaseIn (w .state) in
       let q′ = requestOf (w .state) in
-      answered (Stands es) w o (k .halts) k Succeeds false (cond (isChanging (w .state)) (changeDone w) (visibilityDone w))
-      (λ free t. either (Stands es) w o (k .halts) k Succeeds (isChanging (w .state)) (changeDone w) (visibilityDone w) refl
+      either (Stands es) w o (k .halts) k Succeeds (isChanging (w .state)) (changeDone w) (visibilityDone w) refl
       (λ c. changed Succeeds (acceptor.halt q′) free c _ (done-told (s .isolation) (s .tracked) (stageIn (w .state)) (changeIn (w .state)) (w .pages) _ (takes-change w true false c t)))
       (λ c. let y = takes-change w false false c t in
       visible Succeeds (acceptor.doneOf s p′ q′ (w .pages)) free (done-fits s p′ q′ (w .pages) y) (done-moves s q′ (w .pages) (o .last) p′ y (λ j e h d. k .right .toward e j h d))
-      (few-done s (w .pages) p′ q′ y few)))
-  answer-stands (Fails code n) =
+      (few-done s (w .pages) p′ q′ y few))
+
+  failed-leads : (code n : ℕ) → o .halted ≡ false → takesIn (w .state) true ≡ true → Leads (Stands es) o (Fails code n) (cond (isChanging (w .state)) (changeFailed w) (visibilityFailed w code n))
+  unfolding afterFailed
+  failed-leads code n free t =
       let s = settingsOf (w .state) in
       let p′ = phaseIn (w .state) in
       let q′ = requestOf (w .state) in
-      answered (Stands es) w o (k .halts) k (Fails code n) true (cond (isChanging (w .state)) (changeFailed w) (visibilityFailed w code n))
-      (λ free t. either (Stands es) w o (k .halts) k (Fails code n) (isChanging (w .state)) (changeFailed w) (visibilityFailed w code n) refl
+      either (Stands es) w o (k .halts) k (Fails code n) (isChanging (w .state)) (changeFailed w) (visibilityFailed w code n) refl
       (λ c. changed (Fails code n) (acceptor.halt q′) free c _ (failed-told (s .isolation) (stageIn (w .state)) (changeIn (w .state)) (takes-change w true true c t)))
       (λ c. let y = takes-change w false true c t in
       visible (Fails code n) (acceptor.failedOf s p′ q′ (w .pages) code n) free (failed-fits s p′ q′ (w .pages) code n y)
-      (failed-moves s q′ (w .pages) (o .last) p′ code n y (λ j e h d. k .right .toward e j h d) (λ e. k .right .once e)) (few-failed s (w .pages) p′ q′ code n y few)))
+      (failed-moves s q′ (w .pages) (o .last) p′ code n y (λ j e h d. k .right .toward e j h d) (λ e. k .right .once e)) (few-failed s (w .pages) p′ q′ code n y few))
+
+  pub answer-stands : (g : Given) → Stands es (answerOf g w .world) (seesAnswer g (answerOf g w .reply) (answerOf g w .world .pages) o)
+  unfolding answerDone answerFailed
+  answer-stands Succeeds = answered (Stands es) w o (k .halts) k Succeeds false (cond (isChanging (w .state)) (changeDone w) (visibilityDone w)) done-leads
+  answer-stands (Fails code n) = answered (Stands es) w o (k .halts) k (Fails code n) true (cond (isChanging (w .state)) (changeFailed w) (visibilityFailed w code n)) (failed-leads code n)
+
+  -- whether an answer is taken is seen from what it gives
+  pub taken-seen : (g : Given) → isTaken o (answerOf g w .reply) ≡ takenBy g w
+  unfolding answerDone answerFailed
+  taken-seen Succeeds = told (Stands es) w o (k .halts) k Succeeds false (cond (isChanging (w .state)) (changeDone w) (visibilityDone w)) done-leads
+  taken-seen (Fails code n) = told (Stands es) w o (k .halts) k (Fails code n) true (cond (isChanging (w .state)) (changeFailed w) (visibilityFailed w code n)) (failed-leads code n)

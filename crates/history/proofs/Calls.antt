@@ -74,7 +74,7 @@ module _ (s : List ℕ) (k x : ℕ) (low : 9 < k) (high : k < 31) where
 module _ (es : List MemoryRangeWithNode) (w : World) (o : Seen) (k : Stands es w o) where
   -- other tables, and another such word
   pub tables-stand : (tables : List ℕ) → Stands es (world (w .maps) (w .state) (w .pages) tables) o
-  tables-stand tables = record { layout = k .layout; right = k .right; halts = k .halts; names = k .names; table = k .table }
+  tables-stand tables = record { layout = k .layout; right = k .right; halts = k .halts; waits = k .waits; names = k .names; table = k .table }
 
   pub set-stands : (i x : ℕ) → 9 < i → i < 31 → Stands es (world (w .maps) (set (w .state) i x) (w .pages) (w .tables)) o
   set-stands i x low high =
@@ -85,6 +85,7 @@ module _ (es : List MemoryRangeWithNode) (w : World) (o : Seen) (k : Stands es w
         layout = set-entries s i x low high ∙ k .layout;
         right = rw (a, b) (k .right);
         halts = rw a (k .halts);
+        waits = rw a (k .waits);
         names = rw (a, b) (k .names);
         table = rw a (k .table);
       }
@@ -104,7 +105,7 @@ module _ (es : List MemoryRangeWithNode) (w : World) (o : Seen) (k : Stands es w
     pub change-starts : (s tables t : List ℕ) (x : ChangeStep) → entriesIn s ≡ entriesIn (w .state) → Told (settingsOf s .isolation) x → stops (x .stage) ≡ false
         → let T = carriedChange (world (w .maps) s (w .pages) tables) t x in Stands es (T .world) (seesCall [] (T .reply) (T .world .pages) o)
     unfolding carriedChange
-    change-starts s tables t x e told on = go (asks r)
+    change-starts s tables t x e told on = go (asks r) refl
       where
         r : Reply
         r = flatOf (settingsOf s .isolation) (x .answer)
@@ -115,14 +116,14 @@ module _ (es : List MemoryRangeWithNode) (w : World) (o : Seen) (k : Stands es w
         o′ : Seen
         o′ = record { op = r; table = t; halted = o .halted; listed = []; last = o .last; age = o .age }
 
-        go : (b : Bool) → Stands es (T .world) (cond b o′ o)
-        go true =
+        go : (b : Bool) → asks r ≡ b → Stands es (T .world) (cond b o′ o)
+        go true d =
             stands-change es (T .world .maps) s t (T .world .tables) o′ (x .stage) (x .change) (e ∙ k .layout) (λ p q h. settled (o .last) p q t [] (o .halted) shut h (λ z. refl) settled-right)
-            (free ∙ sym on) (told .quiet)
-        go false =
+            (free ∙ sym on) (told .waits) (told .quiet)
+        go false d =
             stands-change es (T .world .maps) s t (T .world .tables) o (x .stage) (x .change) (e ∙ k .layout)
             (λ p q h. settled (o .last) p q t (o .listed) (o .halted) shut h (λ z. refl) settled-right) (free ∙ sym on)
-            (quiet-names (phaseIn (w .state)) (requestOf (w .state)) (w .pages) (o .op) shut (k .names))
+            (k .waits ∙ ap (λ (n : ℕ). eqb n 19) idle ∙ sym d ∙ told .waits) (quiet-names (phaseIn (w .state)) (requestOf (w .state)) (w .pages) (o .op) shut (k .names))
 
 -- ---- a visibility change
 
@@ -189,7 +190,7 @@ module _ (es : List MemoryRangeWithNode) (w : World) (o : Seen) (k : Stands es w
       let o′ : Seen = record { op = T .reply; table = t; halted = o .halted; listed = pagesOf l; last = o .last; age = o .age } in
       stands-step es (T .world .maps) (w .state) t (w .tables) o′ at.Wait (asked v b (length Q) stop stopped) few (k .layout)
       (subst (λ (h : Bool). Right (isRam es) (T .world .maps .private) (T .world .maps .shared) at.Wait (asked v b (length Q) stop stopped) t h (pagesOf l) (o .last)) (sym (free es w o k (x .idle))) made)
-      (free es w o k (x .idle)) refl (λ _. refl)
+      (free es w o k (x .idle)) refl refl (λ _. refl)
 
 pub visibility-stands : (es : List MemoryRangeWithNode) (w : World) (o : Seen) → Stands es w o → (vtl visibility : ℕ) (l : List ℕ)
     → let X = visibilityOf w vtl visibility l in Stands es (X .world) (seesCall (pagesOf l) (X .reply) (X .world .pages) o)

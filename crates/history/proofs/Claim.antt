@@ -122,6 +122,7 @@ module _ (u : World) (ram : List ℕ) (i t r : ℕ) (z : buildRefusal ram i t r 
               named = λ e. clash false e refl;
             };
         halts = refl;
+        waits = refl;
         names = refl;
         table = λ e. clash false e refl;
       }
@@ -220,8 +221,11 @@ module _ {u w v : World} {o : Seen} (b : BuildCall u w) (d : b .result .number �
   pub calls-hold : Claim b h
   calls-hold = record { built = build-is; answered = answered h; composed = composed h; holds = holds-from (entriesOf ram) (isolationOf (b .args .1 .0)) starts ages h }
 
-  -- and what was last left has its lengths
-  pub lengths-hold : Whole v
-  lengths-hold =
+  -- the invariant stands, and what was last left has its lengths
+  pub lent-holds : Lent (entriesOf ram) v o
+  lent-holds =
       let first : Whole w = subst (λ (w : World). Whole w) (was .1) (built-whole u ram (b .args .1 .0) (b .args .1 .1 .0) (b .args .1 .1 .1 .0) (was .0)) in
-      history-keeps (Lent (entriesOf ram)) (lent-kept (entriesOf ram)) h (record { stands = starts; whole = first }) .whole
+      history-keeps (Lent (entriesOf ram)) (lent-kept (entriesOf ram)) h (record { stands = starts; whole = first })
+
+  pub lengths-hold : Whole v
+  lengths-hold = lent-holds .whole

@@ -1,20 +1,25 @@
 -- Every request ends, whatever is called between its answers. Assumes nothing.
 use native.Mathlib.Omega.{arith}
-use Prim.Native.Nat.{ℕ, _+_, _≤_, _<_}
-use mathlib.Core.Path.{_≡_, refl, sym, ap, _∙_, subst}
-use mathlib.Core.List.{List, []}
+use Prim.Native.Nat.{ℕ, zero, suc, _+_, _≤_, _<_}
+use mathlib.Core.Path.{_≡_, refl, sym, ap, ap₂, _∙_, subst}
+use mathlib.Core.List.{List, [], _∷_, _++_, map, append-nil, append-assoc}
 use mathlib.Core.Bool.{Bool, true, false, cond}
 use denote.Ref.{now}
-use lib.ListN.{length}
+use lib.ListN.{length, replicate, length-replicate}
 use lib.Dec.{eqb}
-use borrow.Author.Tests.{ne-eqb}
+use borrow.Author.Tests.{eqb-true, ne-eqb}
 use Rattle.laws.specs.Refusal.{unless, passed}
+use Rattle.layout.specs.declared.MemoryRangeWithNode.{MemoryRangeWithNode}
+use Rattle.layout.specs.Layout.{entriesOf}
 use Rattle.permissions.specs.Flags.{vtlOf, boolOf}
 use Rattle.pages.specs.Pages.{pagesOf}
+use Rattle.acceptor.specs.declared.Phase.{Phase}
+use Rattle.acceptor.specs.declared.Phase.the-variants as phase
 use Rattle.protector_state.specs.declared.Reply.{Reply}
-use Rattle.protector_state.specs.State.{stateLen}
-use Rattle.protector.specs.World.{World, world, Outcome, fits, statusIn}
-use Rattle.protector.specs.Calls.{refusedBy, decided, visibilityRefusal, visibilityTaken, visibilityOf}
+use Rattle.protector_state.specs.State.{stateLen, phaseIn, entriesIn}
+use Rattle.change_state.specs.State.{stageIn, isChanging}
+use Rattle.protector.specs.World.{World, world, Outcome, fits, statusOf, statusIn, takes, takesAt}
+use Rattle.protector.specs.Calls.{refusedBy, decided, visibilityRefusal, visibilityTaken, visibilityOf, visibilityDone, visibilityFailed, changeDone, changeFailed, answerDone, answerFailed}
 use Rattle.vtl_protections.specs.Calls.{protectionRefusal, protectionTaken, protectionOf, defaultRefusal, stored, defaultTaken, defaultOf}
 use Rattle.overlay_tests.specs.Refusals.{registerRefusal, unregisterRefusal}
 use Rattle.overlay_pages.specs.Calls.{currentIn, registerTaken, registerOf, unregisterTaken, unregisterOf}
@@ -22,20 +27,27 @@ use Rattle.locked_pages.specs.Calls.{Kept, ended, lockRefusal, lockTaken, lockO
 use Rattle.vtl1_protections.specs.Calls.{Enabled, stateRefusal, enableRefusal, enableOf}
 use Rattle.visibility_claims.specs.Whole.{Given, Succeeds, Fails}
 use Rattle.visibility_claims.specs.Calls.{answerOf, takenBy}
-use Rattle.visibility_claims.specs.Ends.{leftIn, underWay, afterAll, takenOf}
+use Rattle.visibility_claims.specs.Ends.{leftIn, underWay, afterAll, takenOf, unrefused}
 use Rattle.visibility_claims.proofs.Ends as claims
-use Rattle.history.specs.Seen.{Seen, unseen}
+use Rattle.visibility_claims.proofs.Refusals.{answer-takes}
+use Rattle.history.specs.Seen.{Seen, unseen, isWaiting, isTaken}
+use Rattle.history.specs.Marks.{readOff, Settled}
 use Rattle.history.specs.History as at
 use Rattle.history.specs.History.{History, BuildCall, Stray, LockCall, UnlockCall, EnableCall}
 use Rattle.history.specs.Answered.{given}
-use Rattle.history.specs.Ends.{Answer, Other, Each, Throughout, Falls, takenIn}
+use Rattle.history.specs.Ends.{Course, start, answer, other, courseOf, takenIn, Falls, Meanwhile, Event, Answer, events, Answers, Ends, insisting, RequestEnds}
 use Rattle.history.proofs.Bits.{clash}
+use Rattle.history.proofs.World.{Stands}
+use Rattle.history.proofs.Answers.{taken-seen}
 use Rattle.history.proofs.Calls.{status}
 use Rattle.history.proofs.Others.{protection-idle, default-idle, call-idle}
-use Rattle.history.proofs.Strays.{not-whole}
-use Rattle.history.proofs.Histories.{visibility-is, done-is, failed-is, protection-is, default-is, register-is, unregister-is}
-use Rattle.history.proofs.Claim.{lengths-hold}
-use Rattle.history.proofs.Answered.{lock-is, unlock-is, enable-is, answer-whole}
+use Rattle.history.proofs.Strays.{Whole, untaken-seen}
+use Rattle.history.proofs.Wholes.{answer-long}
+use Rattle.history.proofs.Histories.{visibility-is, done-is, failed-is, protection-is, default-is, register-is, unregister-is, Lent, lent-kept, stands-kept, history-keeps}
+use Rattle.history.proofs.Claim.{lent-holds}
+use Rattle.history.proofs.Answered.{lock-is, unlock-is, enable-is}
+use Rattle.history.proofs.Restart.{settled-stands}
+use Rattle.history.proofs.ExistsAny.{any-done, any-failed}
 
 -- ---- while a request is under way every call that may write, but an answer, is refused, and changes nothing
 
@@ -107,172 +119,218 @@ enable-keeps x y c b =
 
 -- ---- answers
 
-answer-falls : (g : Given) (u v : World) → v ≡ answerOf g u .world → Falls u (Answer g) v
-answer-falls g u v e = (λ t. subst (λ (v : World). leftIn v < leftIn u) (sym e) (claims.taken-lowers u g t), λ t. e ∙ claims.untaken-keeps u g t)
+module _ (es : List MemoryRangeWithNode) (u : World) (o : Seen) (k : Stands es u o) where
+  abbrev Steps : World → Reply → Type 0
+  Steps v r = (isTaken o r ≡ true → leftIn v < leftIn u) × (isTaken o r ≡ false → v ≡ u)
 
--- one that is lent something of another length isn't taken
-stray-untaken : (u x : World) (g : Given) → Stray u x → takenBy g x ≡ false
-stray-untaken u x Succeeds s = ne-eqb _ 0 (λ z. not-whole u x s (answer-whole x false z))
-stray-untaken u x (Fails code k) s = ne-eqb _ 0 (λ z. not-whole u x s (answer-whole x true z))
+  answer-falls : (g : Given) (v : World) (r : Reply) → given v r ≡ answerOf g u → Steps v r
+  answer-falls g v r e =
+      let t : isTaken o r ≡ takenBy g u = ap (λ (X : Outcome). isTaken o (X .reply)) e ∙ taken-seen es u o k g in
+      let d : v ≡ answerOf g u .world = ap (λ (X : Outcome). X .world) e in
+      (λ b. subst (λ (v : World). leftIn v < leftIn u) (sym d) (claims.taken-lowers u g (sym t ∙ b)), λ b. d ∙ claims.untaken-keeps u g (sym t ∙ b))
 
--- ---- THE CLAIM, of every list of calls: each step of it
+  -- one that is lent something of another length isn't taken
+  stray-falls : (x y : World) (g : Given) (r : Reply) → Stray u x → given y r ≡ answerOf g x → Steps u r
+  unfolding answerDone answerFailed
+  stray-falls x y Succeeds r s e =
+      (λ b. clash _ b (ap (λ (X : Outcome). isTaken o (X .reply)) e ∙ untaken-seen u x o (k .halts) false (cond (isChanging (x .state)) (changeDone x) (visibilityDone x)) s), λ _. refl)
+  stray-falls x y (Fails code n) r s e =
+      (λ b. clash _ b (ap (λ (X : Outcome). isTaken o (X .reply)) e ∙ untaken-seen u x o (k .halts) true (cond (isChanging (x .state)) (changeFailed x) (visibilityFailed x code n)) s), λ _. refl)
 
-pub steps-fall : {w v : World} {a o : Seen} (h : History w a v o) → Each Falls h
-unfolding Each
-steps-fall at.none = tt
-steps-fall (at.done {u} {v} h c) = (steps-fall h, answer-falls Succeeds u v (ap (λ (X : Outcome). X .world) (done-is c)))
-steps-fall (at.failed {u} {v} h c) = (steps-fall h, answer-falls (Fails (c .args .1 .1 .1 .1 .1 .1 .1 .1 .1 .0) (c .args .1 .1 .1 .1 .1 .1 .1 .1 .1 .1 .0)) u v (ap (λ (X : Outcome). X .world) (failed-is c)))
-steps-fall (at.visibility {u} {v} h c) = (steps-fall h, λ b. visibility-keeps u v (c .result) b (c .args .1 .1 .1 .1 .1 .1 .1 .1 .1 .0) (c .args .1 .1 .1 .1 .1 .1 .1 .1 .1 .1 .0) (now (c .args .1 .1 .1 .1 .1 .1 .1 .1 .1 .1 .1 .0)) (visibility-is c))
-steps-fall (at.protection {u} {v} h c) = (steps-fall h, λ b. protection-keeps u v (c .result) b (c .args .1 .1 .1 .1 .1 .1 .1 .1 .1 .0) (c .args .1 .1 .1 .1 .1 .1 .1 .1 .1 .1 .0) (now (c .args .1 .1 .1 .1 .1 .1 .1 .1 .1 .1 .1 .0)) (protection-is c))
-steps-fall (at.default {u} {v} h c) = (steps-fall h, λ b. default-keeps u v (c .result) b (c .args .1 .1 .1 .1 .1 .1 .1 .1 .1 .0) (c .args .1 .1 .1 .1 .1 .1 .1 .1 .1 .1 .0) (default-is c))
-steps-fall (at.register {u} {v} h c) = (steps-fall h, λ b. register-keeps u v (c .result) b (c .args .1 .1 .1 .1 .1 .1 .1 .1 .1 .0) (c .args .1 .1 .1 .1 .1 .1 .1 .1 .1 .1 .0) (c .args .1 .1 .1 .1 .1 .1 .1 .1 .1 .1 .1 .0) (c .args .1 .1 .1 .1 .1 .1 .1 .1 .1 .1 .1 .1 .0) (c .args .1 .1 .1 .1 .1 .1 .1 .1 .1 .1 .1 .1 .1 .0) (register-is c))
-steps-fall (at.unregister {u} {v} h c) = (steps-fall h, λ b. unregister-keeps u v (c .result) b (c .args .1 .1 .1 .1 .1 .1 .1 .1 .1 .0) (c .args .1 .1 .1 .1 .1 .1 .1 .1 .1 .1 .0) (unregister-is c))
-steps-fall (at.lock {u} {v} h c) = (steps-fall h, λ b. lock-keeps u v c b)
-steps-fall (at.unlock {u} {v} h c) = (steps-fall h, λ b. unlock-keeps u v c b)
-steps-fall (at.enable {u} {v} h c) = (steps-fall h, λ b. enable-keeps u v c b)
-steps-fall (at.tellEnabled h c) = (steps-fall h, λ b. refl)
-steps-fall (at.tellDefault h c) = (steps-fall h, λ b. refl)
-steps-fall (at.isOverlay h c) = (steps-fall h, λ b. refl)
-steps-fall (at.query h c) = (steps-fall h, λ b. refl)
-steps-fall (at.fault h c) = (steps-fall h, λ b. refl)
-steps-fall (at.lower h c) = (steps-fall h, λ b. refl)
-steps-fall (at.access h c) = (steps-fall h, λ b. refl)
-steps-fall (at.strayDone h c s) = (steps-fall h, λ b. refl)
-steps-fall (at.strayFailed h c s) = (steps-fall h, λ b. refl)
-steps-fall (at.strayVisibility h c s) = (steps-fall h, λ b. refl)
-steps-fall (at.strayProtection h c s) = (steps-fall h, λ b. refl)
-steps-fall (at.strayDefault h c s) = (steps-fall h, λ b. refl)
-steps-fall (at.strayRegister h c s) = (steps-fall h, λ b. refl)
-steps-fall (at.strayUnregister h c s) = (steps-fall h, λ b. refl)
-steps-fall (at.strayLock h c s) = (steps-fall h, λ b. refl)
-steps-fall (at.strayUnlock h c s) = (steps-fall h, λ b. refl)
-steps-fall (at.strayEnable h c s) = (steps-fall h, λ b. refl)
-steps-fall (at.strayTellEnabled h c) = (steps-fall h, λ b. refl)
-steps-fall (at.strayTellDefault h c) = (steps-fall h, λ b. refl)
-steps-fall (at.strayIsOverlay h c) = (steps-fall h, λ b. refl)
-steps-fall (at.strayQuery h c) = (steps-fall h, λ b. refl)
-steps-fall (at.strayFault h c) = (steps-fall h, λ b. refl)
-steps-fall (at.strayLower h c) = (steps-fall h, λ b. refl)
-steps-fall (at.strayAccess h c) = (steps-fall h, λ b. refl)
+-- ---- each call of a list, from any world that meets the invariant
+
+module _ (es : List MemoryRangeWithNode) {w : World} {a : Seen} (k : Stands es w a) where
+  at-stop : {v : World} {o : Seen} → History w a v o → Stands es v o
+  at-stop h = history-keeps (Stands es) (stands-kept es) h k
+
+  waiting : {v : World} {o : Seen} (h : History w a v o) → isWaiting o ≡ true → underWay v ≡ true
+  waiting h b = sym (at-stop h .waits) ∙ b
+
+  pub steps-fall : {v : World} {o : Seen} (h : History w a v o) → Falls (courseOf h)
+  unfolding courseOf Falls
+  steps-fall at.none = tt
+  steps-fall (at.done {u} {v} {o} h c) = let f = answer-falls es u o (at-stop h) Succeeds v (c .result) (done-is c) in (steps-fall h, f .0, f .1)
+  steps-fall (at.failed {u} {v} {o} h c) = let f = answer-falls es u o (at-stop h) (Fails (c .args .1 .1 .1 .1 .1 .1 .1 .1 .1 .0) (c .args .1 .1 .1 .1 .1 .1 .1 .1 .1 .1 .0)) v (c .result) (failed-is c) in (steps-fall h, f .0, f .1)
+  steps-fall (at.strayDone {u} {x} {y} {o} h c s) = let f = stray-falls es u o (at-stop h) x y Succeeds (c .result) s (done-is c) in (steps-fall h, f .0, f .1)
+  steps-fall (at.strayFailed {u} {x} {y} {o} h c s) = let f = stray-falls es u o (at-stop h) x y (Fails (c .args .1 .1 .1 .1 .1 .1 .1 .1 .1 .0) (c .args .1 .1 .1 .1 .1 .1 .1 .1 .1 .1 .0)) (c .result) s (failed-is c) in (steps-fall h, f .0, f .1)
+  steps-fall (at.visibility {u} {v} h c) = (steps-fall h, λ b. visibility-keeps u v (c .result) (waiting h b) (c .args .1 .1 .1 .1 .1 .1 .1 .1 .1 .0) (c .args .1 .1 .1 .1 .1 .1 .1 .1 .1 .1 .0) (now (c .args .1 .1 .1 .1 .1 .1 .1 .1 .1 .1 .1 .0)) (visibility-is c))
+  steps-fall (at.protection {u} {v} h c) = (steps-fall h, λ b. protection-keeps u v (c .result) (waiting h b) (c .args .1 .1 .1 .1 .1 .1 .1 .1 .1 .0) (c .args .1 .1 .1 .1 .1 .1 .1 .1 .1 .1 .0) (now (c .args .1 .1 .1 .1 .1 .1 .1 .1 .1 .1 .1 .0)) (protection-is c))
+  steps-fall (at.default {u} {v} h c) = (steps-fall h, λ b. default-keeps u v (c .result) (waiting h b) (c .args .1 .1 .1 .1 .1 .1 .1 .1 .1 .0) (c .args .1 .1 .1 .1 .1 .1 .1 .1 .1 .1 .0) (default-is c))
+  steps-fall (at.register {u} {v} h c) = (steps-fall h, λ b. register-keeps u v (c .result) (waiting h b) (c .args .1 .1 .1 .1 .1 .1 .1 .1 .1 .0) (c .args .1 .1 .1 .1 .1 .1 .1 .1 .1 .1 .0) (c .args .1 .1 .1 .1 .1 .1 .1 .1 .1 .1 .1 .0) (c .args .1 .1 .1 .1 .1 .1 .1 .1 .1 .1 .1 .1 .0) (c .args .1 .1 .1 .1 .1 .1 .1 .1 .1 .1 .1 .1 .1 .0) (register-is c))
+  steps-fall (at.unregister {u} {v} h c) = (steps-fall h, λ b. unregister-keeps u v (c .result) (waiting h b) (c .args .1 .1 .1 .1 .1 .1 .1 .1 .1 .0) (c .args .1 .1 .1 .1 .1 .1 .1 .1 .1 .1 .0) (unregister-is c))
+  steps-fall (at.lock {u} {v} h c) = (steps-fall h, λ b. lock-keeps u v c (waiting h b))
+  steps-fall (at.unlock {u} {v} h c) = (steps-fall h, λ b. unlock-keeps u v c (waiting h b))
+  steps-fall (at.enable {u} {v} h c) = (steps-fall h, λ b. enable-keeps u v c (waiting h b))
+  steps-fall (at.tellEnabled h c) = (steps-fall h, λ b. refl)
+  steps-fall (at.tellDefault h c) = (steps-fall h, λ b. refl)
+  steps-fall (at.isOverlay h c) = (steps-fall h, λ b. refl)
+  steps-fall (at.query h c) = (steps-fall h, λ b. refl)
+  steps-fall (at.fault h c) = (steps-fall h, λ b. refl)
+  steps-fall (at.lower h c) = (steps-fall h, λ b. refl)
+  steps-fall (at.access h c) = (steps-fall h, λ b. refl)
+  steps-fall (at.strayVisibility h c s) = (steps-fall h, λ b. refl)
+  steps-fall (at.strayProtection h c s) = (steps-fall h, λ b. refl)
+  steps-fall (at.strayDefault h c s) = (steps-fall h, λ b. refl)
+  steps-fall (at.strayRegister h c s) = (steps-fall h, λ b. refl)
+  steps-fall (at.strayUnregister h c s) = (steps-fall h, λ b. refl)
+  steps-fall (at.strayLock h c s) = (steps-fall h, λ b. refl)
+  steps-fall (at.strayUnlock h c s) = (steps-fall h, λ b. refl)
+  steps-fall (at.strayEnable h c s) = (steps-fall h, λ b. refl)
+  steps-fall (at.strayTellEnabled h c) = (steps-fall h, λ b. refl)
+  steps-fall (at.strayTellDefault h c) = (steps-fall h, λ b. refl)
+  steps-fall (at.strayIsOverlay h c) = (steps-fall h, λ b. refl)
+  steps-fall (at.strayQuery h c) = (steps-fall h, λ b. refl)
+  steps-fall (at.strayFault h c) = (steps-fall h, λ b. refl)
+  steps-fall (at.strayLower h c) = (steps-fall h, λ b. refl)
+  steps-fall (at.strayAccess h c) = (steps-fall h, λ b. refl)
 
 -- ---- and the whole of it
 
-nothing-more : (a k l : ℕ) → a + k ≤ l → a + (0 + k) ≤ l
-nothing-more a k l h = omega (arith, h)
-
-other-sum : (l k : ℕ) (u v : World) → Falls u Other v → underWay u ≡ true → leftIn u + k ≤ l → leftIn v + k ≤ l
-other-sum l k u v f b h = subst (λ (v : World). leftIn v + k ≤ l) (sym (f b)) h
-
-answer-sum : (l k : ℕ) (g : Given) (u v : World) → Falls u (Answer g) v → leftIn u + k ≤ l → leftIn v + (cond (takenBy g u) 1 0 + k) ≤ l
-answer-sum l k g u v f h = go (takenBy g u) refl
+answer-sum : (l k : ℕ) (u v : World) (b : Bool) → (b ≡ true → leftIn v < leftIn u) → (b ≡ false → v ≡ u) → leftIn u + k ≤ l → leftIn v + (cond b 1 0 + k) ≤ l
+answer-sum l k u v true f g h = add (leftIn v) (leftIn u) (f refl) h
   where
-    go : (b : Bool) → takenBy g u ≡ b → leftIn v + (cond b 1 0 + k) ≤ l
-    go true e = add (leftIn v) (leftIn u) (f .0 e) h
-      where
-        add : (a b : ℕ) → a < b → b + k ≤ l → a + (1 + k) ≤ l
-        add a b c d = omega (arith, c, d)
-    go false e = nothing-more (leftIn v) k l (subst (λ (v : World). leftIn v + k ≤ l) (sym (f .1 e)) h)
+    add : (a b : ℕ) → a < b → b + k ≤ l → a + (1 + k) ≤ l
+    add a b c d = omega (arith, c, d)
+answer-sum l k u v false f g h = add (leftIn v) (subst (λ (v : World). leftIn v + k ≤ l) (sym (g refl)) h)
+  where
+    add : (a : ℕ) → a + k ≤ l → a + (0 + k) ≤ l
+    add a h = omega (arith, h)
 
-stray-sum : (l k : ℕ) (g : Given) (u x : World) → Stray u x → leftIn u + k ≤ l → leftIn u + (cond (takenBy g x) 1 0 + k) ≤ l
-stray-sum l k g u x s h = subst (λ (b : Bool). leftIn u + (cond b 1 0 + k) ≤ l) (sym (stray-untaken u x g s)) (nothing-more (leftIn u) k l h)
-
--- where a request is under way throughout a list, the number at its end and the answers that were taken are no more than the number at its start
-pub sum-falls : {w v : World} {a o : Seen} (h : History w a v o) → Throughout h → leftIn v + takenIn h ≤ leftIn w
-unfolding Each takenIn
-sum-falls {w} at.none b = omega arith
-sum-falls {w} (at.done {u} {v} h c) b = answer-sum (leftIn w) (takenIn h) Succeeds u v (steps-fall (at.done h c) .1) (sum-falls h (b .0))
-sum-falls {w} (at.failed {u} {v} h c) b = answer-sum (leftIn w) (takenIn h) (Fails (c .args .1 .1 .1 .1 .1 .1 .1 .1 .1 .0) (c .args .1 .1 .1 .1 .1 .1 .1 .1 .1 .1 .0)) u v (steps-fall (at.failed h c) .1) (sum-falls h (b .0))
-sum-falls {w} (at.visibility {u} {v} h c) b = other-sum (leftIn w) (takenIn h) u v (steps-fall (at.visibility h c) .1) (b .1) (sum-falls h (b .0))
-sum-falls {w} (at.protection {u} {v} h c) b = other-sum (leftIn w) (takenIn h) u v (steps-fall (at.protection h c) .1) (b .1) (sum-falls h (b .0))
-sum-falls {w} (at.default {u} {v} h c) b = other-sum (leftIn w) (takenIn h) u v (steps-fall (at.default h c) .1) (b .1) (sum-falls h (b .0))
-sum-falls {w} (at.register {u} {v} h c) b = other-sum (leftIn w) (takenIn h) u v (steps-fall (at.register h c) .1) (b .1) (sum-falls h (b .0))
-sum-falls {w} (at.unregister {u} {v} h c) b = other-sum (leftIn w) (takenIn h) u v (steps-fall (at.unregister h c) .1) (b .1) (sum-falls h (b .0))
-sum-falls {w} (at.lock {u} {v} h c) b = other-sum (leftIn w) (takenIn h) u v (steps-fall (at.lock h c) .1) (b .1) (sum-falls h (b .0))
-sum-falls {w} (at.unlock {u} {v} h c) b = other-sum (leftIn w) (takenIn h) u v (steps-fall (at.unlock h c) .1) (b .1) (sum-falls h (b .0))
-sum-falls {w} (at.enable {u} {v} h c) b = other-sum (leftIn w) (takenIn h) u v (steps-fall (at.enable h c) .1) (b .1) (sum-falls h (b .0))
-sum-falls (at.tellEnabled h c) b = sum-falls h (b .0)
-sum-falls (at.tellDefault h c) b = sum-falls h (b .0)
-sum-falls (at.isOverlay h c) b = sum-falls h (b .0)
-sum-falls (at.query h c) b = sum-falls h (b .0)
-sum-falls (at.fault h c) b = sum-falls h (b .0)
-sum-falls (at.lower h c) b = sum-falls h (b .0)
-sum-falls (at.access h c) b = sum-falls h (b .0)
-sum-falls {w} (at.strayDone {u} {x} h c s) b = stray-sum (leftIn w) (takenIn h) Succeeds u x s (sum-falls h (b .0))
-sum-falls {w} (at.strayFailed {u} {x} h c s) b = stray-sum (leftIn w) (takenIn h) (Fails (c .args .1 .1 .1 .1 .1 .1 .1 .1 .1 .0) (c .args .1 .1 .1 .1 .1 .1 .1 .1 .1 .1 .0)) u x s (sum-falls h (b .0))
-sum-falls (at.strayVisibility h c s) b = sum-falls h (b .0)
-sum-falls (at.strayProtection h c s) b = sum-falls h (b .0)
-sum-falls (at.strayDefault h c s) b = sum-falls h (b .0)
-sum-falls (at.strayRegister h c s) b = sum-falls h (b .0)
-sum-falls (at.strayUnregister h c s) b = sum-falls h (b .0)
-sum-falls (at.strayLock h c s) b = sum-falls h (b .0)
-sum-falls (at.strayUnlock h c s) b = sum-falls h (b .0)
-sum-falls (at.strayEnable h c s) b = sum-falls h (b .0)
-sum-falls (at.strayTellEnabled h c) b = sum-falls h (b .0)
-sum-falls (at.strayTellDefault h c) b = sum-falls h (b .0)
-sum-falls (at.strayIsOverlay h c) b = sum-falls h (b .0)
-sum-falls (at.strayQuery h c) b = sum-falls h (b .0)
-sum-falls (at.strayFault h c) b = sum-falls h (b .0)
-sum-falls (at.strayLower h c) b = sum-falls h (b .0)
-sum-falls (at.strayAccess h c) b = sum-falls h (b .0)
+sum-falls : {w v : World} {a o : Seen} (h : Course w a v o) → Falls h → Meanwhile h → leftIn v + takenIn h ≤ leftIn w
+unfolding Falls Meanwhile takenIn
+sum-falls start f m = omega arith
+sum-falls {w} (answer {u} {v} h g b) f m = answer-sum (leftIn w) (takenIn h) u v b (f .1) (f .2) (sum-falls h (f .0) m)
+sum-falls {w} (other {u} {v} h) f m = subst (λ (v : World). leftIn v + takenIn h ≤ leftIn w) (sym (f .1 (m .1))) (sum-falls h (f .0) (m .0))
 
 idle-at-none : (v : World) → leftIn v ≤ 0 → underWay v ≡ false
 unfolding afterAll takenOf
 idle-at-none v h = claims.ends v [] h
 
--- THE CLAIM: once as many answers were taken as the number said, nothing is under way, whatever else was called between them
-pub request-ends : {w v : World} {a o : Seen} (h : History w a v o) → Throughout h → leftIn w ≤ takenIn h → underWay v ≡ false
-request-ends {w} {v} h b k = idle-at-none v (rest (leftIn v) (leftIn w) (takenIn h) (sum-falls h b) k)
+request-ends : (es : List MemoryRangeWithNode) {w v : World} {a o : Seen} → Stands es w a → (h : History w a v o) → Meanwhile (courseOf h) → leftIn w ≤ takenIn (courseOf h) → isWaiting o ≡ false
+request-ends es {w} {v} k h m e = at-stop es k h .waits ∙ idle-at-none v (rest (leftIn v) (leftIn w) (takenIn (courseOf h)) (sum-falls (courseOf h) (steps-fall es k h) m) e)
   where
     rest : (a b c : ℕ) → a + c ≤ b → b ≤ c → a ≤ 0
     rest a b c d e = omega (arith, d, e)
 
--- and a list of calls from a build leaves no request that cannot be answered: done is taken while one is under way
-pub done-is-taken : {u w v : World} {o : Seen} (b : BuildCall u w) → b .result .number ≡ 0 → History w unseen v o → underWay v ≡ true → takenBy Succeeds v ≡ true
-done-is-taken {v = v} b d h e =
-    let k = lengths-hold b d h in
-    claims.done-taken v (k .long) (k .fit) e
+-- ---- lists of answers alone
 
--- ---- from any world that a list of calls from a build left
+-- from where h stops, gs in turn
+record Further (v : World) (o : Seen) (l : List Event) (w : World) (gs : List Given) : Type 0 where
+  seen : Seen
+  calls : History v o (afterAll w gs) seen
+  alone : events (courseOf calls) ≡ l ++ map Answer gs
+  meanwhile : Meanwhile (courseOf calls)
 
--- a list and one that goes on from where it stops
-unfoldable pub joined : {w v x : World} {a o p : Seen} → History w a v o → History v o x p → History w a x p
-joined h at.none = h
-joined h (at.visibility k c) = at.visibility (joined h k) c
-joined h (at.done k c) = at.done (joined h k) c
-joined h (at.failed k c) = at.failed (joined h k) c
-joined h (at.protection k c) = at.protection (joined h k) c
-joined h (at.default k c) = at.default (joined h k) c
-joined h (at.register k c) = at.register (joined h k) c
-joined h (at.unregister k c) = at.unregister (joined h k) c
-joined h (at.lock k c) = at.lock (joined h k) c
-joined h (at.unlock k c) = at.unlock (joined h k) c
-joined h (at.enable k c) = at.enable (joined h k) c
-joined h (at.tellEnabled k c) = at.tellEnabled (joined h k) c
-joined h (at.tellDefault k c) = at.tellDefault (joined h k) c
-joined h (at.isOverlay k c) = at.isOverlay (joined h k) c
-joined h (at.query k c) = at.query (joined h k) c
-joined h (at.fault k c) = at.fault (joined h k) c
-joined h (at.lower k c) = at.lower (joined h k) c
-joined h (at.access k c) = at.access (joined h k) c
-joined h (at.strayVisibility k c s) = at.strayVisibility (joined h k) c s
-joined h (at.strayDone k c s) = at.strayDone (joined h k) c s
-joined h (at.strayFailed k c s) = at.strayFailed (joined h k) c s
-joined h (at.strayProtection k c s) = at.strayProtection (joined h k) c s
-joined h (at.strayDefault k c s) = at.strayDefault (joined h k) c s
-joined h (at.strayRegister k c s) = at.strayRegister (joined h k) c s
-joined h (at.strayUnregister k c s) = at.strayUnregister (joined h k) c s
-joined h (at.strayLock k c s) = at.strayLock (joined h k) c s
-joined h (at.strayUnlock k c s) = at.strayUnlock (joined h k) c s
-joined h (at.strayEnable k c s) = at.strayEnable (joined h k) c s
-joined h (at.strayTellEnabled k c) = at.strayTellEnabled (joined h k) c
-joined h (at.strayTellDefault k c) = at.strayTellDefault (joined h k) c
-joined h (at.strayIsOverlay k c) = at.strayIsOverlay (joined h k) c
-joined h (at.strayQuery k c) = at.strayQuery (joined h k) c
-joined h (at.strayFault k c) = at.strayFault (joined h k) c
-joined h (at.strayLower k c) = at.strayLower (joined h k) c
-joined h (at.strayAccess k c) = at.strayAccess (joined h k) c
+further : {v w : World} {o p : Seen} (h : History v o w p) → Meanwhile (courseOf h) → (gs : List Given) → Further v o (events (courseOf h)) w gs
+unfolding afterAll courseOf events Meanwhile
+further {p = p} h m [] = record { seen = p; calls = h; alone = sym (append-nil (events (courseOf h))); meanwhile = m }
+further {w = w} h m (Succeeds ∷ gs) =
+    let x = further (at.done h (any-done w)) m gs in
+    record { seen = x .seen; calls = x .calls; alone = x .alone ∙ append-assoc (events (courseOf h)) (Answer Succeeds ∷ []) (map Answer gs); meanwhile = x .meanwhile }
+further {w = w} h m (Fails code n ∷ gs) =
+    let c = any-failed w code n in
+    let x = further (at.failed h (c .0)) m gs in
+    record {
+      seen = x .seen;
+      calls = x .calls;
+      alone = x .alone ∙ append-assoc (events (courseOf h)) _ (map Answer gs) ∙ ap₂ (λ (a b : ℕ). events (courseOf h) ++ (Answer (Fails a b) ∷ map Answer gs)) (c .1 .0) (c .1 .1);
+      meanwhile = x .meanwhile;
+    }
 
--- THE CLAIM: the number and the answers taken since are no more than it was; as many answers as it was end the request; and until then done is taken
-pub every-request-ends : {u w v x : World} {o p : Seen} (b : BuildCall u w) → b .result .number ≡ 0 → (h : History w unseen v o) (k : History v o x p) → Throughout k
-    → (leftIn x + takenIn k ≤ leftIn v) × (leftIn v ≤ takenIn k → underWay x ≡ false) × (underWay x ≡ true → takenBy Succeeds x ≡ true)
-every-request-ends b d h k t = (sum-falls k t, request-ends k t, done-is-taken b d (joined h k))
+-- what an answer is taken for is under way
+phase-waits : (p : Phase) (b : Bool) → takes p b ≡ true → eqb (statusOf p) 19 ≡ true
+phase-waits phase.Idle b e = e
+phase-waits phase.Halted b e = e
+phase-waits phase.Wait b e = refl
+phase-waits phase.FlushAll b e = refl
+phase-waits phase.ProtectNone0 b e = refl
+phase-waits phase.ProtectNone1 b e = refl
+phase-waits phase.Invalidate b e = refl
+phase-waits phase.Release b e = refl
+phase-waits phase.Modify b e = refl
+phase-waits phase.Accept b e = refl
+phase-waits phase.Zero b e = refl
+phase-waits phase.ProtectDefault0 b e = refl
+phase-waits phase.ProtectDefault1 b e = refl
+
+taken-waits : (w : World) (g : Given) → takenBy g w ≡ true → underWay w ≡ true
+taken-waits w g t = by g t
+  where
+    go : (b f : Bool) → cond b (takesAt (stageIn (w .state)) f) (takes (phaseIn (w .state)) f) ≡ true → eqb (cond b 19 (statusOf (phaseIn (w .state)))) 19 ≡ true
+    go true f e = refl
+    go false f e = phase-waits (phaseIn (w .state)) f e
+
+    by : (g : Given) → takenBy g w ≡ true → underWay w ≡ true
+    by Succeeds t = go (isChanging (w .state)) false (answer-takes (w .state) (fits w) false (eqb-true _ _ t))
+    by (Fails code n) t = go (isChanging (w .state)) true (answer-takes (w .state) (fits w) true (eqb-true _ _ t))
+
+-- done after each that isn't taken
+insisting-over : (w : World) → Whole w → (gs : List Given) → (underWay w ≡ true → leftIn w ≤ length gs) → underWay (afterAll w (insisting w gs)) ≡ false
+unfolding afterAll insisting
+insisting-over w k [] f = none (underWay w) refl
+  where
+    none : (b : Bool) → underWay w ≡ b → b ≡ false
+    none false e = refl
+    none true e = sym (sym (idle-at-none w (f e)) ∙ e)
+insisting-over w k (g ∷ gs) f = go (takenBy g w) refl (λ (h : Given) e. insisting-over (answerOf h w .world) (answer-long w k h) gs e)
+  where
+    less : (a b n : ℕ) → a < b → b ≤ suc n → a ≤ n
+    less a b n c d = omega (arith, c, d)
+
+    lower : (h : Given) → takenBy h w ≡ true → leftIn (answerOf h w .world) ≤ length gs
+    lower h t = less (leftIn (answerOf h w .world)) (leftIn w) (length gs) (claims.taken-lowers w h t) (f (taken-waits w h t))
+
+    again : (b : Bool) → takenBy Succeeds w ≡ b → underWay (answerOf Succeeds w .world) ≡ true → leftIn (answerOf Succeeds w .world) ≤ length gs
+    again true t b = lower Succeeds t
+    again false t b = clash _ (claims.done-taken w (k .long) (k .fit) (sym (ap underWay (claims.untaken-keeps w Succeeds t)) ∙ b)) t
+
+    go : (b : Bool) → takenBy g w ≡ b
+        → ((h : Given) → (underWay (answerOf h w .world) ≡ true → leftIn (answerOf h w .world) ≤ length gs) → underWay (afterAll (answerOf h w .world) (insisting (answerOf h w .world) gs)) ≡ false)
+        → underWay (afterAll w (cond b (g ∷ insisting (answerOf g w .world) gs) (g ∷ Succeeds ∷ insisting (answerOf Succeeds w .world) gs))) ≡ false
+    go true t next = next g (λ _. lower g t)
+    go false t next =
+        subst (λ (u : World). underWay (afterAll (answerOf Succeeds u .world) (insisting (answerOf Succeeds w .world) gs)) ≡ false) (sym (claims.untaken-keeps w g t))
+        (next Succeeds (again (takenBy Succeeds w) refl))
+
+-- done alone
+dones-unrefused : (n : ℕ) (w : World) → Whole w → unrefused w (replicate n Succeeds)
+unfolding unrefused
+dones-unrefused zero w k = tt
+dones-unrefused (suc n) w k = (claims.done-taken w (k .long) (k .fit), dones-unrefused n (answerDone w .world) (answer-long w k Succeeds))
+
+-- ---- THE CLAIM, from any world that meets the invariant
+
+module _ (es : List MemoryRangeWithNode) (v : World) (o : Seen) (k : Lent es v o) where
+  giving : (gs : List Given) → Answers v o gs
+  unfolding courseOf events Meanwhile
+  giving gs =
+      let x = further at.none tt gs in
+      record { world = afterAll v gs; seen = x .seen; calls = x .calls; alone = x .alone; enough = request-ends es (k .stands) (x .calls) (x .meanwhile) }
+
+  ending : (gs : List Given) → underWay (afterAll v gs) ≡ false → Ends v o gs
+  unfolding giving
+  ending gs e = record { answers = giving gs; over = at-stop es (k .stands) (giving gs .calls) .waits ∙ e }
+
+  pub lent-ends : RequestEnds v o
+  lent-ends =
+      record {
+        waits = k .stands .waits;
+        takes = taken-seen es v o (k .stands);
+        falls = λ h. steps-fall es (k .stands) h;
+        few = λ h m. sum-falls (courseOf h) (steps-fall es (k .stands) h) m;
+        ends = λ h. request-ends es (k .stands) h;
+        done-taken = λ c b. ap (λ (X : Outcome). isTaken o (X .reply)) (done-is c) ∙ taken-seen es v o (k .stands) Succeeds ∙ claims.done-taken v (k .whole .long) (k .whole .fit) (sym (k .stands .waits) ∙ b);
+        given = giving;
+        insisted = λ gs e. ending (insisting v gs) (insisting-over v (k .whole) gs (λ _. e));
+        unrefused-end = λ gs r e. ending gs (claims.every-request-ends v gs r e);
+        done-ends = ending (replicate (leftIn v) Succeeds) (claims.every-request-ends v (replicate (leftIn v) Succeeds) (dones-unrefused (leftIn v) v (k .whole)) (omega (arith, length-replicate {A = Given} (leftIn v) Succeeds)));
+      }
+
+-- THE CLAIM, wherever a list of calls from a build stops
+pub every-request-ends : {u w v : World} {o : Seen} (b : BuildCall u w) → b .result .number ≡ 0 → History w unseen v o → RequestEnds v o
+every-request-ends {v = v} {o = o} b d h = lent-ends (entriesOf (now (b .args .0))) v o (lent-holds b d h)
+
+-- and wherever one stops from a world that is settled, its state block of its length
+pub settled-requests-end : {w v : World} {o : Seen} → Settled w → length (w .state) ≡ stateLen → History w (readOff (w .maps)) v o → RequestEnds v o
+settled-requests-end {w} {v} {o} k e h =
+    lent-ends (entriesIn (w .state)) v o (history-keeps (Lent (entriesIn (w .state))) (lent-kept (entriesIn (w .state))) h (record { stands = settled-stands w k; whole = record { long = e; fit = k .lent } }))

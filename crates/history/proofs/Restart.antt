@@ -100,6 +100,7 @@ module _ (w : World) (k : Settled w) where
         layout = refl;
         right = by-idle (λ (p : Phase). Right (isRam es) (w .maps .private) (w .maps .shared) p (requestOf (w .state)) (w .pages) false [] (λ z. bitAt 8 (w .maps .shared) z)) p rests right;
         halts = sym (ap (λ (n : ℕ). eqb n 20) (k .idle));
+        waits = sym (ap (λ (n : ℕ). eqb n 19) (k .idle));
         names = by-idle (λ (p : Phase). Names p (requestOf (w .state)) (w .pages) (readOff (w .maps) .op)) p rests refl;
         table = by-idle (λ (p : Phase). opened p ≡ true → [] ≡ w .pages) p rests (λ e. clash false e refl);
       }

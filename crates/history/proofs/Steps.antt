@@ -7,7 +7,7 @@ use mathlib.Core.Logic.{_⊎_, inl, inr}
 use native.Mathlib.Omega.{arith}
 use native.Mathlib.Decide.{decLt}
 use lib.ListN.{length, getD}
-use lib.Dec.{ltb, leb}
+use lib.Dec.{eqb, ltb, leb}
 use borrow.Author.Tests.{leb-false}
 use Rattle.laws.specs.Bools.{false≢true}
 use Rattle.permissions.specs.declared.OptionFlags.{OptionFlags}
@@ -24,7 +24,7 @@ use Rattle.acceptor.specs.declared.Writes.{Writes}
 use Rattle.acceptor.specs.declared.Step.{Step}
 use Rattle.acceptor.specs.Steps.{isSnp, isCca, releases, noWrites, setShared, setPrivate, setPermissions, operationOf, ask, step, noRequest, end, halt, shareRun, defaultRun, returnRun, afterFlush, afterWait, afterModify, afterAccept, afterDefault0, cutAt, failedModify, doneOf, failedOf}
 use Rattle.protector_state.specs.Reply.{askedOf, flatOf}
-use Rattle.protector.specs.World.{takes}
+use Rattle.protector.specs.World.{statusOf, takes}
 use Rattle.visibility_claims.specs.Whole.{Given, Succeeds, Fails}
 use Rattle.history.specs.Seen.{processed}
 use Rattle.history.proofs.Bits.{clash, of-part, in-part, less-among}
@@ -33,34 +33,34 @@ use Rattle.history.proofs.Right.{opened, isHalted, dir, Tells, Wrote, F
 -- ---- what a step tells
 
 module _ (s : Settings) (t : List ℕ) where
-  ask-tells : (p : Phase) (q : Request) (a : ℕ) (w : Writes) → isHalted p ≡ false → Tells (s .isolation) t (ask s p q t a w)
+  ask-tells : (p : Phase) (q : Request) (a : ℕ) (w : Writes) → eqb (statusOf p) 19 ≡ true → Tells (s .isolation) t (ask s p q t a w)
   unfolding ask operationOf flatOf askedOf
-  ask-tells at.Idle q a w e = record { not4 = refl; not21 = refl; halts = refl; stays = λ e. false≢true e; names = refl }
-  ask-tells at.Halted q a w e = false≢true (sym e)
-  ask-tells at.Wait q a w e = record { not4 = refl; not21 = refl; halts = refl; stays = λ _. refl; names = refl }
-  ask-tells at.FlushAll q a w e = record { not4 = refl; not21 = refl; halts = refl; stays = λ _. refl; names = refl }
-  ask-tells at.ProtectNone0 q a w e = record { not4 = refl; not21 = refl; halts = refl; stays = λ _. refl; names = refl }
-  ask-tells at.ProtectNone1 q a w e = record { not4 = refl; not21 = refl; halts = refl; stays = λ _. refl; names = refl }
-  ask-tells at.Invalidate q a w e = record { not4 = refl; not21 = refl; halts = refl; stays = λ _. refl; names = refl }
-  ask-tells at.Release q a w e = record { not4 = refl; not21 = refl; halts = refl; stays = λ _. refl; names = refl }
-  ask-tells at.Modify q a w e = record { not4 = refl; not21 = refl; halts = refl; stays = λ _. refl; names = refl }
-  ask-tells at.Accept q a w e = record { not4 = refl; not21 = refl; halts = refl; stays = λ _. refl; names = refl }
-  ask-tells at.Zero q a w e = record { not4 = refl; not21 = refl; halts = refl; stays = λ _. refl; names = refl }
-  ask-tells at.ProtectDefault0 q a w e = record { not4 = refl; not21 = refl; halts = refl; stays = λ _. refl; names = refl }
-  ask-tells at.ProtectDefault1 q a w e = record { not4 = refl; not21 = refl; halts = refl; stays = λ _. refl; names = refl }
+  ask-tells at.Idle q a w e = false≢true e
+  ask-tells at.Halted q a w e = false≢true e
+  ask-tells at.Wait q a w e = record { not4 = refl; not21 = refl; halts = refl; waits = refl; stays = λ _. refl; names = refl }
+  ask-tells at.FlushAll q a w e = record { not4 = refl; not21 = refl; halts = refl; waits = refl; stays = λ _. refl; names = refl }
+  ask-tells at.ProtectNone0 q a w e = record { not4 = refl; not21 = refl; halts = refl; waits = refl; stays = λ _. refl; names = refl }
+  ask-tells at.ProtectNone1 q a w e = record { not4 = refl; not21 = refl; halts = refl; waits = refl; stays = λ _. refl; names = refl }
+  ask-tells at.Invalidate q a w e = record { not4 = refl; not21 = refl; halts = refl; waits = refl; stays = λ _. refl; names = refl }
+  ask-tells at.Release q a w e = record { not4 = refl; not21 = refl; halts = refl; waits = refl; stays = λ _. refl; names = refl }
+  ask-tells at.Modify q a w e = record { not4 = refl; not21 = refl; halts = refl; waits = refl; stays = λ _. refl; names = refl }
+  ask-tells at.Accept q a w e = record { not4 = refl; not21 = refl; halts = refl; waits = refl; stays = λ _. refl; names = refl }
+  ask-tells at.Zero q a w e = record { not4 = refl; not21 = refl; halts = refl; waits = refl; stays = λ _. refl; names = refl }
+  ask-tells at.ProtectDefault0 q a w e = record { not4 = refl; not21 = refl; halts = refl; waits = refl; stays = λ _. refl; names = refl }
+  ask-tells at.ProtectDefault1 q a w e = record { not4 = refl; not21 = refl; halts = refl; waits = refl; stays = λ _. refl; names = refl }
 
   end-tells : (q : Request) (w : Writes) → Tells (s .isolation) t (end q w)
   unfolding end flatOf
   end-tells q w = go (q .stopped) (q .failed)
     where
       go : (a b : Bool) → Tells (s .isolation) t (step at.Idle noRequest (cond a (AccessDenied (q .index) (q .count)) (cond b (Failed (q .code) (q .index) (q .count)) (Done (q .count)))) w)
-      go true b = record { not4 = refl; not21 = refl; halts = refl; stays = λ e. false≢true e; names = refl }
-      go false true = record { not4 = refl; not21 = refl; halts = refl; stays = λ e. false≢true e; names = refl }
-      go false false = record { not4 = refl; not21 = refl; halts = refl; stays = λ e. false≢true e; names = refl }
+      go true b = record { not4 = refl; not21 = refl; halts = refl; waits = refl; stays = λ e. false≢true e; names = refl }
+      go false true = record { not4 = refl; not21 = refl; halts = refl; waits = refl; stays = λ e. false≢true e; names = refl }
+      go false false = record { not4 = refl; not21 = refl; halts = refl; waits = refl; stays = λ e. false≢true e; names = refl }
 
   halt-tells : (q : Request) → Tells (s .isolation) t (halt q)
   unfolding halt flatOf
-  halt-tells q = record { not4 = refl; not21 = refl; halts = refl; stays = λ e. false≢true e; names = refl }
+  halt-tells q = record { not4 = refl; not21 = refl; halts = refl; waits = refl; stays = λ e. false≢true e; names = refl }
 
 -- ---- what it writes
 
@@ -71,16 +71,16 @@ module _ (s : Settings) (q : Request) (t : List ℕ) where
   abbrev F : Bool → ℕ → Step → Type 0
   F o n x = Fits (s .isolation) t o n x
 
-  ask-closed : (o : Bool) (n m : ℕ) (p : Phase) (i : ℕ) (w : Writes) → isHalted p ≡ false → opened p ≡ false → Wrote n m w → (o ≡ false → (w .private .to ≡ 0) × (w .shared .to ≤ w .shared .from)) → F o n (ask s p q t i w)
+  ask-closed : (o : Bool) (n m : ℕ) (p : Phase) (i : ℕ) (w : Writes) → eqb (statusOf p) 19 ≡ true → opened p ≡ false → Wrote n m w → (o ≡ false → (w .private .to ≡ 0) × (w .shared .to ≤ w .shared .from)) → F o n (ask s p q t i w)
   unfolding ask
   ask-closed o n m p i w h c r was = record { m = m; wrote = r; was = was; opens = λ e. clash (opened p) e c; tells = ask-tells s t p q i w h }
 
-  ask-open : (n m : ℕ) (p : Phase) (i : ℕ) (w : Writes) → isHalted p ≡ false → Wrote n m w → w .private .to ≡ 0 → q .n ≤ m → q .n ≤ n → F true n (ask s p q t i w)
+  ask-open : (n m : ℕ) (p : Phase) (i : ℕ) (w : Writes) → eqb (statusOf p) 19 ≡ true → Wrote n m w → w .private .to ≡ 0 → q .n ≤ m → q .n ≤ n → F true n (ask s p q t i w)
   unfolding ask
   ask-open n m p i w h r z a b = record { m = m; wrote = r; was = λ e. clash true refl e; opens = λ _. (z, a, b, refl); tells = ask-tells s t p q i w h }
 
   -- nothing is written, and the pages are those that they were
-  ask-quiet : (p : Phase) (i : ℕ) → isHalted p ≡ false → F true (q .n) (ask s p q t i noWrites)
+  ask-quiet : (p : Phase) (i : ℕ) → eqb (statusOf p) 19 ≡ true → F true (q .n) (ask s p q t i noWrites)
   ask-quiet p i h = ask-open (q .n) (q .n) p i noWrites h (quiet (q .n)) refl (omega arith) (omega arith)
 
   end-fits : (o : Bool) (n m : ℕ) (w : Writes) → Wrote n m w → (o ≡ false → (w .private .to ≡ 0) × (w .shared .to ≤ w .shared .from)) → F o n (end q w)

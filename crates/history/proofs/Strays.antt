@@ -19,7 +19,7 @@ use Rattle.pages.specs.Pages.{pagesOf}
 use Rattle.locked_pages.specs.Calls.{ended, lockRefusal, lockTaken, lockOf, unlockTaken, unlockOf}
 use Rattle.vtl1_protections.specs.Calls.{stateRefusal, enableRefusal, enableOf}
 use Rattle.visibility_claims.specs.Whole.{Given}
-use Rattle.history.specs.Seen.{Seen, seesTaken, seesAnswer, seesCall}
+use Rattle.history.specs.Seen.{Seen, isTaken, seesTaken, seesAnswer, seesCall}
 use Rattle.history.specs.History.{Stray, block, other, StrayLock, lockBlock, lockTables}
 use Rattle.history.proofs.Bits.{clash}
 use Rattle.history.proofs.Answers.{chain, counts, chain-untaken}
@@ -114,6 +114,10 @@ module _ (u x : World) (o : Seen) (halts : o .halted ≡ eqb (statusIn (u .state
 
   pub answer-kept : (y : World) (r : Reply) → record { world = y; reply = r } ≡ decided x (answerRefusal (x .state) (fits x) failed) T → y ≡ x
   answer-kept y r e = ap (λ (X : Outcome). X .world) (e ∙ refused-answer)
+
+  pub untaken-seen : isTaken o (decided x (answerRefusal (x .state) (fits x) failed) T .reply) ≡ false
+  unfolding answerRefusal
+  untaken-seen = ap (λ (X : Outcome). isTaken o (X .reply)) refused-answer ∙ untaken s
 
   pub answer-stray : (K : Seen → Type 0) (g : Given) → K o
       → K (seesAnswer g (decided x (answerRefusal (x .state) (fits x) failed) T .reply) (decided x (answerRefusal (x .state) (fits x) failed) T .world .pages) o)

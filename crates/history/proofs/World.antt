@@ -27,7 +27,7 @@ use Rattle.change_state.specs.State.{stageNumber, isChanging, withChange}
 use Rattle.protector.specs.World.{World, world, statusOf, statusIn}
 use Rattle.visibility_claims.specs.Whole.{Given}
 use Rattle.visibility_claims.proofs.Calls.{phase-read, request-read, no-change}
-use Rattle.history.specs.Seen.{Seen, isModify, processed, lastAfter}
+use Rattle.history.specs.Seen.{Seen, isWaiting, isModify, processed, lastAfter}
 use Rattle.history.proofs.Bits.{clash}
 use Rattle.history.proofs.Right.{opened, isHalted, isQuiet, Names, Right}
 use Rattle.history.proofs.Steps.{after}
@@ -36,6 +36,7 @@ pub record Stands (es : List MemoryRangeWithNode) (w : World) (o : Seen) : Type 
   pub layout : entriesIn (w .state) ≡ es
   pub right : Right (isRam es) (w .maps .private) (w .maps .shared) (phaseIn (w .state)) (requestOf (w .state)) (w .pages) (o .halted) (o .listed) (o .last)
   pub halts : o .halted ≡ eqb (statusIn (w .state)) 20
+  pub waits : isWaiting o ≡ eqb (statusIn (w .state)) 19
   pub names : Names (phaseIn (w .state)) (requestOf (w .state)) (w .pages) (o .op)
   pub table : opened (phaseIn (w .state)) ≡ true → o .table ≡ w .pages
 
@@ -165,6 +166,29 @@ change-status stage.Wait q s = refl
 change-status stage.Flush q s = refl
 change-status stage.TlbWait q s = refl
 
+abbrev pub goes : Stage → Bool
+goes stage.Idle = false
+goes stage.Halted = false
+goes stage.ProtectPages = true
+goes stage.ProtectRam = true
+goes stage.ProtectNew = true
+goes stage.ProtectOld = true
+goes stage.Wait = true
+goes stage.Flush = true
+goes stage.TlbWait = true
+
+change-waits : (g : Stage) (q : Change) (s : List ℕ) → eqb (statusIn (withChange g q s)) 19 ≡ goes g
+unfolding phaseOf firstPhases
+change-waits stage.Idle q s = refl
+change-waits stage.Halted q s = refl
+change-waits stage.ProtectPages q s = refl
+change-waits stage.ProtectRam q s = refl
+change-waits stage.ProtectNew q s = refl
+change-waits stage.ProtectOld q s = refl
+change-waits stage.Wait q s = refl
+change-waits stage.Flush q s = refl
+change-waits stage.TlbWait q s = refl
+
 pub change-shut : (g : Stage) → opened (phaseOf (stageNumber g)) ≡ false
 unfolding phaseOf firstPhases
 change-shut stage.Idle = refl
@@ -236,28 +260,30 @@ changing-shut s h = between-phase (getD s 0 0) (leb-true 13 _ (and-left _ _ h))
 
 module _ (es : List MemoryRangeWithNode) (m : Maps) (s t tables : List ℕ) (o : Seen) where
   pub stands-step : (p : Phase) (q : Request) → q .n ≤ 512 → entriesIn s ≡ es → Right (isRam es) (m .private) (m .shared) p q t (o .halted) (o .listed) (o .last) → o .halted ≡ isHalted p
-      → Names p q t (o .op) → (opened p ≡ true → o .table ≡ t) → Stands es (world m (withRequest p q s) t tables) o
-  stands-step p q few e r h n d =
+      → isWaiting o ≡ eqb (statusOf p) 19 → Names p q t (o .op) → (opened p ≡ true → o .table ≡ t) → Stands es (world m (withRequest p q s) t tables) o
+  stands-step p q few e r h a n d =
       let p₀ : Phase = p in
-      let a : phaseIn (withRequest p q s) ≡ p = phase-read p in
+      let c : phaseIn (withRequest p q s) ≡ p = phase-read p in
       let b : requestOf (withRequest p q s) ≡ q = request-read p q (drop 10 s) few in
       record {
         layout = request-entries p q s ∙ e;
-        right = subst (λ (p : Phase). Right (isRam es) (m .private) (m .shared) p (requestOf (withRequest p₀ q s)) t (o .halted) (o .listed) (o .last)) (sym a)
+        right = subst (λ (p : Phase). Right (isRam es) (m .private) (m .shared) p (requestOf (withRequest p₀ q s)) t (o .halted) (o .listed) (o .last)) (sym c)
             (subst (λ (q : Request). Right (isRam es) (m .private) (m .shared) p q t (o .halted) (o .listed) (o .last)) (sym b) r);
         halts = h ∙ sym (halted-status p) ∙ ap (λ (k : ℕ). eqb k 20) (sym (request-status p q s));
-        names = subst (λ (x : Phase). Names x (requestOf (withRequest p q s)) t (o .op)) (sym a) (subst (λ (x : Request). Names p x t (o .op)) (sym b) n);
-        table = λ k. d (sym (ap opened a) ∙ k);
+        waits = a ∙ ap (λ (k : ℕ). eqb k 19) (sym (request-status p q s));
+        names = subst (λ (x : Phase). Names x (requestOf (withRequest p q s)) t (o .op)) (sym c) (subst (λ (x : Request). Names p x t (o .op)) (sym b) n);
+        table = λ k. d (sym (ap opened c) ∙ k);
       }
 
   -- of a change other than of visibility
   pub stands-change : (g : Stage) (q : Change) → entriesIn s ≡ es → ((p : Phase) (q : Request) → opened p ≡ false → Right (isRam es) (m .private) (m .shared) p q t (o .halted) (o .listed) (o .last))
-      → o .halted ≡ stops g → isQuiet (o .op) ≡ true → Stands es (world m (withChange g q s) t tables) o
-  stands-change g q e r h n =
+      → o .halted ≡ stops g → isWaiting o ≡ goes g → isQuiet (o .op) ≡ true → Stands es (world m (withChange g q s) t tables) o
+  stands-change g q e r h a n =
       record {
         layout = change-entries g q s ∙ e;
         right = r _ _ (change-shut g);
         halts = h ∙ sym (change-status g q s);
+        waits = a ∙ sym (change-waits g q s);
         names = change-names g (requestOf (withChange g q s)) t (o .op) n;
         table = λ k. clash _ k (change-shut g);
       }

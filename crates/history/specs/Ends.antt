@@ -1,102 +1,123 @@
 -- Every request ends (01, "The request under way"): while one is under way, a taken answer lowers the number of the operations to come, and no other call
--- changes anything.
+-- changes anything. Under way and taken are told from the calls and what they gave.
 use mathlib.Core.Path.{_≡_}
-use mathlib.Core.Bool.{true, false, cond}
-use Prim.Native.Nat.{ℕ, _+_, _<_}
+use mathlib.Core.Bool.{Bool, true, false, cond}
+use mathlib.Core.List.{List, [], _∷_, _++_, map}
+use Prim.Native.Nat.{ℕ, _+_, _≤_, _<_}
+use lib.ListN.{length, replicate}
 use Rattle.protector.specs.World.{World}
 use Rattle.visibility_claims.specs.Whole.{Given, Succeeds, Fails}
-use Rattle.visibility_claims.specs.Calls.{takenBy}
-use Rattle.visibility_claims.specs.Ends.{leftIn, underWay}
-use Rattle.history.specs.Seen.{Seen}
+use Rattle.visibility_claims.specs.Calls.{answerOf, takenBy}
+use Rattle.visibility_claims.specs.Ends.{leftIn, underWay, unrefused}
+use Rattle.history.specs.Seen.{Seen, isWaiting, isTaken}
 use Rattle.history.specs.History as at
-use Rattle.history.specs.History.{History}
+use Rattle.history.specs.History.{History, DoneCall}
 
--- a call of a list: an answer given to what was last left; or any other, those that are lent something of another length among them
+-- what is told of a list of calls here: of an answer what was given, and whether it is seen to be taken; of any other call that it came
+pub data Course (w : World) (a : Seen) : World → Seen → Type 0 where
+  start : Course w a w a
+  answer : {u v : World} {o p : Seen} → Course w a u o → Given → Bool → Course w a v p
+  other : {u v : World} {o p : Seen} → Course w a u o → Course w a v p
+
+unfoldable pub courseOf : {w v : World} {a o : Seen} → History w a v o → Course w a v o
+courseOf at.none = start
+courseOf (at.done {u} {v} {o} h c) = answer (courseOf h) Succeeds (isTaken o (c .result))
+courseOf (at.failed {u} {v} {o} h c) = answer (courseOf h) (Fails (c .args .1 .1 .1 .1 .1 .1 .1 .1 .1 .0) (c .args .1 .1 .1 .1 .1 .1 .1 .1 .1 .1 .0)) (isTaken o (c .result))
+courseOf (at.strayDone {u} {x} {y} {o} h c s) = answer (courseOf h) Succeeds (isTaken o (c .result))
+courseOf (at.strayFailed {u} {x} {y} {o} h c s) = answer (courseOf h) (Fails (c .args .1 .1 .1 .1 .1 .1 .1 .1 .1 .0) (c .args .1 .1 .1 .1 .1 .1 .1 .1 .1 .1 .0)) (isTaken o (c .result))
+courseOf (at.visibility h c) = other (courseOf h)
+courseOf (at.protection h c) = other (courseOf h)
+courseOf (at.default h c) = other (courseOf h)
+courseOf (at.register h c) = other (courseOf h)
+courseOf (at.unregister h c) = other (courseOf h)
+courseOf (at.lock h c) = other (courseOf h)
+courseOf (at.unlock h c) = other (courseOf h)
+courseOf (at.enable h c) = other (courseOf h)
+courseOf (at.tellEnabled h c) = other (courseOf h)
+courseOf (at.tellDefault h c) = other (courseOf h)
+courseOf (at.isOverlay h c) = other (courseOf h)
+courseOf (at.query h c) = other (courseOf h)
+courseOf (at.fault h c) = other (courseOf h)
+courseOf (at.lower h c) = other (courseOf h)
+courseOf (at.access h c) = other (courseOf h)
+courseOf (at.strayVisibility h c s) = other (courseOf h)
+courseOf (at.strayProtection h c s) = other (courseOf h)
+courseOf (at.strayDefault h c s) = other (courseOf h)
+courseOf (at.strayRegister h c s) = other (courseOf h)
+courseOf (at.strayUnregister h c s) = other (courseOf h)
+courseOf (at.strayLock h c s) = other (courseOf h)
+courseOf (at.strayUnlock h c s) = other (courseOf h)
+courseOf (at.strayEnable h c s) = other (courseOf h)
+courseOf (at.strayTellEnabled h c) = other (courseOf h)
+courseOf (at.strayTellDefault h c) = other (courseOf h)
+courseOf (at.strayIsOverlay h c) = other (courseOf h)
+courseOf (at.strayQuery h c) = other (courseOf h)
+courseOf (at.strayFault h c) = other (courseOf h)
+courseOf (at.strayLower h c) = other (courseOf h)
+courseOf (at.strayAccess h c) = other (courseOf h)
+
+-- how many answers were taken
+unfoldable pub takenIn : {w v : World} {a o : Seen} → Course w a v o → ℕ
+takenIn start = 0
+takenIn (answer h g b) = cond b 1 0 + takenIn h
+takenIn (other h) = takenIn h
+
+-- a taken answer lowers the number; one that isn't taken changes nothing, nor does any other call while a request is under way
+unfoldable pub Falls : {w v : World} {a o : Seen} → Course w a v o → Type 0
+Falls start = Unit {0}
+Falls (answer {u} {v} h g b) = Falls h × (b ≡ true → leftIn v < leftIn u) × (b ≡ false → v ≡ u)
+Falls (other {u} {v} {o} h) = Falls h × (isWaiting o ≡ true → v ≡ u)
+
+-- each call but an answer came while a request was under way, so that no other began
+unfoldable pub Meanwhile : {w v : World} {a o : Seen} → Course w a v o → Type 0
+Meanwhile start = Unit {0}
+Meanwhile (answer h g b) = Meanwhile h
+Meanwhile (other {u} {v} {o} h) = Meanwhile h × (isWaiting o ≡ true)
+
+-- ---- lists of answers alone
+
 pub data Event : Type 0 where
   Answer : Given → Event
   Other : Event
 
--- what holds of each call of a list: of the world before it, the call, and the world after it
-unfoldable pub Each : (World → Event → World → Type 0) → {w v : World} {a o : Seen} → History w a v o → Type 0
-Each P at.none = Unit {0}
-Each P (at.done {u} {v} h c) = Each P h × P u (Answer Succeeds) v
-Each P (at.failed {u} {v} h c) = Each P h × P u (Answer (Fails (c .args .1 .1 .1 .1 .1 .1 .1 .1 .1 .0) (c .args .1 .1 .1 .1 .1 .1 .1 .1 .1 .1 .0))) v
-Each P (at.visibility {u} {v} h c) = Each P h × P u Other v
-Each P (at.protection {u} {v} h c) = Each P h × P u Other v
-Each P (at.default {u} {v} h c) = Each P h × P u Other v
-Each P (at.register {u} {v} h c) = Each P h × P u Other v
-Each P (at.unregister {u} {v} h c) = Each P h × P u Other v
-Each P (at.lock {u} {v} h c) = Each P h × P u Other v
-Each P (at.unlock {u} {v} h c) = Each P h × P u Other v
-Each P (at.enable {u} {v} h c) = Each P h × P u Other v
-Each P (at.tellEnabled {u} h c) = Each P h × P u Other u
-Each P (at.tellDefault {u} h c) = Each P h × P u Other u
-Each P (at.isOverlay {u} h c) = Each P h × P u Other u
-Each P (at.query {u} h c) = Each P h × P u Other u
-Each P (at.fault {u} h c) = Each P h × P u Other u
-Each P (at.lower {u} h c) = Each P h × P u Other u
-Each P (at.access {u} h c) = Each P h × P u Other u
-Each P (at.strayDone {u} {x} {y} h c s) = Each P h × P u Other u
-Each P (at.strayFailed {u} {x} {y} h c s) = Each P h × P u Other u
-Each P (at.strayVisibility {u} {x} {y} h c s) = Each P h × P u Other u
-Each P (at.strayProtection {u} {x} {y} h c s) = Each P h × P u Other u
-Each P (at.strayDefault {u} {x} {y} h c s) = Each P h × P u Other u
-Each P (at.strayRegister {u} {x} {y} h c s) = Each P h × P u Other u
-Each P (at.strayUnregister {u} {x} {y} h c s) = Each P h × P u Other u
-Each P (at.strayLock {u} {x} {y} h c s) = Each P h × P u Other u
-Each P (at.strayUnlock {u} {x} {y} h c s) = Each P h × P u Other u
-Each P (at.strayEnable {u} {x} {y} h c s) = Each P h × P u Other u
-Each P (at.strayTellEnabled {u} {x} h c) = Each P h × P u Other u
-Each P (at.strayTellDefault {u} {x} h c) = Each P h × P u Other u
-Each P (at.strayIsOverlay {u} {x} h c) = Each P h × P u Other u
-Each P (at.strayQuery {u} {x} h c) = Each P h × P u Other u
-Each P (at.strayFault {u} {x} h c) = Each P h × P u Other u
-Each P (at.strayLower {u} {x} h c) = Each P h × P u Other u
-Each P (at.strayAccess {u} {x} h c) = Each P h × P u Other u
+unfoldable pub events : {w v : World} {a o : Seen} → Course w a v o → List Event
+events start = []
+events (answer h g b) = events h ++ (Answer g ∷ [])
+events (other h) = events h ++ (Other ∷ [])
 
--- a request was under way at each call of a list
-abbrev pub Throughout : {w v : World} {a o : Seen} → History w a v o → Type 0
-Throughout h = Each (λ u e v. underWay u ≡ true) h
+-- a list of calls from v, where o was seen: these answers in turn and no other call; once as many were taken as the number says, nothing is under way
+pub record Answers (v : World) (o : Seen) (gs : List Given) : Type 0 where
+  pub world : World
+  pub seen : Seen
+  pub calls : History v o world seen
+  pub alone : events (courseOf calls) ≡ map Answer gs
+  pub enough : leftIn v ≤ takenIn (courseOf calls) → isWaiting seen ≡ false
 
--- a taken answer lowers the number; an answer that isn't taken changes nothing, nor does any other call while a request is under way
-abbrev pub Falls : World → Event → World → Type 0
-Falls u (Answer g) v = (takenBy g u ≡ true → leftIn v < leftIn u) × (takenBy g u ≡ false → v ≡ u)
-Falls u Other v = underWay u ≡ true → v ≡ u
+-- one at whose end nothing is under way
+pub record Ends (v : World) (o : Seen) (gs : List Given) : Type 0 where
+  pub answers : Answers v o gs
+  pub over : isWaiting (answers .seen) ≡ false
 
--- how many answers of a list were taken
-unfoldable pub takenIn : {w v : World} {a o : Seen} → History w a v o → ℕ
-takenIn at.none = 0
-takenIn (at.done {u} {v} h c) = cond (takenBy Succeeds u) 1 0 + takenIn h
-takenIn (at.failed {u} {v} h c) = cond (takenBy (Fails (c .args .1 .1 .1 .1 .1 .1 .1 .1 .1 .0) (c .args .1 .1 .1 .1 .1 .1 .1 .1 .1 .1 .0)) u) 1 0 + takenIn h
-takenIn (at.visibility h c) = takenIn h
-takenIn (at.protection h c) = takenIn h
-takenIn (at.default h c) = takenIn h
-takenIn (at.register h c) = takenIn h
-takenIn (at.unregister h c) = takenIn h
-takenIn (at.lock h c) = takenIn h
-takenIn (at.unlock h c) = takenIn h
-takenIn (at.enable h c) = takenIn h
-takenIn (at.tellEnabled h c) = takenIn h
-takenIn (at.tellDefault h c) = takenIn h
-takenIn (at.isOverlay h c) = takenIn h
-takenIn (at.query h c) = takenIn h
-takenIn (at.fault h c) = takenIn h
-takenIn (at.lower h c) = takenIn h
-takenIn (at.access h c) = takenIn h
-takenIn (at.strayDone {u} {x} {y} h c s) = cond (takenBy Succeeds x) 1 0 + takenIn h
-takenIn (at.strayFailed {u} {x} {y} h c s) = cond (takenBy (Fails (c .args .1 .1 .1 .1 .1 .1 .1 .1 .1 .0) (c .args .1 .1 .1 .1 .1 .1 .1 .1 .1 .1 .0)) x) 1 0 + takenIn h
-takenIn (at.strayVisibility h c s) = takenIn h
-takenIn (at.strayProtection h c s) = takenIn h
-takenIn (at.strayDefault h c s) = takenIn h
-takenIn (at.strayRegister h c s) = takenIn h
-takenIn (at.strayUnregister h c s) = takenIn h
-takenIn (at.strayLock h c s) = takenIn h
-takenIn (at.strayUnlock h c s) = takenIn h
-takenIn (at.strayEnable h c s) = takenIn h
-takenIn (at.strayTellEnabled h c) = takenIn h
-takenIn (at.strayTellDefault h c) = takenIn h
-takenIn (at.strayIsOverlay h c) = takenIn h
-takenIn (at.strayQuery h c) = takenIn h
-takenIn (at.strayFault h c) = takenIn h
-takenIn (at.strayLower h c) = takenIn h
-takenIn (at.strayAccess h c) = takenIn h
+-- answers in turn, and done after each that isn't taken
+unfoldable pub insisting : World → List Given → List Given
+insisting w [] = []
+insisting w (g ∷ gs) = cond (takenBy g w) (g ∷ insisting (answerOf g w .world) gs) (g ∷ Succeeds ∷ insisting (answerOf Succeeds w .world) gs)
+
+-- ---- every request ends: of a world v, where o was seen, and all that may be called from there on
+
+pub record RequestEnds (v : World) (o : Seen) : Type 0 where
+  -- what is told from outside is what the state block says
+  pub waits : isWaiting o ≡ underWay v
+  pub takes : (g : Given) → isTaken o (answerOf g v .reply) ≡ takenBy g v
+  -- in any list of calls each taken answer lowers the number, and nothing else changes it while a request is under way
+  pub falls : {x : World} {p : Seen} (h : History v o x p) → Falls (courseOf h)
+  -- so no more answers are taken than it says, and as many as it says end the request
+  pub few : {x : World} {p : Seen} (h : History v o x p) → Meanwhile (courseOf h) → leftIn x + takenIn (courseOf h) ≤ leftIn v
+  pub ends : {x : World} {p : Seen} (h : History v o x p) → Meanwhile (courseOf h) → leftIn v ≤ takenIn (courseOf h) → isWaiting p ≡ false
+  -- while it is under way done is taken
+  pub done-taken : {x : World} (c : DoneCall v x) → isWaiting o ≡ true → isTaken o (c .result) ≡ true
+  -- any answers can be given; and any so many, with done after each that isn't taken, end the request, as do so many of which none is refused
+  pub given : (gs : List Given) → Answers v o gs
+  pub insisted : (gs : List Given) → leftIn v ≤ length gs → Ends v o (insisting v gs)
+  pub unrefused-end : (gs : List Given) → unrefused v gs → leftIn v ≤ length gs → Ends v o gs
+  pub done-ends : Ends v o (replicate (leftIn v) Succeeds)

@@ -39,6 +39,10 @@ unseen = record { op = finished 0 0 0 0; table = []; halted = false; listed = []
 abbrev pub asks : Reply → Bool
 asks r = not (eqb (r .operation) 0)
 
+-- a call is under way: its operation is outstanding
+abbrev pub isWaiting : Seen → Bool
+isWaiting o = asks (o .op)
+
 abbrev pub isModify : Reply → Bool
 isModify r = eqb (r .operation) 6
 
