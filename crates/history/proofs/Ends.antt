@@ -30,7 +30,7 @@ use Rattle.visibility_claims.specs.Calls.{answerOf, takenBy}
 use Rattle.visibility_claims.specs.Ends.{leftIn, underWay, afterAll, takenOf, unrefused}
 use Rattle.visibility_claims.proofs.Ends as claims
 use Rattle.visibility_claims.proofs.Refusals.{answer-takes}
-use Rattle.history.specs.Seen.{Seen, unseen, isWaiting, isTaken}
+use Rattle.history.specs.Seen.{Seen, unseen, asks, isWaiting, isTaken, seesCall}
 use Rattle.history.specs.Marks.{readOff, Settled}
 use Rattle.history.specs.History as at
 use Rattle.history.specs.History.{History, BuildCall, Stray, LockCall, UnlockCall, EnableCall}
@@ -47,7 +47,7 @@ use Rattle.history.proofs.Histories.{visibility-is, done-is, failed-is,
 use Rattle.history.proofs.Claim.{lent-holds}
 use Rattle.history.proofs.Answered.{lock-is, unlock-is, enable-is}
 use Rattle.history.proofs.Restart.{settled-stands}
-use Rattle.history.proofs.ExistsAny.{any-done, any-failed}
+use Rattle.history.proofs.ExistsAny.{any-done, any-failed, build8, build8-taken, shared8, share8, share8-asks}
 
 -- ---- while a request is under way every call that may write, but an answer, is refused, and changes nothing
 
@@ -334,3 +334,17 @@ every-request-ends {v = v} {o = o} b d h = lent-ends (entriesOf (now (b .args .0
 pub settled-requests-end : {w v : World} {o : Seen} → Settled w → length (w .state) ≡ stateLen → History w (readOff (w .maps)) v o → RequestEnds v o
 settled-requests-end {w} {v} {o} k e h =
     lent-ends (entriesIn (w .state)) v o (history-keeps (Lent (entriesIn (w .state))) (lent-kept (entriesIn (w .state))) h (record { stands = settled-stands w k; whole = record { long = e; fit = k .lent } }))
+
+-- ---- a request that is under way, of eight pages of RAM: page 3 is shared
+
+asked-waits : (ps : List ℕ) (r : Reply) (p : List ℕ) (o : Seen) → asks r ≡ true → isWaiting (seesCall ps r p o) ≡ true
+asked-waits ps r p o e = ap (λ (b : Bool). isWaiting (cond b (record { op = r; table = p; halted = o .halted; listed = ps; last = o .last; age = o .age }) o)) e ∙ e
+
+abbrev seen8 : Seen
+seen8 = seesCall (pagesOf (now (share8 .args .1 .1 .1 .1 .1 .1 .1 .1 .1 .1 .1 .0))) (share8 .result) (shared8 .pages) unseen
+
+pub share8-waits : isWaiting seen8 ≡ true
+share8-waits = asked-waits _ (share8 .result) (shared8 .pages) unseen share8-asks
+
+pub share8-ends : RequestEnds shared8 seen8
+share8-ends = every-request-ends build8 build8-taken (at.visibility at.none share8)

@@ -2,20 +2,30 @@
 -- layout has a build that is taken.
 -- Assumes nothing.
 use mathlib.Core.Path.{_≡_, refl}
+use mathlib.Core.Bool.{true}
 use mathlib.Core.List.{List, [], _∷_}
 use Prim.Native.Nat.{ℕ}
 use lib.ListN.{replicate}
 use denote.Ref.{RefT}
-use Rattle.layout.specs.Layout.{entriesOf, ordered, aligned, refusalOf}
+use Rattle.bitmap.specs.Pages.{word, writtenFrom}
+use Rattle.layout.specs.Layout.{entriesOf, ordered, aligned, refusalOf, ramByte}
 use Rattle.mapping.specs.Maps.{maps}
-use Rattle.protector.specs.World.{World, world}
-use Rattle.protector.specs.Calls.{visibilityOf, answerDone, answerFailed, buildRefusal, buildTaken, buildOf}
+use Rattle.pages.specs.Pages.{numberOf, numberAt, numbersFrom, among, repeats}
+use Rattle.request.specs.Request.{pick, tableOf, stopAt, put}
+use Rattle.overlays.specs.Overlays.{placeFrom}
+use Rattle.locks.specs.Locks.{listsFrom, held}
+use Rattle.acceptor.specs.Steps.{operationOf, ask, cleared, startOf}
+use Rattle.protector_state.specs.State.{firstPhases, phaseOf}
+use Rattle.protector_state.specs.Reply.{askedOf, flatOf}
+use Rattle.protector.specs.World.{World, world, applied}
+use Rattle.protector.specs.Calls.{carriedOut, firstRefusal, visibilityRefusal, visibilityTaken, visibilityOf, answerDone, answerFailed, buildRefusal, buildTaken, buildOf}
 use Rattle.vtl_protections.specs.Calls.{protectionOf, defaultOf}
 use Rattle.overlay_pages.specs.Calls.{registerOf, unregisterOf}
 use Rattle.locked_pages.specs.Calls.{lockOf, unlockOf}
 use Rattle.vtl1_protections.specs.Calls.{enableOf}
+use Rattle.visibility_claims.specs.Table.{page}
 use Rattle.history.specs.History.{VisibilityCall, DoneCall, FailedCall, ProtectionCall, DefaultCall, RegisterCall, UnregisterCall, LockCall, UnlockCall, EnableCall, TellEnabledCall, TellDefaultCall, IsOverlayCall, QueryCall, FaultCall, LowerCall, AccessCall, BuildCall, History}
-use Rattle.history.specs.Seen.{Seen, unseen}
+use Rattle.history.specs.Seen.{Seen, unseen, asks}
 use Rattle.history.specs.Arguments.{VisibilityWith, FailedWith, ProtectionWith, DefaultWith, RegisterWith, UnregisterWith, LockWith, UnlockWith, IsOverlayWith, QueryWith, FaultWith, LowerWith, AccessWith, BuildWith}
 use Rattle.history.specs.Answered.{Claim}
 use Rattle.history.proofs.Claim.{calls-hold}
@@ -104,7 +114,10 @@ ram8 = 0 ∷ 0x8000 ∷ 0 ∷ []
 abbrev before8 : World
 before8 = world (maps (0 ∷ []) (0 ∷ []) (0 ∷ []) (0 ∷ []) (0 ∷ []) (0 ∷ [])) (replicate 128 0) (replicate 1024 0) (replicate 3460 0)
 
-unfoldable pub build8 : BuildCall before8 (buildOf before8 ram8 2 1 0 .world)
+abbrev pub built8 : World
+built8 = buildOf before8 ram8 2 1 0 .world
+
+unfoldable pub build8 : BuildCall before8 built8
 build8 = any-build before8 ram8 2 1 0 .0
 
 pub build8-taken : build8 .result .number ≡ 0
@@ -112,5 +125,17 @@ unfolding buildOf buildRefusal refusalOf entriesOf ordered aligned buildTaken bu
 build8-taken = refl
 
 -- so the claim holds of every list of calls from it
-pub claim8 : {v : World} {o : Seen} (h : History (buildOf before8 ram8 2 1 0 .world) unseen v o) → Claim build8 h
+pub claim8 : {v : World} {o : Seen} (h : History built8 unseen v o) → Claim build8 h
 claim8 h = calls-hold build8 build8-taken h
+
+-- ---- and there its page 3 may be shared: a call that asks for an operation
+
+abbrev pub shared8 : World
+shared8 = visibilityOf built8 0 1 (page 3 []) .world
+
+unfoldable pub share8 : VisibilityCall built8 shared8
+share8 = any-visibility built8 0 1 (page 3 []) .0
+
+pub share8-asks : asks (share8 .result) ≡ true
+unfolding share8 any-visibility visibility-may visibilityOf visibilityRefusal buildOf buildRefusal refusalOf entriesOf ordered aligned buildTaken word writtenFrom ramByte numberOf numberAt numbersFrom among repeats pick tableOf stopAt put placeFrom listsFrom held ask operationOf cleared startOf firstPhases phaseOf askedOf flatOf applied carriedOut firstRefusal visibilityTaken
+share8-asks = refl
