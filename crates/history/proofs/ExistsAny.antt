@@ -26,7 +26,7 @@ use Rattle.vtl1_protections.specs.Calls.{enableOf}
 use Rattle.visibility_claims.specs.Table.{page}
 use Rattle.history.specs.History.{VisibilityCall, DoneCall, FailedCall, ProtectionCall, DefaultCall, RegisterCall, UnregisterCall, LockCall, UnlockCall, EnableCall, TellEnabledCall, TellDefaultCall, IsOverlayCall, QueryCall, FaultCall, LowerCall, AccessCall, BuildCall, History}
 use Rattle.history.specs.Seen.{Seen, unseen, asks}
-use Rattle.history.specs.Arguments.{VisibilityWith, FailedWith, ProtectionWith, DefaultWith, RegisterWith, UnregisterWith, LockWith, UnlockWith, IsOverlayWith, QueryWith, FaultWith, LowerWith, AccessWith, BuildWith}
+use Rattle.history.specs.Arguments.{VisibilityWith, FailedWith, ProtectionWith, DefaultWith, RegisterWith, UnregisterWith, LockWith, UnlockWith, IsOverlayWith, QueryWith, FaultWith, LowerWith, AccessWith, BuildWith, Callable}
 use Rattle.history.specs.Answered.{Claim}
 use Rattle.history.proofs.Claim.{calls-hold}
 use Rattle.history.proofs.Exists.{visibility-may, done-may, failed-may}
@@ -105,6 +105,29 @@ module _ (w : World) where
   pub any-build : (ram : List ℕ) (isolation tracked release : ℕ) → (c : BuildCall w (buildOf w ram isolation tracked release .world)) × BuildWith c ram isolation tracked release
   unfolding build-may
   any-build ram isolation tracked release = (build-may ([], ([], ([], ([], ([], ([], ([], ([], ([], ([], tt)))))))))) (lend ram, (isolation, (tracked, (release, (lend (w .maps .private), (lend (w .maps .shared), (lend (w .maps .permissions .read), (lend (w .maps .permissions .write), (lend (w .maps .permissions .kernel), (lend (w .maps .permissions .user), (lend (w .state), (lend (w .pages), (lend (w .tables), tt))))))))))))), (refl, refl, refl, refl))
+
+pub any-call : (w : World) → Callable w
+any-call w =
+    record {
+      visibility = any-visibility w;
+      done = any-done w;
+      failed = any-failed w;
+      protection = any-protection w;
+      default = any-default w;
+      register = any-register w;
+      unregister = any-unregister w;
+      lock = any-lock w;
+      unlock = any-unlock w;
+      enable = any-enable w;
+      tellEnabled = any-tell-enabled w;
+      tellDefault = any-tell-default w;
+      isOverlay = any-is-overlay w;
+      query = any-query w;
+      fault = any-fault w;
+      lower = any-lower w;
+      access = any-access w;
+      build = any-build w;
+    }
 
 -- ---- eight pages of RAM, on SNP with permissions tracked
 

@@ -1,10 +1,16 @@
--- The arguments of each call beside what it is lent, by name; the other calls have none.
+-- The arguments of each call beside what it is lent, by name, the other calls having none; and that every entry has a call with any of them, whatever it is
+-- lent.
 use mathlib.Core.Path.{_≡_}
 use mathlib.Core.List.{List}
 use Prim.Native.Nat.{ℕ}
 use denote.Ref.{now}
-use Rattle.protector.specs.World.{World}
-use Rattle.history.specs.History.{VisibilityCall, FailedCall, ProtectionCall, DefaultCall, RegisterCall, UnregisterCall, LockCall, UnlockCall, IsOverlayCall, QueryCall, FaultCall, LowerCall, AccessCall, BuildCall}
+use Rattle.protector.specs.World.{World, world}
+use Rattle.protector.specs.Calls.{visibilityOf, answerDone, answerFailed, buildOf}
+use Rattle.vtl_protections.specs.Calls.{protectionOf, defaultOf}
+use Rattle.overlay_pages.specs.Calls.{registerOf, unregisterOf}
+use Rattle.locked_pages.specs.Calls.{lockOf, unlockOf}
+use Rattle.vtl1_protections.specs.Calls.{enableOf}
+use Rattle.history.specs.History.{VisibilityCall, DoneCall, FailedCall, ProtectionCall, DefaultCall, RegisterCall, UnregisterCall, LockCall, UnlockCall, EnableCall, TellEnabledCall, TellDefaultCall, IsOverlayCall, QueryCall, FaultCall, LowerCall, AccessCall, BuildCall}
 
 abbrev pub VisibilityWith : {w v : World} → VisibilityCall w v → ℕ → ℕ → List ℕ → Type 0
 VisibilityWith c vtl visibility l = (c .args .1 .1 .1 .1 .1 .1 .1 .1 .1 .0 ≡ vtl) × (c .args .1 .1 .1 .1 .1 .1 .1 .1 .1 .1 .0 ≡ visibility) × (now (c .args .1 .1 .1 .1 .1 .1 .1 .1 .1 .1 .1 .0) ≡ l)
@@ -47,3 +53,25 @@ AccessWith c p = (c .args .1 .1 .1 .1 .1 .1 .1 .0 ≡ p)
 
 abbrev pub BuildWith : {w v : World} → BuildCall w v → List ℕ → ℕ → ℕ → ℕ → Type 0
 BuildWith c ram isolation tracked release = (now (c .args .0) ≡ ram) × (c .args .1 .0 ≡ isolation) × (c .args .1 .1 .0 ≡ tracked) × (c .args .1 .1 .1 .0 ≡ release)
+
+-- ---- every call, of a world of any lengths
+
+pub record Callable (w : World) : Type 0 where
+  pub visibility : (vtl share : ℕ) (l : List ℕ) → (c : VisibilityCall w (visibilityOf w vtl share l .world)) × VisibilityWith c vtl share l
+  pub done : DoneCall w (answerDone w .world)
+  pub failed : (code n : ℕ) → (c : FailedCall w (answerFailed w code n .world)) × FailedWith c code n
+  pub protection : (vtl flags : ℕ) (l : List ℕ) → (c : ProtectionCall w (protectionOf w vtl flags l .world)) × ProtectionWith c vtl flags l
+  pub default : (vtl flags : ℕ) → (c : DefaultCall w (defaultOf w vtl flags .world)) × DefaultWith c vtl flags
+  pub register : (vtl p source checked new : ℕ) → (c : RegisterCall w (registerOf w vtl p source checked new .world)) × RegisterWith c vtl p source checked new
+  pub unregister : (vtl p : ℕ) → (c : UnregisterCall w (unregisterOf w vtl p .world)) × UnregisterWith c vtl p
+  pub lock : (vtl : ℕ) (l : List ℕ) → (c : LockCall w (world (w .maps) (w .state) (w .pages) (lockOf (w .state) (w .tables) vtl l .tables))) × LockWith c vtl l
+  pub unlock : (vtl : ℕ) (l : List ℕ) → (c : UnlockCall w (world (w .maps) (w .state) (w .pages) (unlockOf (w .state) (w .tables) vtl l .tables))) × UnlockWith c vtl l
+  pub enable : EnableCall w (world (w .maps) (enableOf (w .state) .state) (w .pages) (w .tables))
+  pub tellEnabled : TellEnabledCall w
+  pub tellDefault : TellDefaultCall w
+  pub isOverlay : (vtl p : ℕ) → (c : IsOverlayCall w) × IsOverlayWith c vtl p
+  pub query : (l out : List ℕ) → (c : QueryCall w) × QueryWith c l out
+  pub fault : (mapping view address writes failure : ℕ) → (c : FaultCall w) × FaultWith c mapping view address writes failure
+  pub lower : (vtl p : ℕ) → (c : LowerCall w) × LowerWith c vtl p
+  pub access : (p : ℕ) → (c : AccessCall w) × AccessWith c p
+  pub build : (ram : List ℕ) (isolation tracked release : ℕ) → (c : BuildCall w (buildOf w ram isolation tracked release .world)) × BuildWith c ram isolation tracked release
