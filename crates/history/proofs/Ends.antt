@@ -47,7 +47,7 @@ use Rattle.history.proofs.Histories.{visibility-is, done-is, failed-is,
 use Rattle.history.proofs.Claim.{lent-holds}
 use Rattle.history.proofs.Answered.{lock-is, unlock-is, enable-is}
 use Rattle.history.proofs.Restart.{settled-stands}
-use Rattle.history.proofs.ExistsAny.{any-done, any-failed, build8, build8-taken, shared8, share8, share8-asks}
+use Rattle.history.proofs.ExistsAny.{any-call, build8, build8-taken, shared8, share8, share8-asks}
 
 -- ---- while a request is under way every call that may write, but an answer, is refused, and changes nothing
 
@@ -225,10 +225,10 @@ further : {v w : World} {o p : Seen} (h : History v o w p) → Meanwhile (course
 unfolding afterAll courseOf events Meanwhile
 further {p = p} h m [] = record { seen = p; calls = h; alone = sym (append-nil (events (courseOf h))); meanwhile = m }
 further {w = w} h m (Succeeds ∷ gs) =
-    let x = further (at.done h (any-done w)) m gs in
+    let x = further (at.done h (any-call w .done)) m gs in
     record { seen = x .seen; calls = x .calls; alone = x .alone ∙ append-assoc (events (courseOf h)) (Answer Succeeds ∷ []) (map Answer gs); meanwhile = x .meanwhile }
 further {w = w} h m (Fails code n ∷ gs) =
-    let c = any-failed w code n in
+    let c = any-call w .failed code n in
     let x = further (at.failed h (c .0)) m gs in
     record {
       seen = x .seen;

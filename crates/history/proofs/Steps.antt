@@ -1,6 +1,6 @@
 -- Every step that a taken answer leads a visibility change to fits, and moves as the answer says. Assumes nothing.
 use Prim.Native.Nat.{ℕ, _+_, _≤_, _<_, min}
-use mathlib.Core.Path.{_≡_, refl, sym, ap, _∙_}
+use mathlib.Core.Path.{_≡_, refl, ap, _∙_}
 use mathlib.Core.List.{List}
 use mathlib.Core.Bool.{Bool, true, false, not, cond, _&&_}
 use mathlib.Core.Logic.{_⊎_, inl, inr}
@@ -28,7 +28,7 @@ use Rattle.protector.specs.World.{statusOf, takes}
 use Rattle.visibility_claims.specs.Whole.{Given, Succeeds, Fails}
 use Rattle.history.specs.Seen.{processed}
 use Rattle.history.proofs.Bits.{clash, of-part, in-part, less-among}
-use Rattle.history.proofs.Right.{opened, isHalted, dir, Tells, Wrote, Fits, Moves}
+use Rattle.history.proofs.Right.{opened, dir, Tells, Wrote, Fits, Moves}
 
 -- ---- what a step tells
 
