@@ -312,6 +312,7 @@ fn end(q: Request, writes: Writes) -> Step
     finish(Answer::Done(q.count), writes)
 }
 
+// The marks remain as they are.
 fn halt(q: Request) -> Step
     ensures { λ r. ⌜ r ≡ halt q ⌝ }
 {
@@ -319,7 +320,13 @@ fn halt(q: Request) -> Step
         phase: Phase::Halted,
         request: q,
         answer: Answer::Halted(q.count),
-        writes: no_writes(),
+        writes: Writes {
+            state: true,
+            private: Places { from: 0, to: 0 },
+            shared: Places { from: 0, to: 0 },
+            permissions: Places { from: 0, to: 0 },
+            flags: HvMapGpaFlags::none(),
+        },
     }
 }
 
