@@ -1,12 +1,9 @@
 //! The registrar's rows.
 
-use crate::heading;
-use crate::median;
-use crate::show;
+use crate::row::Kind;
+use crate::row::Row;
 use memory_range::MemoryRange;
 use std::hint::black_box;
-use std::time::Duration;
-use std::time::Instant;
 use underhill_mem_port::MemoryRegistrar;
 use underhill_mem_source::Registrar;
 use vm_topology::memory::MemoryLayout;
@@ -45,9 +42,10 @@ impl Subject for Registrar {
     }
 }
 
-type Step = fn(&mut dyn Subject) -> bool;
+/// Does it to a registrar, the call of that number.
+type Step = fn(&mut dyn Subject, u64) -> bool;
 
-struct Row {
+struct Shape {
     name: &'static str,
     /// Entries of so many bytes each,
     entry: u64,
@@ -55,138 +53,158 @@ struct Row {
     count: u64,
     /// with holes of that length between them.
     hole: u64,
-    /// Not timed.
+    /// Not measured.
     before: Step,
-    /// Timed.
+    /// Measured.
     call: Step,
     /// How often the call is made on one registrar; 1 if it changes what it does.
     times: u32,
     rounds: u32,
 }
 
-const ROWS: [Row; 10] = [
-    Row {
+const SHAPES: [Shape; 10] = [
+    Shape {
         name: "register, a registered page",
         entry: TERABYTE,
         count: 1,
         hole: 0,
-        before: |s| s.register(TERABYTE / 2, 1),
-        call: |s| s.register(TERABYTE / 2, 1),
+        before: |s, _| s.register(TERABYTE / 2, 1),
+        call: |s, _| s.register(TERABYTE / 2, 1),
         times: 1000,
         rounds: 200,
     },
-    Row {
+    Shape {
         name: "register, a registered page, 32 entries",
         entry: 1 << 32,
         count: 32,
         hole: 1 << 32,
-        before: |s| s.register(62 << 32, 1),
-        call: |s| s.register(62 << 32, 1),
+        before: |s, _| s.register(62 << 32, 1),
+        call: |s, _| s.register(62 << 32, 1),
         times: 1000,
         rounds: 200,
     },
-    Row {
+    Shape {
         name: "register, 512 registered chunks",
         entry: TERABYTE,
         count: 1,
         hole: 0,
-        before: |s| s.register(0, 512 * CHUNK),
-        call: |s| s.register(0, 512 * CHUNK),
+        before: |s, _| s.register(0, 512 * CHUNK),
+        call: |s, _| s.register(0, 512 * CHUNK),
         times: 20,
         rounds: 200,
     },
-    Row {
+    Shape {
         name: "register, a fresh page",
         entry: TERABYTE,
         count: 1,
         hole: 0,
-        before: |_| true,
-        call: |s| s.register(TERABYTE / 2, 1),
-        times: 1,
-        rounds: 200,
+        before: |_, _| true,
+        call: |s, i| s.register(TERABYTE / 2 + i * CHUNK, 1),
+        times: 1000,
+        rounds: 51,
     },
-    Row {
+    Shape {
         name: "register, 512 fresh chunks",
         entry: TERABYTE,
         count: 1,
         hole: 0,
-        before: |_| true,
-        call: |s| s.register(0, 512 * CHUNK),
+        before: |_, _| true,
+        call: |s, _| s.register(0, 512 * CHUNK),
         times: 1,
         rounds: 200,
     },
-    Row {
+    Shape {
         name: "register, 512 fresh chunks, 32 entries",
         entry: 8 * CHUNK,
         count: 32,
         hole: 8 * CHUNK,
-        before: |_| true,
-        call: |s| s.register(0, 504 * CHUNK),
+        before: |_, _| true,
+        call: |s, _| s.register(0, 504 * CHUNK),
         times: 1,
         rounds: 200,
     },
-    Row {
+    Shape {
         name: "register, 1 TiB fresh",
         entry: TERABYTE,
         count: 1,
         hole: 0,
-        before: |_| true,
-        call: |s| s.register(0, TERABYTE),
+        before: |_, _| true,
+        call: |s, _| s.register(0, TERABYTE),
         times: 1,
         rounds: 11,
     },
-    Row {
+    Shape {
         name: "register_all_aligned, 1 TiB fresh",
         entry: TERABYTE,
         count: 1,
         hole: 0,
-        before: |_| true,
-        call: |s| s.register_all_aligned(CHUNK),
+        before: |_, _| true,
+        call: |s, _| s.register_all_aligned(CHUNK),
         times: 1,
         rounds: 51,
     },
-    Row {
+    Shape {
         name: "register_all_aligned, 1 TiB registered",
         entry: TERABYTE,
         count: 1,
         hole: 0,
-        before: |s| s.register_all_aligned(CHUNK),
-        call: |s| s.register_all_aligned(CHUNK),
+        before: |s, _| s.register_all_aligned(CHUNK),
+        call: |s, _| s.register_all_aligned(CHUNK),
         times: 1,
         rounds: 51,
     },
-    Row {
+    Shape {
         name: "register_all_aligned, 1 TiB, every 64th chunk registered",
         entry: TERABYTE,
         count: 1,
         hole: 0,
-        before: |s| (0..TERABYTE / CHUNK / 64).all(|i| s.register(i * 64 * CHUNK, 1)),
-        call: |s| s.register_all_aligned(CHUNK),
+        before: |s, _| (0..TERABYTE / CHUNK / 64).all(|i| s.register(i * 64 * CHUNK, 1)),
+        call: |s, _| s.register_all_aligned(CHUNK),
         times: 1,
         rounds: 11,
     },
 ];
 
-pub fn run() {
-    heading("granularity 2 MiB; median of a call");
-    for row in &ROWS {
-        let (mut ports, mut originals) = (Vec::new(), Vec::new());
-        for _ in 0..row.rounds {
-            ports.push(time(row, &mut port(row)));
-            originals.push(time(row, &mut original(row)));
-        }
-        let each = f64::from(row.times);
-        show(row.name, median(ports) / each, median(originals) / each);
+pub fn rows() -> Vec<Row> {
+    SHAPES.iter().map(row).collect()
+}
+
+/// Each round has a registrar of its own.
+fn row(shape: &'static Shape) -> Row {
+    Row {
+        parts: vec![None, Some(shape.name.to_string())],
+        calls: shape.times,
+        rounds: shape.rounds,
+        make: Box::new(move |kind| {
+            let mut subject = subject(kind, shape);
+            Box::new(move |part| match part {
+                0 => {
+                    subject = self::subject(kind, shape);
+                    (shape.before)(&mut *subject, 0)
+                }
+                _ => {
+                    let mut calls = 0..shape.times.into();
+                    calls.all(|call| black_box((shape.call)(&mut *subject, black_box(call))))
+                }
+            })
+        }),
     }
 }
 
-fn entries(row: &Row) -> impl Iterator<Item = (u64, u64)> {
-    let (entry, step) = (row.entry, row.entry + row.hole);
-    (0..row.count).map(move |i| (i * step, i * step + entry))
+fn subject(kind: Kind, shape: &Shape) -> Box<dyn Subject> {
+    match kind {
+        Kind::Port => Box::new(port(shape)),
+        Kind::Original => Box::new(original(shape)),
+    }
 }
 
-fn port(row: &Row) -> MemoryRegistrar {
-    let ram = entries(row).map(|(start, end)| underhill_mem_port::MemoryRangeWithNode {
+fn entries(shape: &Shape) -> impl Iterator<Item = (u64, u64)> {
+    let (entry, step) = (shape.entry, shape.entry + shape.hole);
+    (0..shape.count).map(move |i| (i * step, i * step + entry))
+}
+
+fn port(shape: &Shape) -> MemoryRegistrar {
+    let ram = entries(shape).map(|(start, end)| underhill_mem_port::MemoryRangeWithNode {
         range: underhill_mem_port::MemoryRange { start, end },
         vnode: 0,
     });
@@ -194,21 +212,11 @@ fn port(row: &Row) -> MemoryRegistrar {
     MemoryRegistrar::new(&ram, 0, CHUNK).expect("the layout is fit")
 }
 
-fn original(row: &Row) -> Registrar {
-    let ram = entries(row).map(|(start, end)| MemoryRangeWithNode {
+fn original(shape: &Shape) -> Registrar {
+    let ram = entries(shape).map(|(start, end)| MemoryRangeWithNode {
         range: MemoryRange::new(start..end),
         vnode: 0,
     });
     let layout = MemoryLayout::new(ram.collect()).expect("the layout is fit");
     Registrar::new(&layout, 0, CHUNK)
-}
-
-/// One round.
-fn time(row: &Row, subject: &mut dyn Subject) -> Duration {
-    assert!((row.before)(subject), "{}", row.name);
-    let began = Instant::now();
-    for _ in 0..row.times {
-        assert!(black_box((row.call)(subject)), "{}", row.name);
-    }
-    began.elapsed()
 }

@@ -1,20 +1,29 @@
 //! What is measured: a protector of either kind, with backends that do nothing.
 
+use crate::row::Kind;
+use guestmem::GuestMemoryAccess;
+use guestmem::PageFaultAction;
 use hcl::GuestVtl;
 use hvdef::HvMapGpaFlags;
+use hvdef::hypercall::HostVisibilityType;
 use memory_range::MemoryRange;
+use std::hint::black_box;
 use underhill_mem_port::Backend;
+use underhill_mem_port::Fault;
 use underhill_mem_port::Flags;
 use underhill_mem_port::GpnSource;
 use underhill_mem_port::HardwareIsolatedMemoryProtector;
 use underhill_mem_port::IsolationType;
+use underhill_mem_port::Mapping;
 use underhill_mem_port::ModifyError;
 use underhill_mem_port::Overlay;
 use underhill_mem_port::PageRun;
 use underhill_mem_port::Protect;
+use underhill_mem_port::View;
 use underhill_mem_port::Visibility;
 use underhill_mem_source::Init;
 use underhill_mem_source::MemoryMappings;
+use underhill_mem_source::Side;
 use virt_mshv_vtl::ProtectIsolatedMemory;
 use virt_mshv_vtl::TlbFlushLockAccess;
 use vm_topology::memory::MemoryLayout;
@@ -77,6 +86,10 @@ pub trait Subject {
     fn unregister(&mut self, gpn: u64) -> bool;
     fn lock(&mut self, pages: &[u64]) -> bool;
     fn unlock(&mut self, pages: &[u64]) -> bool;
+    /// A fault of a read by one of the mappings where its bitmap failed: whether it is tried again.
+    fn fault(&mut self, shared: bool, address: u64) -> bool;
+    /// Of at most 512 pages.
+    fn query(&mut self, pages: &[u64]) -> bool;
 }
 
 const VTL0: underhill_mem_port::GuestVtl = underhill_mem_port::GuestVtl::Vtl0;
@@ -126,28 +139,50 @@ impl Subject for HardwareIsolatedMemoryProtector {
     fn unlock(&mut self, pages: &[u64]) -> bool {
         self.unlock_gpns(VTL0, pages).is_ok()
     }
+
+    fn fault(&mut self, shared: bool, address: u64) -> bool {
+        let mapping = match shared {
+            true => Mapping::Shared,
+            false => Mapping::Encrypted,
+        };
+        self.page_fault(mapping, View::Read, address, false, true) == Ok(Fault::Retry)
+    }
+
+    fn query(&mut self, pages: &[u64]) -> bool {
+        let mut out = [Visibility::Private; 512];
+        let given = self.query_host_visibility(pages, &mut out);
+        black_box(&out);
+        given.is_ok()
+    }
 }
 
 fn flags(bits: u8) -> HvMapGpaFlags {
     HvMapGpaFlags::from_bits(bits.into())
 }
 
-impl Subject for MemoryMappings {
+/// The original's protector, and views of its mappings that faults are put to.
+struct Original {
+    mappings: MemoryMappings,
+    encrypted: Box<dyn GuestMemoryAccess>,
+    shared: Box<dyn GuestMemoryAccess>,
+}
+
+impl Subject for Original {
     fn change(&mut self, shared: bool, pages: &[u64]) -> bool {
-        let protector = &self.protector;
+        let protector = &self.mappings.protector;
         let changed = protector.change_host_visibility(GuestVtl::Vtl0, shared, pages, &mut Idle);
         changed.is_ok()
     }
 
     fn protect(&mut self, bits: u8, pages: &[u64]) -> bool {
-        let protector = &self.protector;
+        let protector = &self.mappings.protector;
         let changed =
             protector.change_vtl_protections(GuestVtl::Vtl0, pages, flags(bits), &mut Idle);
         changed.is_ok()
     }
 
     fn set_default(&mut self, bits: u8) -> bool {
-        let protector = &self.protector;
+        let protector = &self.mappings.protector;
         let changed =
             protector.change_default_vtl_protections(GuestVtl::Vtl0, flags(bits), &mut Idle);
         changed.is_ok()
@@ -156,30 +191,57 @@ impl Subject for MemoryMappings {
     fn register(&mut self, gpn: u64) -> bool {
         let source = virt_mshv_vtl::GpnSource::GuestMemory;
         let (vtl, new) = (GuestVtl::Vtl0, Some(flags(3)));
-        let protector = &self.protector;
+        let protector = &self.mappings.protector;
         let registered =
             protector.register_overlay_page(vtl, gpn, source, flags(0), new, &mut Idle);
         registered.is_ok()
     }
 
     fn unregister(&mut self, gpn: u64) -> bool {
-        let protector = &self.protector;
+        let protector = &self.mappings.protector;
         let gone = protector.unregister_overlay_page(GuestVtl::Vtl0, gpn, &mut Idle);
         gone.is_ok()
     }
 
     fn lock(&mut self, pages: &[u64]) -> bool {
-        self.protector.lock_gpns(GuestVtl::Vtl0, pages).is_ok()
+        self.mappings
+            .protector
+            .lock_gpns(GuestVtl::Vtl0, pages)
+            .is_ok()
     }
 
     fn unlock(&mut self, pages: &[u64]) -> bool {
-        self.protector.unlock_gpns(GuestVtl::Vtl0, pages);
+        self.mappings.protector.unlock_gpns(GuestVtl::Vtl0, pages);
         true
+    }
+
+    fn fault(&mut self, shared: bool, address: u64) -> bool {
+        let view = match shared {
+            true => &self.shared,
+            false => &self.encrypted,
+        };
+        let action = view.page_fault(address, 1, false, true);
+        matches!(action, PageFaultAction::Retry)
+    }
+
+    fn query(&mut self, pages: &[u64]) -> bool {
+        let mut out = [HostVisibilityType::PRIVATE; 512];
+        let protector = &self.mappings.protector;
+        let given = protector.query_host_visibility(pages, &mut out);
+        black_box(&out);
+        given.is_ok()
     }
 }
 
-/// One entry of RAM, permissions tracked.
-pub fn port(isolation: IsolationType, end: u64) -> HardwareIsolatedMemoryProtector {
+/// A protector of one entry of RAM, permissions tracked.
+pub fn subject(kind: Kind, isolation: IsolationType, end: u64) -> Box<dyn Subject> {
+    match kind {
+        Kind::Port => Box::new(port(isolation, end)),
+        Kind::Original => Box::new(original(isolation, end)),
+    }
+}
+
+fn port(isolation: IsolationType, end: u64) -> HardwareIsolatedMemoryProtector {
     let ram = [underhill_mem_port::MemoryRangeWithNode {
         range: underhill_mem_port::MemoryRange { start: 0, end },
         vnode: 0,
@@ -187,7 +249,7 @@ pub fn port(isolation: IsolationType, end: u64) -> HardwareIsolatedMemoryProtect
     HardwareIsolatedMemoryProtector::new(&ram, isolation, true, false).expect("the layout is fit")
 }
 
-pub fn original(isolation: IsolationType, end: u64) -> MemoryMappings {
+fn original(isolation: IsolationType, end: u64) -> Original {
     let ram = vec![MemoryRangeWithNode {
         range: MemoryRange::new(0..end),
         vnode: 0,
@@ -202,5 +264,11 @@ pub fn original(isolation: IsolationType, end: u64) -> MemoryMappings {
         layout: MemoryLayout::new(ram).expect("the layout is fit"),
         vp_count: 2,
     };
-    underhill_mem_source::init(&params).expect("the layout is fit")
+    let mappings = underhill_mem_source::init(&params).expect("the layout is fit");
+    let view = |side| Box::new(mappings.view(side, underhill_mem_source::View::Read));
+    Original {
+        encrypted: view(Side::Encrypted),
+        shared: view(Side::Shared),
+        mappings,
+    }
 }

@@ -1,59 +1,55 @@
 //! The rows of visibility changes: pages are shared and returned, list after list.
 
-use crate::heading;
-use crate::median;
-use crate::show;
+use crate::row::Row;
 use crate::subjects::Subject;
-use crate::subjects::original;
-use crate::subjects::port;
+use crate::subjects::subject;
 use std::hint::black_box;
-use std::time::Duration;
-use std::time::Instant;
 use underhill_mem_port::IsolationType;
 
 /// One entry of RAM, 4 GiB, permissions tracked.
 const END: u64 = 1 << 32;
 
-struct Row {
+/// Lists of one shape.
+struct Shape {
     name: &'static str,
     pages: u64,
     /// From one page to the next: 1 for one run, 2 for as many runs as pages.
     step: u64,
     /// How many lists, one after the other, are shared and then returned in a round.
-    lists: u64,
+    lists: u32,
     rounds: u32,
 }
 
-const ROWS: [Row; 5] = [
-    Row {
+const SHAPES: [Shape; 5] = [
+    Shape {
         name: "1 page",
         pages: 1,
         step: 1,
         lists: 1000,
         rounds: 101,
     },
-    Row {
+    Shape {
         name: "16 pages, one run",
         pages: 16,
         step: 1,
         lists: 500,
         rounds: 101,
     },
-    Row {
+    Shape {
         name: "16 pages, 16 runs",
         pages: 16,
         step: 2,
         lists: 200,
         rounds: 51,
     },
-    Row {
+    Shape {
         name: "512 pages, one run",
         pages: 512,
         step: 1,
-        lists: 100,
+        lists: 50,
         rounds: 51,
     },
-    Row {
+    Shape {
         name: "512 pages, 512 runs",
         pages: 512,
         step: 2,
@@ -62,43 +58,84 @@ const ROWS: [Row; 5] = [
     },
 ];
 
-pub fn run() {
-    heading("4 GiB, tracked; median of a call");
-    for (isolation, name) in [
+/// What the caller's VTL has besides, away from the lists.
+#[derive(Clone, Copy)]
+struct Held {
+    overlays: u64,
+    locked: u64,
+}
+
+/// Nothing held, on each isolation.
+pub fn plain() -> Vec<Row> {
+    let isolations = [
         (IsolationType::Snp, "SNP"),
         (IsolationType::Tdx, "TDX"),
         (IsolationType::Cca, "CCA"),
-    ] {
-        let mut port = port(isolation, END);
-        let mut original = original(isolation, END);
-        for row in &ROWS {
-            let lists = lists(row);
-            let mut times: [Vec<Duration>; 4] = Default::default();
-            for _ in 0..row.rounds {
-                times[0].push(time(&mut port, true, &lists));
-                times[1].push(time(&mut original, true, &lists));
-                times[2].push(time(&mut port, false, &lists));
-                times[3].push(time(&mut original, false, &lists));
-            }
-            let [a, b, c, d] = times.map(|times| median(times) / row.lists as f64);
-            show(&format!("{name}, share {}", row.name), a, b);
-            show(&format!("{name}, return {}", row.name), c, d);
-        }
+    ];
+    let none = Held {
+        overlays: 0,
+        locked: 0,
+    };
+    let rows = isolations.iter().flat_map(|&(isolation, name)| {
+        let rows = SHAPES.iter();
+        rows.map(move |shape| row(shape, isolation, none, |what| format!("{name}, {what}")))
+    });
+    rows.collect()
+}
+
+/// Overlays and locked pages, on SNP.
+pub fn held() -> Vec<Row> {
+    let held = [(10, 0), (127, 0), (0, 1000), (10, 1000), (127, 1000)];
+    let rows = held.iter().flat_map(|&(overlays, locked)| {
+        let rows = SHAPES.iter();
+        let held = Held { overlays, locked };
+        let name = move |what: String| format!("{what}; {overlays} overlays, {locked} locked");
+        rows.map(move |shape| row(shape, IsolationType::Snp, held, name))
+    });
+    rows.collect()
+}
+
+fn row(
+    shape: &'static Shape,
+    isolation: IsolationType,
+    held: Held,
+    name: impl Fn(String) -> String,
+) -> Row {
+    let parts = ["share", "return"];
+    Row {
+        parts: parts
+            .map(|to| Some(name(format!("{to} {}", shape.name))))
+            .into(),
+        calls: shape.lists,
+        rounds: shape.rounds,
+        make: Box::new(move |kind| {
+            let mut subject = subject(kind, isolation, END);
+            hold(&mut *subject, held);
+            let lists = lists(shape);
+            Box::new(move |part| {
+                let mut lists = lists.iter();
+                lists.all(|pages| black_box(subject.change(part == 0, black_box(pages))))
+            })
+        }),
     }
 }
 
 /// Lists of pages that lie apart.
-fn lists(row: &Row) -> Vec<Vec<u64>> {
-    let span = row.pages * row.step + 3;
-    let list = |i: u64| (0..row.pages).map(move |p| i * span + p * row.step);
-    (0..row.lists).map(|i| list(i).collect()).collect()
+fn lists(shape: &Shape) -> Vec<Vec<u64>> {
+    let span = shape.pages * shape.step + 3;
+    let list = |i: u64| (0..shape.pages).map(move |p| i * span + p * shape.step);
+    (0..shape.lists.into()).map(|i| list(i).collect()).collect()
 }
 
-/// One round.
-fn time(subject: &mut dyn Subject, shared: bool, lists: &[Vec<u64>]) -> Duration {
-    let began = Instant::now();
-    for pages in lists {
-        assert!(black_box(subject.change(shared, black_box(pages))));
+/// Overlays of the last pages, and two locked lists of pages before them.
+fn hold(subject: &mut dyn Subject, held: Held) {
+    let end = END / 4096;
+    for gpn in end - held.overlays..end {
+        assert!(subject.register(gpn));
     }
-    began.elapsed()
+    let first = end - 2000;
+    let pages: Vec<u64> = (first..first + held.locked).collect();
+    for list in pages.chunks(500) {
+        assert!(subject.lock(list));
+    }
 }
