@@ -53,6 +53,7 @@ impl Flags {
     pub const ALL: Self = Self(15);
 
     /// The flags of those bits; none if there are others.
+    #[inline]
     pub fn from_bits(bits: u64) -> Option<Self> {
         u8::try_from(bits).ok().filter(|&b| b < 16).map(Self)
     }
@@ -351,8 +352,6 @@ pub struct HardwareIsolatedMemoryProtector {
     tables: Box<[u64; TABLES_WORDS]>,
     /// The operation asked for and not answered yet.
     asked: Option<Reply>,
-    /// A list's bytes, kept so that no call need allocate.
-    list: Vec<u8>,
 }
 
 impl HardwareIsolatedMemoryProtector {
@@ -378,7 +377,6 @@ impl HardwareIsolatedMemoryProtector {
             pages: Box::new([0; PAGES_WORDS]),
             tables: Box::new([0; TABLES_WORDS]),
             asked: None,
-            list: Vec::with_capacity(4096),
         };
         let isolation = u64::from(isolation as u8);
         let (tracks, release) = (u64::from(tracked), u64::from(release));
@@ -399,6 +397,7 @@ impl HardwareIsolatedMemoryProtector {
         }
     }
 
+    #[inline]
     fn lent(&mut self) -> Lent<'_> {
         let [private, shared, read, write, kernel, user] = &mut self.maps;
         Lent {
@@ -433,14 +432,19 @@ impl HardwareIsolatedMemoryProtector {
     }
 
     /// Carries out what is asked for until the call has ended.
-    fn drive(&mut self, mut reply: Reply, backend: &mut impl Backend) -> Result<u64, ChangeError> {
-        while reply.operation != 0 {
-            reply = match carry_out(&reply, &self.pages[..], backend) {
-                Ok(()) => self.done(),
-                Err(ModifyError { code, processed }) => self.failed(code, processed),
+    fn drive(&mut self, reply: Reply, backend: &mut impl Backend) -> Result<u64, ChangeError> {
+        let mut driven = Driven {
+            protector: self,
+            reply,
+        };
+        while driven.reply.operation != 0 {
+            let pages = &driven.protector.pages[..];
+            driven.reply = match carry_out(&driven.reply, pages, backend) {
+                Ok(()) => driven.protector.done(),
+                Err(ModifyError { code, processed }) => driven.protector.failed(code, processed),
             };
         }
-        finished(&reply)
+        finished(&driven.reply)
     }
 
     /// Begins [`change_host_visibility`](Self::change_host_visibility).
@@ -477,46 +481,31 @@ impl HardwareIsolatedMemoryProtector {
     }
 
     fn change(&mut self, vtl: GuestVtl, to: Visibility, gpns: &[u64]) -> Reply {
-        let list = self.listed(gpns);
         let (vtl, to) = (number(vtl), u64::from(to as u8));
-        let reply = raw::change_host_visibility(self.lent(), vtl, to, &list);
-        self.list = list;
-        self.note(reply)
+        raw::change_host_visibility(self.lent(), vtl, to, raw::list(gpns))
     }
 
-    /// A list as it crosses, in the buffer that is kept for it.
-    fn listed(&mut self, gpns: &[u64]) -> Vec<u8> {
-        let mut list = std::mem::take(&mut self.list);
-        list.clear();
-        // What is longer is refused by 5 whatever it holds, so no more is copied.
-        let gpns = &gpns[..gpns.len().min(513)];
-        for gpn in gpns {
-            list.extend_from_slice(&gpn.to_le_bytes());
-        }
-        list
-    }
-
+    #[inline]
     fn done(&mut self) -> Reply {
-        let reply = raw::answer_done(self.lent());
-        self.note(reply)
+        raw::answer_done(self.lent())
     }
 
     fn failed(&mut self, code: u16, processed: u64) -> Reply {
-        let reply = raw::answer_failed(self.lent(), code, processed);
-        self.note(reply)
+        raw::answer_failed(self.lent(), code, processed)
     }
 
     /// Keeps what is asked for; a refusal leaves it as it is.
-    fn note(&mut self, reply: Reply) -> Reply {
+    fn note(&mut self, reply: &Reply) {
         if reply.operation != 0 {
-            self.asked = Some(reply);
-        } else if matches!(reply.number, 0 | 15 | 16) || is_halt(&reply) {
+            self.asked = Some(*reply);
+        } else if matches!(reply.number, 0 | 15 | 16) || is_halt(reply) {
             self.asked = None;
         }
-        reply
     }
 
-    fn progress(&self, reply: Reply) -> Result<Progress<'_>, ChangeError> {
+    /// Where a stepped call stands by its last reply.
+    fn progress(&mut self, reply: Reply) -> Result<Progress<'_>, ChangeError> {
+        self.note(&reply);
         match reply.operation {
             0 => finished(&reply).map(|count| Progress::Done { count }),
             _ => Ok(Progress::Asked(operation_of(&reply, &self.pages[..]))),
@@ -538,6 +527,19 @@ impl HardwareIsolatedMemoryProtector {
     pub fn permissions(&self) -> Option<[&[u8]; 4]> {
         let [_, _, read, write, kernel, user] = &self.maps;
         (self.state[place::TRACKED] == 1).then_some([read, write, kernel, user])
+    }
+}
+
+/// A call that is carried out, and its last reply. What is asked for is noted at its end alone: of
+/// a call that ends nothing is, where its backend panics the last operation is.
+struct Driven<'a> {
+    protector: &'a mut HardwareIsolatedMemoryProtector,
+    reply: Reply,
+}
+
+impl Drop for Driven<'_> {
+    fn drop(&mut self) {
+        self.protector.note(&self.reply);
     }
 }
 
@@ -615,11 +617,11 @@ mod queries {
             gpns: &[u64],
             out: &mut [Visibility],
         ) -> Result<(), QueryError> {
-            let gpns = &gpns[..gpns.len().min(513)];
-            let list: Vec<u8> = gpns.iter().flat_map(|gpn| gpn.to_le_bytes()).collect();
-            let mut bytes = vec![0; out.len().min(gpns.len())];
-            let reply =
-                raw::query_host_visibility(&self.state[..], self.shared(), &list, &mut bytes);
+            // A longer list is refused.
+            let mut bytes = [0; 512];
+            let bytes = &mut bytes[..out.len().min(gpns.len()).min(512)];
+            let list = raw::list(gpns);
+            let reply = raw::query_host_visibility(&self.state[..], self.shared(), list, bytes);
             if reply.number != 0 {
                 return Err(QueryError {
                     refusal: refused(reply.number),
@@ -627,7 +629,7 @@ mod queries {
                 });
             }
             for (out, byte) in out.iter_mut().zip(bytes) {
-                *out = match byte {
+                *out = match *byte {
                     0 => Visibility::Private,
                     _ => Visibility::Shared,
                 };
@@ -727,6 +729,7 @@ fn carry_out(reply: &Reply, pages: &[u64], backend: &mut impl Backend) -> Result
 }
 
 /// The operation that a reply asks for.
+#[inline]
 fn operation_of<'a>(reply: &Reply, pages: &'a [u64]) -> Operation<'a> {
     let run = PageRun {
         first: reply.first,
@@ -763,6 +766,7 @@ fn operation_of<'a>(reply: &Reply, pages: &'a [u64]) -> Operation<'a> {
     }
 }
 
+#[inline]
 fn flags(bits: u64) -> Flags {
     Flags::from_bits(bits).expect("the protector's contract has no other flags")
 }

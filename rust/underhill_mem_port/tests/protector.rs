@@ -1,5 +1,7 @@
 //! The protector over a backend that notes and fails as told.
 
+use std::panic::AssertUnwindSafe;
+use std::panic::catch_unwind;
 use underhill_mem_port::Backend;
 use underhill_mem_port::BuildError;
 use underhill_mem_port::ChangeError;
@@ -19,7 +21,7 @@ use underhill_mem_port::Protect;
 use underhill_mem_port::Refusal;
 use underhill_mem_port::Visibility;
 
-/// Notes the kinds of what it is asked for; what `fail` names fails.
+/// Notes the kinds of what it is asked for; what `fail` names fails, at what `panics` names it panics.
 #[derive(Default)]
 struct Notes {
     kinds: Vec<&'static str>,
@@ -28,11 +30,13 @@ struct Notes {
     flushed: Vec<GuestVtl>,
     fail: &'static str,
     processed: u64,
+    panics: &'static str,
 }
 
 impl Notes {
     fn note(&mut self, kind: &'static str) -> Result<(), ()> {
         self.kinds.push(kind);
+        assert_ne!(kind, self.panics, "as it was told to");
         if kind == self.fail { Err(()) } else { Ok(()) }
     }
 }
@@ -138,6 +142,26 @@ fn p3_a_return_that_fails_in_part() {
     assert_eq!(protector.private()[..2], [0xF7, 0xFB]);
     assert_eq!(protector.shared()[..2], [0x08, 0x04]);
     assert_eq!(protector.asked(), None);
+}
+
+#[test]
+fn a_backend_that_panics_leaves_its_operation_asked() {
+    let mut protector = built(IsolationType::Snp, true);
+    let mut backend = Notes {
+        panics: "FlushAll",
+        ..Notes::default()
+    };
+    let call = AssertUnwindSafe(|| {
+        let _ = protector.change_host_visibility(Vtl0, Shared, &[3], &mut backend);
+    });
+    assert!(catch_unwind(call).is_err());
+    assert_eq!(protector.asked(), Some(Operation::FlushAll));
+    let mut backend = Notes::default();
+    let other = protector.change_host_visibility(Vtl0, Shared, &[4], &mut backend);
+    assert_eq!(other, Err(Refusal::Busy.into()));
+    assert_eq!(protector.asked(), Some(Operation::FlushAll));
+    let next = protector.answer_done();
+    assert!(matches!(next, Ok(Progress::Asked(Operation::Protect(_)))));
 }
 
 #[test]

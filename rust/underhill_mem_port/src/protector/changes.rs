@@ -124,17 +124,13 @@ impl HardwareIsolatedMemoryProtector {
     }
 
     fn change_protections(&mut self, vtl: GuestVtl, gpns: &[u64], flags: Flags) -> Reply {
-        let list = self.listed(gpns);
         let (vtl, flags) = (number(vtl), u64::from(flags.bits()));
-        let reply = raw::change_vtl_protections(self.lent(), vtl, flags, &list);
-        self.list = list;
-        self.note(reply)
+        raw::change_vtl_protections(self.lent(), vtl, flags, raw::list(gpns))
     }
 
     fn change_default(&mut self, vtl: GuestVtl, flags: Flags) -> Reply {
         let (vtl, flags) = (number(vtl), u64::from(flags.bits()));
-        let reply = raw::change_default_vtl_protections(self.lent(), vtl, flags);
-        self.note(reply)
+        raw::change_default_vtl_protections(self.lent(), vtl, flags)
     }
 
     fn register_overlay(&mut self, vtl: GuestVtl, overlay: Overlay) -> Reply {
@@ -142,13 +138,11 @@ impl HardwareIsolatedMemoryProtector {
         let checked = u64::from(overlay.checked.bits());
         let new = overlay.new.map_or(raw::NO_FLAGS, |new| new.bits().into());
         let source = u64::from(source as u8);
-        let reply = raw::register_overlay_page(self.lent(), number(vtl), gpn, source, checked, new);
-        self.note(reply)
+        raw::register_overlay_page(self.lent(), number(vtl), gpn, source, checked, new)
     }
 
     fn unregister_overlay(&mut self, vtl: GuestVtl, gpn: u64) -> Reply {
-        let reply = raw::unregister_overlay_page(self.lent(), number(vtl), gpn);
-        self.note(reply)
+        raw::unregister_overlay_page(self.lent(), number(vtl), gpn)
     }
 }
 
@@ -165,19 +159,20 @@ impl HardwareIsolatedMemoryProtector {
     ///
     /// A page may be locked more than once. At most 64 lists of a VTL, of 1,024 pages in all.
     pub fn lock_gpns(&mut self, vtl: GuestVtl, gpns: &[u64]) -> Result<(), Refusal> {
-        let list = self.listed(gpns);
-        let reply = raw::lock_gpns(&self.state[..], &mut self.tables[..], number(vtl), &list);
-        self.list = list;
-        ended(&reply)
+        let (state, tables) = (&self.state[..], &mut self.tables[..]);
+        ended(&raw::lock_gpns(state, tables, number(vtl), raw::list(gpns)))
     }
 
     /// Unlocks a list that was locked, in the same order. Where there is none the original panics;
     /// here that is [`Refusal::NotLocked`].
     pub fn unlock_gpns(&mut self, vtl: GuestVtl, gpns: &[u64]) -> Result<(), Refusal> {
-        let list = self.listed(gpns);
-        let reply = raw::unlock_gpns(&self.state[..], &mut self.tables[..], number(vtl), &list);
-        self.list = list;
-        ended(&reply)
+        let (state, tables) = (&self.state[..], &mut self.tables[..]);
+        ended(&raw::unlock_gpns(
+            state,
+            tables,
+            number(vtl),
+            raw::list(gpns),
+        ))
     }
 
     /// From now on VTL0 may share only what it may read and write. Nothing takes it back.

@@ -109,6 +109,18 @@ pub fn map_bytes(last_end: u64) -> u64 {
     last_end / 32_768
 }
 
+/// A list as it crosses: eight bytes a page, the lowest first.
+pub fn list(gpns: &[u64]) -> &[u8] {
+    const {
+        assert!(
+            cfg!(target_endian = "little"),
+            "a word's lowest byte is first"
+        )
+    };
+    // SAFETY: the bytes are those of a slice that is borrowed as long, and any bytes are fit.
+    unsafe { std::slice::from_raw_parts(gpns.as_ptr().cast(), size_of_val(gpns)) }
+}
+
 mod entries {
     use super::Reply;
     use super::Value;
@@ -346,6 +358,7 @@ pub fn change_host_visibility(lent: Lent<'_>, vtl: u64, visibility: u64, list: &
 }
 
 /// The operation asked for is done.
+#[inline]
 pub fn answer_done(lent: Lent<'_>) -> Reply {
     call!(protector_answer_done, [], lent, [])
 }
