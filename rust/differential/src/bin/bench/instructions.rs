@@ -18,6 +18,9 @@ use std::process::Command;
 use std::process::ExitCode;
 use std::process::Stdio;
 
+/// What is measured, as callgrind names it.
+const MEASURED: &str = "bench::row::bench_measured";
+
 /// The option of a run under callgrind.
 pub const COUNTED: &str = "--counted";
 
@@ -90,10 +93,8 @@ fn print_in(folder: &Path, texts: &[String]) -> io::Result<bool> {
     let file = folder.join("callgrind.out");
     let mut child = Command::new("valgrind")
         .args(["--quiet", "--tool=callgrind", "--collect-atstart=no"])
-        .args([
-            "--toggle-collect=*bench_measured*",
-            "--dump-after=*bench_measured*",
-        ])
+        .arg(format!("--toggle-collect={MEASURED}"))
+        .arg(format!("--dump-after={MEASURED}"))
         .arg(format!("--callgrind-out-file={}", file.display()))
         .arg(std::env::current_exe()?)
         .arg(COUNTED)

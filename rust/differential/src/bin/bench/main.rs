@@ -112,6 +112,8 @@ fn options() -> Option<Options> {
 fn chosen(family: &Family, texts: &[String]) -> Vec<Row> {
     let mut rows = (family.rows)();
     if !texts.is_empty() && !texts.iter().any(|text| text == family.name) {
+        let is_family = |text: &str| FAMILIES.iter().any(|family| family.name == text);
+        let texts: Vec<_> = texts.iter().filter(|text| !is_family(text)).collect();
         rows.retain(|row| {
             let has = |name: &str| texts.iter().any(|text| name.contains(text.as_str()));
             row.named().any(|(_, name)| has(name))

@@ -1,5 +1,6 @@
 //! A row of the table: what both subjects do, and how it is measured.
 
+use std::hint::black_box;
 use std::time::Duration;
 use std::time::Instant;
 
@@ -79,5 +80,6 @@ fn median(mut times: Vec<Duration>) -> Duration {
 /// All that is measured happens in here: callgrind goes by the name.
 #[inline(never)]
 pub fn bench_measured(work: &mut Work, part: usize) -> bool {
-    work(part)
+    // No jump in the place of a call: callgrind is to see the return.
+    black_box(work(part))
 }
