@@ -3,7 +3,7 @@
 use std::collections::BTreeMap;
 use std::fmt;
 
-/// The numbers that each call can give.
+/// The numbers that each call can give; 20 here is a refusal after a halt, a halt is in `HALTS`.
 pub const NUMBERS: [(&str, &[u64]); 23] = [
     ("build", &[1, 2, 3, 4, 8]),
     (
@@ -50,18 +50,54 @@ pub const OPERATIONS: [&str; 11] = [
     "Register",
 ];
 
-/// The operations whose failure halts a call.
-pub const HALTS: [&str; 10] = [
-    "Protect of to shared",
-    "Invalidate of to shared",
-    "Release of to shared",
-    "Modify of to shared",
-    "Modify of to private",
-    "Accept of to private",
-    "Zero of to private",
-    "Protect of to private",
-    "Protect of change_vtl_protections",
-    "Protect of change_default_vtl_protections",
+const ALL: &[&str] = &["snp", "tdx", "cca"];
+
+/// The operations whose failure halts a call, and where they are asked for.
+pub const HALTS: [(&str, &[&str]); 10] = [
+    ("Protect of to shared", &["snp"]),
+    ("Invalidate of to shared", &["snp"]),
+    ("Release of to shared", &["tdx"]),
+    ("Modify of to shared", ALL),
+    ("Modify of to private", ALL),
+    ("Accept of to private", &["snp", "tdx"]),
+    ("Zero of to private", &["snp"]),
+    ("Protect of to private", ALL),
+    ("Protect of change_vtl_protections", ALL),
+    ("Protect of change_default_vtl_protections", ALL),
+];
+
+const EVERY: &[&str] = &[
+    "private", "shared", "read", "write", "kx", "ux", "state", "pages", "tables",
+];
+const SEEN: &[&str] = &["private", "shared", "read", "write", "kx", "ux", "state"];
+const TABLES: &[&str] = &["state", "tables"];
+const REGISTRAR: &[&str] = &["state", "registered", "failed"];
+
+/// The buffers that each call is lent: each of another length than it has gives 4.
+pub const LENT: [(&str, &[&str]); 23] = [
+    ("build", EVERY),
+    ("change_host_visibility", EVERY),
+    ("change_vtl_protections", EVERY),
+    ("change_default_vtl_protections", EVERY),
+    ("register_overlay_page", EVERY),
+    ("unregister_overlay_page", EVERY),
+    ("answer done", EVERY),
+    ("answer failed", EVERY),
+    ("is_overlay_page", TABLES),
+    ("lock_gpns", TABLES),
+    ("unlock_gpns", TABLES),
+    ("set_vtl1_protections_enabled", &["state"]),
+    ("vtl1_protections_enabled", &["state"]),
+    ("default_vtl0_protections", &["state"]),
+    ("query_host_visibility", &["shared", "state"]),
+    ("query_lower_vtl_permissions", SEEN),
+    ("query_access_permission", SEEN),
+    ("page_fault", SEEN),
+    ("registrar", REGISTRAR),
+    ("register", REGISTRAR),
+    ("register_all_aligned", REGISTRAR),
+    ("ranswer done", REGISTRAR),
+    ("ranswer failed", REGISTRAR),
 ];
 
 #[derive(Debug, Default)]
@@ -71,8 +107,10 @@ pub struct Coverage {
     numbers: BTreeMap<String, BTreeMap<u64, u64>>,
     /// What the port asked for.
     asked: BTreeMap<&'static str, u64>,
-    /// Operations of calls that halted at them.
+    /// Operations of calls that halted at them, and where.
     halts: BTreeMap<String, u64>,
+    /// Buffers whose length alone was wrong, by call.
+    lengths: BTreeMap<String, BTreeMap<&'static str, u64>>,
     /// Calls whose answer was compared with the original's.
     pub with_original: u64,
     /// Calls that lie outside document 01's domain, or that stopped half way: compared with the
@@ -100,23 +138,36 @@ impl Coverage {
         *self.halts.entry(what).or_default() += 1;
     }
 
-    /// What was never met: numbers, operations and halts.
+    /// A call refused by 4 where that buffer alone had another length.
+    pub fn length(&mut self, call: &str, buffer: &'static str) {
+        let lengths = self.lengths.entry(call.to_string()).or_default();
+        *lengths.entry(buffer).or_default() += 1;
+    }
+
+    /// What was never met: numbers, operations, halts and wrong lengths.
     pub fn missing(&self) -> Vec<String> {
-        let calls = NUMBERS.iter();
-        let numbers = calls.flat_map(|(call, numbers)| {
-            let met = self.numbers.get(*call);
+        let mut missing = Vec::new();
+        for (call, numbers) in NUMBERS {
+            let met = self.numbers.get(call);
             let numbers = numbers.iter();
-            numbers
-                .filter(move |n| met.is_none_or(|met| !met.contains_key(n)))
-                .map(move |n| format!("{n} at {call}"))
-        });
+            let numbers = numbers.filter(|n| met.is_none_or(|met| !met.contains_key(n)));
+            missing.extend(numbers.map(|n| format!("{n} at {call}")));
+        }
         let asked = OPERATIONS.iter();
         let asked = asked.filter(|name| !self.asked.contains_key(*name));
-        let halts = HALTS.iter();
-        let halts = halts.filter(|what| !self.halts.contains_key(**what));
-        let rest = asked.map(|name| name.to_string());
-        let rest = rest.chain(halts.map(|what| format!("a halt at {what}")));
-        numbers.chain(rest).collect()
+        missing.extend(asked.map(|name| name.to_string()));
+        for (what, isolations) in HALTS {
+            let halts = isolations.iter().map(|name| format!("{what} ({name})"));
+            let halts = halts.filter(|what| !self.halts.contains_key(what));
+            missing.extend(halts.map(|what| format!("a halt at {what}")));
+        }
+        for (call, buffers) in LENT {
+            let met = self.lengths.get(call);
+            let buffers = buffers.iter();
+            let buffers = buffers.filter(|name| met.is_none_or(|met| !met.contains_key(*name)));
+            missing.extend(buffers.map(|name| format!("a wrong length of {name} at {call}")));
+        }
+        missing
     }
 
     pub fn calls(&self) -> u64 {
@@ -135,10 +186,14 @@ impl fmt::Display for Coverage {
         for (what, times) in &self.met {
             writeln!(f, "  {what:width$} {times:>10}")?;
         }
-        writeln!(f, "numbers of document 01, by call:")?;
+        writeln!(f, "numbers of document 01, by call (0 where none):")?;
         for (call, numbers) in &self.numbers {
             let given: Vec<_> = numbers.iter().map(|(n, t)| format!("{n}: {t}")).collect();
             writeln!(f, "  {call:31} {}", given.join(", "))?;
+        }
+        writeln!(f, "buffers that alone had a wrong length, by call:")?;
+        for (call, lengths) in &self.lengths {
+            writeln!(f, "  {call:31} {}", pairs(lengths).join(", "))?;
         }
         for (what, met) in [
             ("operations", pairs(&self.asked)),

@@ -79,6 +79,7 @@ impl Run<'_> {
         let predicted = shown(&awaited, is_answer);
         let original = self.original_of(act, &awaited, &given);
         self.count(act, &awaited, original.is_some());
+        self.count_length(act, &awaited, &lend);
         let same_as_predicted = match awaited {
             Awaited::Bad => given.starts_with("bad "),
             _ => given == predicted,
@@ -200,49 +201,10 @@ impl Run<'_> {
     }
 
     fn count(&mut self, act: &Act, awaited: &Awaited, with_original: bool) {
-        let (name, asks) = match &act.what {
-            What::Build(_) => ("registrar", ""),
-            What::Call { request, .. } => (name(request), ""),
-            What::Start(request) => (name(request), ", stepped"),
-            What::Answer { done: true } => ("ranswer done", ""),
-            What::Answer { done: false } => ("ranswer failed", ""),
-        };
-        let given = match awaited {
-            Awaited::Bad => "bad".to_string(),
-            Awaited::Refused(number) => format!("refused {number}"),
-            Awaited::Asks(_) => "asked".to_string(),
-            Awaited::Ended(End::Done, asked) => match asked.len() {
-                0 => "ok, nothing asked".to_string(),
-                1 => "ok, 1 operation".to_string(),
-                2..=9 => "ok, 2 to 9 operations".to_string(),
-                _ => "ok, 10 operations or more".to_string(),
-            },
-            Awaited::Ended(End::Failed { .. }, asked) => {
-                let now = match &act.what {
-                    What::Call { fail, .. } => *fail == Some(asked.len() as u64),
-                    What::Answer { done } => !done,
-                    _ => false,
-                };
-                match (now, asked.len()) {
-                    (true, place @ 1..=3) => format!("#23, operation {place} fails"),
-                    (true, _) => "#23, a later operation fails".to_string(),
-                    (false, 0) => "#23, failed before, nothing asked".to_string(),
-                    (false, _) => "#23, failed before, after some".to_string(),
-                }
-            }
-            Awaited::Ended(End::Unaligned { span, edge, .. }, asked) => {
-                let kind = match (u128::from(span.0) == edge.0, u128::from(span.1) == edge.1) {
-                    (true, true) => "whole",
-                    (true, false) => "front",
-                    _ => "back",
-                };
-                let after = if asked.is_empty() {
-                    "at once"
-                } else {
-                    "after some"
-                };
-                format!("#22, {kind} edge, {after}")
-            }
+        let name = name(&act.what);
+        let stepped = match &act.what {
+            What::Start(_) => ", stepped",
+            _ => "",
         };
         if let Some(number) = number(awaited) {
             self.coverage.number(name, number);
@@ -252,13 +214,79 @@ impl Run<'_> {
                 .iter()
                 .for_each(|_| self.coverage.operation("Register"));
         }
-        self.coverage.meet(format!("{name}{asks}: {given}"));
+        let given = counted(&act.what, awaited);
+        self.coverage.meet(format!("{name}{stepped}: {given}"));
+        if let (What::Build(build), Awaited::Ended(..)) = (&act.what, awaited) {
+            let end = build.ram.last().map_or(0, |entry| entry.end);
+            let place = match end.checked_sub(1).map_or(0, u64::ilog2) {
+                ..40 => "below 2^40",
+                40..51 => "from 2^40 to 2^51",
+                _ if end < 1 << 52 => "from 2^51 to before 2^52",
+                _ => "2^52",
+            };
+            self.coverage.meet(format!("registrar: an end {place}"));
+        }
         match with_original {
             true => self.coverage.with_original += 1,
             false => self.coverage.predicted_alone += 1,
         }
         if let (Awaited::Ended(_, asked), true) = (awaited, with_original) {
             self.coverage.operations += asked.len() as u64;
+        }
+    }
+
+    /// A buffer that alone has a wrong length.
+    fn count_length(&mut self, act: &Act, awaited: &Awaited, lend: &Lend) {
+        let lent = [
+            ("state", lend.state),
+            ("registered", lend.registered),
+            ("failed", lend.failed),
+        ];
+        let mut lent = lent.iter().filter(|(_, len)| len.is_some());
+        if let (Awaited::Refused(4), Some((buffer, _)), None) = (awaited, lent.next(), lent.next())
+        {
+            self.coverage.length(name(&act.what), buffer);
+        }
+    }
+}
+
+/// What an act led to, in words.
+fn counted(what: &What, awaited: &Awaited) -> String {
+    match awaited {
+        Awaited::Bad => "bad".to_string(),
+        Awaited::Refused(number) => format!("refused {number}"),
+        Awaited::Asks(_) => "asked".to_string(),
+        Awaited::Ended(End::Done, asked) => match asked.len() {
+            0 => "ok, nothing asked".to_string(),
+            1 => "ok, 1 operation".to_string(),
+            2..=9 => "ok, 2 to 9 operations".to_string(),
+            _ => "ok, 10 operations or more".to_string(),
+        },
+        Awaited::Ended(End::Failed { .. }, asked) => {
+            let now = match what {
+                What::Call { fail, .. } => *fail == Some(asked.len() as u64),
+                What::Answer { done } => !done,
+                _ => false,
+            };
+            match (now, asked.len()) {
+                (true, place @ 1..=3) => format!("#23, operation {place} fails"),
+                (true, _) => "#23, a later operation fails".to_string(),
+                (false, 0) => "#23, failed before, nothing asked".to_string(),
+                (false, _) => "#23, failed before, after some".to_string(),
+            }
+        }
+        Awaited::Ended(End::Unaligned { span, edge, .. }, asked) => {
+            let kind = match (u128::from(span.0) == edge.0, u128::from(span.1) == edge.1) {
+                (true, true) => "whole",
+                (true, false) => "front",
+                _ => "back",
+            };
+            let after = if asked.is_empty() {
+                "at once"
+            } else {
+                "after some"
+            };
+            format!("#22, {kind} edge, {after}")
         }
     }
 }
@@ -274,10 +302,15 @@ fn number(awaited: &Awaited) -> Option<u64> {
     }
 }
 
-fn name(request: &Request) -> &'static str {
-    match request {
-        Request::Register { .. } => "register",
-        Request::All { .. } => "register_all_aligned",
+fn name(what: &What) -> &'static str {
+    match what {
+        What::Build(_) => "registrar",
+        What::Answer { done: true } => "ranswer done",
+        What::Answer { done: false } => "ranswer failed",
+        What::Call { request, .. } | What::Start(request) => match request {
+            Request::Register { .. } => "register",
+            Request::All { .. } => "register_all_aligned",
+        },
     }
 }
 

@@ -291,7 +291,7 @@ impl Run<'_> {
             return self.query(place, query, &lent, given);
         }
         let awaited = self.await_line(act, &lent);
-        self.count(act, &awaited);
+        self.count(act, &awaited, &lent);
         let same = match awaited.kind {
             Kind::Bad => given.starts_with("bad "),
             _ => given == awaited.line,
@@ -399,15 +399,9 @@ impl Run<'_> {
             };
         };
         let awaited = lent_world(world, lent).query(query);
-        self.coverage.number(name, awaited.number);
         let result = query_result(query, &awaited);
         let predicted = format!("{result} | ops=0");
-        let kind = match (awaited.number, query) {
-            (0, Query::Fault { .. }) => format!(" {}", FAULTS[awaited.value as usize]),
-            (0, _) => " ok".to_string(),
-            (number, _) => format!(" number {number}"),
-        };
-        self.coverage.meet(format!("{name}:{kind}"));
+        self.coverage.meet_query(name, query, &awaited, lent);
         // The original is asked where document 01's domain has the call and nothing is half way.
         let in_domain = match query {
             Query::Visibility { list, .. } => {
@@ -602,15 +596,18 @@ impl Run<'_> {
         Ok(())
     }
 
-    fn count(&mut self, act: &Act, awaited: &Awaited) {
-        let open = self.open.as_ref().map(|open| &open.change);
-        let (name, call, stepped) = match &act.what {
-            What::Trace(_) | What::Query(_) => ("line", None, ""),
-            What::Build(_) => ("build", None, ""),
-            What::Call { change, .. } => (label(change), Some(change), ""),
-            What::Start(change) => (label(change), Some(change), ", stepped"),
-            What::Done => ("answer done", open, ""),
-            What::Failed { .. } => ("answer failed", open, ""),
+    fn count(&mut self, act: &Act, awaited: &Awaited, lent: &Lend) {
+        let name = match &act.what {
+            What::Trace(_) | What::Query(_) => "line",
+            What::Build(_) => "build",
+            What::Call { change, .. } | What::Start(change) => change.name(),
+            What::Done => "answer done",
+            What::Failed { .. } => "answer failed",
+        };
+        let (label, stepped) = match &act.what {
+            What::Call { change, .. } => (label(change), ""),
+            What::Start(change) => (label(change), ", stepped"),
+            _ => (name, ""),
         };
         let isolation = match self.world.as_ref().map(|world| world.state[16]) {
             Some(2) => " (snp)",
@@ -618,43 +615,83 @@ impl Run<'_> {
             Some(4) => " (cca)",
             _ => "",
         };
-        let last = &awaited.last;
-        let given = match (awaited.kind, last.number) {
-            (Kind::Bad, _) => "bad".to_string(),
-            (Kind::Refused, number) => format!("refused {number}"),
-            (Kind::Asks, _) => format!("asks {}{isolation}", OPERATIONS[last.operation as usize]),
-            (Kind::Ended, 0) => format!("ok{isolation}{}", many(last.count)),
-            (Kind::Ended, 20) => {
-                let at = last_op(&awaited.line).map(|op| format!(" at {op}"));
-                format!("halts{isolation}{}", at.unwrap_or_default())
-            }
-            (Kind::Ended, number) => format!("#{number}{isolation}{}", many(last.count)),
-        };
-        if awaited.kind != Kind::Bad {
-            let name = match &act.what {
-                What::Call { change, .. } | What::Start(change) => change.name(),
-                _ => name,
-            };
-            self.coverage.number(name, last.number);
+        let number = awaited.last.number;
+        let halts = (awaited.kind, number) == (Kind::Ended, 20);
+        if halts {
+            self.count_halt(act, awaited, isolation);
+        } else if awaited.kind != Kind::Bad {
+            self.coverage.number(name, number);
         }
-        self.coverage.meet(format!("{name}{stepped}: {given}"));
+        if number == 4 {
+            self.coverage.meet_length(name, lent);
+        }
+        let given = counted(awaited, isolation);
+        self.coverage.meet(format!("{label}{stepped}: {given}"));
         self.coverage.predicted_alone += 1;
-        if (awaited.kind, last.number) == (Kind::Ended, 20) {
-            let op = match (&act.what, &self.open) {
-                (What::Failed { .. }, Some(open)) => open.asked.last().map(|op| kind_of(op)),
-                _ => last_op(&awaited.line),
-            };
-            let call = call.map_or("no call", label);
-            let op = op.unwrap_or("nothing").to_string();
-            self.coverage.halt(format!("{op} of {call}"));
-        }
         if let What::Call { change, .. } | What::Start(change) = &act.what {
             self.coverage.meet_sizes(change);
         }
     }
+
+    fn count_halt(&mut self, act: &Act, awaited: &Awaited, isolation: &str) {
+        let open = self.open.as_ref();
+        let call = match &act.what {
+            What::Call { change, .. } => Some(change),
+            _ => open.map(|open| &open.change),
+        };
+        let op = match (&act.what, open) {
+            (What::Failed { .. }, Some(open)) => open.asked.last().map(|op| kind_of(op)),
+            _ => last_op(&awaited.line),
+        };
+        let (op, call) = (op.unwrap_or("nothing"), call.map_or("no call", label));
+        let what = format!("{op} of {call}{isolation}");
+        self.coverage.halt(what);
+    }
+}
+
+/// What a line led to, in words.
+fn counted(awaited: &Awaited, isolation: &str) -> String {
+    let last = &awaited.last;
+    match (awaited.kind, last.number) {
+        (Kind::Bad, _) => "bad".to_string(),
+        (Kind::Refused, number) => format!("refused {number}"),
+        (Kind::Asks, _) => format!("asks {}{isolation}", OPERATIONS[last.operation as usize]),
+        (Kind::Ended, 0) => format!("ok{isolation}{}", many(last.count)),
+        (Kind::Ended, 20) => {
+            let at = last_op(&awaited.line).map(|op| format!(" at {op}"));
+            format!("halts{isolation}{}", at.unwrap_or_default())
+        }
+        (Kind::Ended, number) => format!("#{number}{isolation}{}", many(last.count)),
+    }
 }
 
 impl Coverage {
+    /// A buffer that alone has a wrong length.
+    fn meet_length(&mut self, call: &str, lent: &Lend) {
+        let mut lent = NAMES.iter().zip(lent).filter(|(_, len)| len.is_some());
+        if let (Some((buffer, _)), None) = (lent.next(), lent.next()) {
+            self.length(call, buffer);
+        }
+    }
+
+    fn meet_query(&mut self, name: &str, query: &Query, awaited: &Answer, lent: &Lend) {
+        self.number(name, awaited.number);
+        if awaited.number == 4 {
+            self.meet_length(name, lent);
+        }
+        let kind = match (awaited.number, query) {
+            (0, Query::Fault { .. }) => FAULTS[awaited.value as usize].to_string(),
+            (0, Query::Overlay { .. } | Query::Enabled) => format!("ok {}", awaited.value),
+            (0, _) => "ok".to_string(),
+            (number, _) => format!("number {number}"),
+        };
+        self.meet(format!("{name}: {kind}"));
+        if let Query::Overlay { gpn, .. } | Query::Lower { gpn, .. } | Query::Access { gpn } = query
+        {
+            self.meet_page(name, *gpn);
+        }
+    }
+
     /// The boundaries that a call is at.
     fn meet_sizes(&mut self, change: &Change) {
         if let Some(list) = change.list() {
@@ -665,15 +702,23 @@ impl Coverage {
             };
             let name = label(change);
             self.meet(format!("{name}: a list of {size} pages"));
+            if let Some(&highest) = numbers(&list.bytes()).iter().max() {
+                self.meet_page(name, highest);
+            }
         }
-        if let Change::Register { gpn, .. } = change {
-            let place = match gpn >> 40 {
-                0 => "below 2^40",
-                1..4096 => "from 2^40 on",
-                _ => "from 2^52 on",
-            };
-            self.meet(format!("register_overlay_page: a page {place}"));
+        if let Change::Register { gpn, .. } | Change::Unregister { gpn, .. } = change {
+            self.meet_page(change.name(), *gpn);
         }
+    }
+
+    /// A page, or a list's highest, by where it is: no RAM is from 2^40 on.
+    fn meet_page(&mut self, call: &str, gpn: u64) {
+        let place = match gpn >> 40 {
+            0 => "below 2^40",
+            1..4096 => "from 2^40 on",
+            _ => "from 2^52 on",
+        };
+        self.meet(format!("{call}: a page {place}"));
     }
 }
 

@@ -207,8 +207,10 @@ fn first_unlike<T: PartialEq + std::fmt::Debug>(a: &[T], b: &[T]) -> String {
 /// Runs a case and gives the first difference.
 pub fn run(acts: &[Act], coverage: &mut Coverage) -> Option<Difference> {
     let mut world = World::default();
+    let mut odd = Odd::default();
     for (place, act) in acts.iter().enumerate() {
         act.apply(&mut world);
+        odd.note(act);
         let differ = |port: String, predicted: String| {
             Some(Difference {
                 place,
@@ -223,6 +225,11 @@ pub fn run(acts: &[Act], coverage: &mut Coverage) -> Option<Difference> {
             Act::Query(query) => {
                 let awaited = world.query(query);
                 count_query(query, &awaited, coverage);
+                if awaited.number == 4 {
+                    odd.count(query_name(query), coverage, &world, |world| {
+                        world.query(query).number
+                    });
+                }
                 let given = ask(&world, query);
                 if given != awaited {
                     return differ(format!("{given:?}"), format!("{awaited:?}"));
@@ -237,6 +244,11 @@ pub fn run(acts: &[Act], coverage: &mut Coverage) -> Option<Difference> {
         let mut predicted = world.clone();
         let awaited = predicted.call(call);
         count(call, &world, &awaited, coverage);
+        if awaited.number == 4 {
+            odd.count(call_name(call), coverage, &world, |world| {
+                world.call(call).number
+            });
+        }
         let Some((after, reply)) = library(&world, call) else {
             return differ("a write beside a buffer".to_string(), "none".to_string());
         };
@@ -311,8 +323,50 @@ fn ask(world: &World, query: &Query) -> Answer {
     }
 }
 
-fn count_query(query: &Query, awaited: &Answer, coverage: &mut Coverage) {
-    let name = match query {
+/// The buffer that has another length than at first, if one alone has.
+#[derive(Default)]
+struct Odd {
+    /// The first lengths.
+    right: [Option<usize>; 9],
+    odd: std::collections::BTreeSet<usize>,
+}
+
+impl Odd {
+    fn note(&mut self, act: &Act) {
+        let Act::Resize { buffer, len } = act else {
+            return;
+        };
+        match *self.right[*buffer].get_or_insert(*len) == *len {
+            true => self.odd.remove(buffer),
+            false => self.odd.insert(*buffer),
+        };
+    }
+
+    /// Counts a call refused by 4, if it isn't so where that buffer has its first length.
+    fn count(
+        &self,
+        call: &str,
+        coverage: &mut Coverage,
+        world: &World,
+        number: impl FnOnce(&mut World) -> u64,
+    ) {
+        let mut odd = self.odd.iter();
+        let (Some(&buffer), None) = (odd.next(), odd.next()) else {
+            return;
+        };
+        let Some(len) = self.right[buffer] else {
+            return;
+        };
+        let mut world = world.clone();
+        Act::Resize { buffer, len }.apply(&mut world);
+        if number(&mut world) != 4 {
+            coverage.length(call, BUFFERS[buffer]);
+        }
+    }
+}
+
+fn query_name(query: &Query) -> &'static str {
+    match query {
         Query::Visibility { .. } => "query_host_visibility",
         Query::Fault { .. } => "page_fault",
         Query::Lower { .. } => "query_lower_vtl_permissions",
@@ -320,7 +374,11 @@ fn count_query(query: &Query, awaited: &Answer, coverage: &mut Coverage) {
         Query::Overlay { .. } => "is_overlay_page",
         Query::Enabled => "vtl1_protections_enabled",
         Query::Default0 => "default_vtl0_protections",
-    };
+    }
+}
+
+fn count_query(query: &Query, awaited: &Answer, coverage: &mut Coverage) {
+    let name = query_name(query);
     coverage.number(name, awaited.number);
     let given = match (query, awaited.number) {
         (Query::Fault { .. }, 0) => format!("answer {}", awaited.value),
@@ -331,8 +389,8 @@ fn count_query(query: &Query, awaited: &Answer, coverage: &mut Coverage) {
     coverage.predicted_alone += 1;
 }
 
-fn count(call: &Call, world: &World, awaited: &Given, coverage: &mut Coverage) {
-    let name = match call {
+fn call_name(call: &Call) -> &'static str {
+    match call {
         Call::Build { .. } => "build",
         Call::Change { .. } => "change_host_visibility",
         Call::Protections { .. } => "change_vtl_protections",
@@ -344,7 +402,11 @@ fn count(call: &Call, world: &World, awaited: &Given, coverage: &mut Coverage) {
         Call::Enable => "set_vtl1_protections_enabled",
         Call::Done => "answer done",
         Call::Failed { .. } => "answer failed",
-    };
+    }
+}
+
+fn count(call: &Call, world: &World, awaited: &Given, coverage: &mut Coverage) {
+    let name = call_name(call);
     let phase = match world.state.first() {
         Some(&phase @ 2..=19) => format!(" at phase {phase}"),
         Some(0) | None => String::new(),
@@ -357,7 +419,10 @@ fn count(call: &Call, world: &World, awaited: &Given, coverage: &mut Coverage) {
         (20, _) if awaited.count != 0 => "halts".to_string(),
         (number, _) => format!("number {number}"),
     };
-    coverage.number(name, awaited.number);
+    // A halt is no refusal.
+    if awaited.number != 20 || awaited.count == 0 {
+        coverage.number(name, awaited.number);
+    }
     if awaited.operation != 0 {
         coverage.operation(OPERATIONS[awaited.operation as usize]);
     }
@@ -406,7 +471,7 @@ pub fn case(random: &mut Random) -> Vec<Act> {
                 acts.push(forge(random, &pages, bytes));
             }
         }
-        let lent = random.chance(6).then(|| {
+        let lent = random.chance(12).then(|| {
             let buffer = random.below(9) as usize;
             let right = lens[buffer];
             let len = random.pick(&[right + 1, right.saturating_sub(1), 0, right / 2]);
