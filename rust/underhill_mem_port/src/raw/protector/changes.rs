@@ -12,104 +12,20 @@ mod entries {
     use super::Reply;
     use super::Value;
 
+    lent! {
+        protector_change_vtl_protections(
+            [],
+            [vtl: u64, flags: u64, list: *const u8, list_len: usize]
+        );
+        protector_change_default_vtl_protections([], [vtl: u64, flags: u64]);
+        protector_register_overlay_page(
+            [],
+            [vtl: u64, gpn: u64, source: u64, checked: u64, new: u64]
+        );
+        protector_unregister_overlay_page([], [vtl: u64, gpn: u64]);
+    }
+
     unsafe extern "C" {
-        pub fn protector_change_vtl_protections(
-            private: *const u8,
-            private_len: usize,
-            shared: *const u8,
-            shared_len: usize,
-            read: *mut u8,
-            read_len: usize,
-            write: *mut u8,
-            write_len: usize,
-            kernel: *mut u8,
-            kernel_len: usize,
-            user: *mut u8,
-            user_len: usize,
-            state: *mut u64,
-            state_len: usize,
-            pages: *mut u64,
-            pages_len: usize,
-            tables: *const u64,
-            tables_len: usize,
-            vtl: u64,
-            flags: u64,
-            list: *const u8,
-            list_len: usize,
-        ) -> Reply;
-
-        pub fn protector_change_default_vtl_protections(
-            private: *const u8,
-            private_len: usize,
-            shared: *const u8,
-            shared_len: usize,
-            read: *mut u8,
-            read_len: usize,
-            write: *mut u8,
-            write_len: usize,
-            kernel: *mut u8,
-            kernel_len: usize,
-            user: *mut u8,
-            user_len: usize,
-            state: *mut u64,
-            state_len: usize,
-            pages: *const u64,
-            pages_len: usize,
-            tables: *mut u64,
-            tables_len: usize,
-            vtl: u64,
-            flags: u64,
-        ) -> Reply;
-
-        pub fn protector_register_overlay_page(
-            private: *const u8,
-            private_len: usize,
-            shared: *const u8,
-            shared_len: usize,
-            read: *mut u8,
-            read_len: usize,
-            write: *mut u8,
-            write_len: usize,
-            kernel: *mut u8,
-            kernel_len: usize,
-            user: *mut u8,
-            user_len: usize,
-            state: *mut u64,
-            state_len: usize,
-            pages: *const u64,
-            pages_len: usize,
-            tables: *mut u64,
-            tables_len: usize,
-            vtl: u64,
-            gpn: u64,
-            source: u64,
-            checked: u64,
-            new: u64,
-        ) -> Reply;
-
-        pub fn protector_unregister_overlay_page(
-            private: *const u8,
-            private_len: usize,
-            shared: *const u8,
-            shared_len: usize,
-            read: *mut u8,
-            read_len: usize,
-            write: *mut u8,
-            write_len: usize,
-            kernel: *mut u8,
-            kernel_len: usize,
-            user: *mut u8,
-            user_len: usize,
-            state: *mut u64,
-            state_len: usize,
-            pages: *const u64,
-            pages_len: usize,
-            tables: *mut u64,
-            tables_len: usize,
-            vtl: u64,
-            gpn: u64,
-        ) -> Reply;
-
         pub fn protector_is_overlay_page(
             state: *const u64,
             state_len: usize,
