@@ -32,7 +32,7 @@ const FAMILIES: [Family; 8] = [
     },
     Family {
         name: "held",
-        heading: "SNP, 4 GiB, tracked; overlays and locked pages of the caller",
+        heading: "SNP, 4 GiB, tracked, more held",
         rows: visibility::held,
     },
     Family {

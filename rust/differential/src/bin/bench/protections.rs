@@ -7,6 +7,7 @@ use std::hint::black_box;
 use underhill_mem_port::IsolationType::Snp;
 
 const GIB: u64 = 1 << 30;
+const CALLS: u32 = 5;
 
 /// Flags that change from call to call.
 struct Flags(u8);
@@ -21,14 +22,14 @@ impl Flags {
 pub fn lists() -> Vec<Row> {
     let rows = [("one run", 1), ("512 runs", 2)].map(|(name, step)| Row {
         parts: vec![Some(format!("protect 512 pages, {name}"))],
-        calls: 20,
-        rounds: 51,
+        calls: CALLS,
+        rounds: 201,
         make: Box::new(move |kind| {
             let mut subject = subject(kind, Snp, GIB);
             let pages: Vec<u64> = (0..512).map(|page| page * step).collect();
             let mut flags = Flags(0);
             Box::new(move |_| {
-                (0..20).all(|_| black_box(subject.protect(flags.next(), black_box(&pages))))
+                (0..CALLS).all(|_| black_box(subject.protect(flags.next(), black_box(&pages))))
             })
         }),
     });

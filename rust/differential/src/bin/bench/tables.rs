@@ -13,7 +13,7 @@ use underhill_mem_port::IsolationType::Snp;
 const END: u64 = 1 << 30;
 /// The protectors of a batch: few, so that what they touch stays near.
 const BATCH: u32 = 8;
-const PAIRS: u32 = 500;
+const PAIRS: u32 = 100;
 
 /// A call that is made at that many held.
 type Call = fn(&mut dyn Subject, u64) -> bool;
@@ -87,7 +87,7 @@ fn rows(pair: Pair, held: u64) -> [Row; 2] {
     let both = Row {
         parts: vec![name(names[2])],
         calls: PAIRS,
-        rounds: 51,
+        rounds: 201,
         make: Box::new(move |kind| {
             let mut subject = holding(subject(kind, Snp, END), pair, held);
             Box::new(move |_| {

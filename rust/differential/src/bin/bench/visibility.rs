@@ -15,7 +15,8 @@ struct Shape {
     pages: u64,
     /// From one page to the next: 1 for one run, 2 for as many runs as pages.
     step: u64,
-    /// How many lists, one after the other, are shared and then returned in a round.
+    /// How many lists, one after the other, are shared and then returned in a round: so few that
+    /// seldom another process comes between.
     lists: u32,
     rounds: u32,
 }
@@ -25,36 +26,36 @@ const SHAPES: [Shape; 5] = [
         name: "1 page",
         pages: 1,
         step: 1,
-        lists: 1000,
-        rounds: 101,
+        lists: 200,
+        rounds: 401,
     },
     Shape {
         name: "16 pages, one run",
         pages: 16,
         step: 1,
-        lists: 500,
-        rounds: 101,
+        lists: 100,
+        rounds: 301,
     },
     Shape {
         name: "16 pages, 16 runs",
         pages: 16,
         step: 2,
-        lists: 200,
-        rounds: 51,
+        lists: 40,
+        rounds: 201,
     },
     Shape {
         name: "512 pages, one run",
         pages: 512,
         step: 1,
-        lists: 50,
-        rounds: 51,
+        lists: 10,
+        rounds: 201,
     },
     Shape {
         name: "512 pages, 512 runs",
         pages: 512,
         step: 2,
-        lists: 20,
-        rounds: 31,
+        lists: 2,
+        rounds: 101,
     },
 ];
 
