@@ -35,7 +35,7 @@ use Rattle.history.specs.Marks.{readOff, Settled}
 use Rattle.history.specs.History as at
 use Rattle.history.specs.History.{History, BuildCall, Stray, LockCall, UnlockCall, EnableCall}
 use Rattle.history.specs.Answered.{given}
-use Rattle.history.specs.Ends.{Course, start, answer, other, courseOf, takenIn, Falls, Meanwhile, Event, Answer, events, Answers, Ends, insisting, RequestEnds}
+use Rattle.history.specs.Ends.{Course, start, answer, other, courseOf, takenIn, Falls, Meanwhile, Event, Answer, events, Answers, Ends, insisting, Told, RequestEnds}
 use Rattle.history.proofs.Bits.{clash}
 use Rattle.history.proofs.World.{Stands}
 use Rattle.history.proofs.Answers.{taken-seen}
@@ -300,6 +300,9 @@ dones-unrefused (suc n) w k = (claims.done-taken w (k .long) (k .fit), dones-unr
 
 -- ---- THE CLAIM, from any world that meets the invariant
 
+stands-told : (es : List MemoryRangeWithNode) (v : World) (o : Seen) → Stands es v o → Told v o
+stands-told es v o k = record { waits = k .waits; takes = taken-seen es v o k }
+
 module _ (es : List MemoryRangeWithNode) (v : World) (o : Seen) (k : Lent es v o) where
   giving : (gs : List Given) → Answers v o gs
   unfolding courseOf events Meanwhile
@@ -314,8 +317,7 @@ module _ (es : List MemoryRangeWithNode) (v : World) (o : Seen) (k : Lent es v o
   pub lent-ends : RequestEnds v o
   lent-ends =
       record {
-        waits = k .stands .waits;
-        takes = taken-seen es v o (k .stands);
+        told = stands-told es v o (k .stands);
         falls = λ h. steps-fall es (k .stands) h;
         few = λ h m. sum-falls (courseOf h) (steps-fall es (k .stands) h) m;
         ends = λ h. request-ends es (k .stands) h;
@@ -330,7 +332,10 @@ module _ (es : List MemoryRangeWithNode) (v : World) (o : Seen) (k : Lent es v o
 pub every-request-ends : {u w v : World} {o : Seen} (b : BuildCall u w) → b .result .number ≡ 0 → History w unseen v o → RequestEnds v o
 every-request-ends {v = v} {o = o} b d h = lent-ends (entriesOf (now (b .args .0))) v o (lent-holds b d h)
 
--- and wherever one stops from a world that is settled, its state block of its length
+-- and wherever one stops from a world that is settled; the end where its state block has its length
+pub settled-told : {w v : World} {o : Seen} → Settled w → History w (readOff (w .maps)) v o → Told v o
+settled-told {w} {v} {o} k h = stands-told (entriesIn (w .state)) v o (at-stop (entriesIn (w .state)) (settled-stands w k) h)
+
 pub settled-requests-end : {w v : World} {o : Seen} → Settled w → length (w .state) ≡ stateLen → History w (readOff (w .maps)) v o → RequestEnds v o
 settled-requests-end {w} {v} {o} k e h =
     lent-ends (entriesIn (w .state)) v o (history-keeps (Lent (entriesIn (w .state))) (lent-kept (entriesIn (w .state))) h (record { stands = settled-stands w k; whole = record { long = e; fit = k .lent } }))

@@ -105,10 +105,13 @@ insisting w (g ∷ gs) = cond (takenBy g w) (g ∷ insisting (answerOf g w .worl
 
 -- ---- every request ends: of a world v, where o was seen, and all that may be called from there on
 
-pub record RequestEnds (v : World) (o : Seen) : Type 0 where
-  -- what is told from outside is what the state block says
+-- what is told from outside is what the state block says
+pub record Told (v : World) (o : Seen) : Type 0 where
   pub waits : isWaiting o ≡ underWay v
   pub takes : (g : Given) → isTaken o (answerOf g v .reply) ≡ takenBy g v
+
+pub record RequestEnds (v : World) (o : Seen) : Type 0 where
+  pub told : Told v o
   -- in any list of calls each taken answer lowers the number, and nothing else changes it while a request is under way
   pub falls : {x : World} {p : Seen} (h : History v o x p) → Falls (courseOf h)
   -- so no more answers are taken than it says, and as many as it says end the request
