@@ -1,5 +1,6 @@
 -- So no list of calls is cut short: of any world, fit or not, and with any arguments, every entry of the protector has a call with just these, and a small
 -- layout has a build that is taken. Assumes nothing.
+use native.Mathlib.Omega.{arith}
 use mathlib.Core.Path.{_≡_, refl}
 use mathlib.Core.Bool.{true}
 use mathlib.Core.List.{List, [], _∷_}
@@ -19,10 +20,10 @@ use Rattle.protector_state.specs.Reply.{askedOf, flatOf}
 use Rattle.protector.specs.World.{World, world, applied}
 use Rattle.protector.specs.Calls.{carriedOut, firstRefusal, visibilityRefusal, visibilityTaken, visibilityOf, buildRefusal, buildTaken, buildOf}
 use Rattle.visibility_claims.specs.Table.{page}
-use Rattle.history.specs.History.{VisibilityCall, BuildCall, History}
+use Rattle.history.specs.History.{VisibilityCall, BuildCall, History, Stray, block, StrayLock, lockTables}
 use Rattle.history.specs.Seen.{Seen, unseen, asks}
 use Rattle.history.specs.Arguments.{Callable}
-use Rattle.history.specs.Answered.{Claim}
+use Rattle.history.specs.Answered.{Claim, withTables, withState}
 use Rattle.history.proofs.Claim.{calls-hold}
 use Rattle.history.proofs.Exists.{visibility-may, done-may, failed-may}
 use Rattle.history.proofs.ExistsOthers.{protection-may, default-may, register-may, unregister-may, lock-may, unlock-may, enable-may, build-may}
@@ -55,6 +56,10 @@ any-call w =
       access = λ p. (access-may (w .pages) (w .tables) ([], ([], ([], ([], ([], ([], ([], tt))))))) (lend (w .maps .private), (lend (w .maps .shared), (lend (w .maps .permissions .read), (lend (w .maps .permissions .write), (lend (w .maps .permissions .kernel), (lend (w .maps .permissions .user), (lend (w .state), (p, tt)))))))), refl);
       build = λ ram isolation tracked release. (build-may ([], ([], ([], ([], ([], ([], ([], ([], ([], ([], tt)))))))))) (lend ram, (isolation, (tracked, (release, (lend (w .maps .private), (lend (w .maps .shared), (lend (w .maps .permissions .read), (lend (w .maps .permissions .write), (lend (w .maps .permissions .kernel), (lend (w .maps .permissions .user), (lend (w .state), (lend (w .pages), (lend (w .tables), tt))))))))))))), (refl, refl, refl, refl));
     }
+
+-- so each may be lent something of another length, whatever was last left: no state block at all, or no tables
+pub any-stray : (u : World) → Stray u (withState u []) × StrayLock u (withTables u [])
+any-stray u = (block (λ e. absurd (omega (arith, e))), lockTables refl (λ e. absurd (omega (arith, e))))
 
 -- ---- eight pages of RAM, on SNP with permissions tracked
 
