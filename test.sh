@@ -13,7 +13,7 @@ rt ci | tee "$verdict"
 left_out=()
 if [ ! -d "${UNDERHILL_MEM_SRC:-../shared/docs/src/openhcl/underhill_mem/src}" ]; then
     echo "test.sh: the original's source is not at hand (UNDERHILL_MEM_SRC): the oracle and the differential run are left out" >&2
-    left_out=(--exclude oracle --exclude underhill_mem_source --exclude differential)
+    left_out=(--exclude oracle --exclude underhill_mem_source --exclude differential --exclude record)
 fi
 cargo test --offline --quiet --manifest-path rust/Cargo.toml --workspace "${left_out[@]}"
 if [ ${#left_out[@]} -eq 0 ]; then
