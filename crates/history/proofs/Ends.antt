@@ -3,7 +3,7 @@ use native.Mathlib.Omega.{arith}
 use Prim.Native.Nat.{ℕ, zero, suc, _+_, _≤_, _<_}
 use mathlib.Core.Path.{_≡_, refl, sym, ap, ap₂, _∙_, subst}
 use mathlib.Core.List.{List, [], _∷_, _++_, map, append-nil, append-assoc}
-use mathlib.Core.Bool.{Bool, true, false, cond}
+use mathlib.Core.Bool.{Bool, true, false, cond, not, _||_}
 use denote.Ref.{now}
 use lib.ListN.{length, replicate, length-replicate}
 use lib.Dec.{eqb}
@@ -30,12 +30,12 @@ use Rattle.visibility_claims.specs.Calls.{answerOf, takenBy}
 use Rattle.visibility_claims.specs.Ends.{leftIn, underWay, afterAll, takenOf, unrefused}
 use Rattle.visibility_claims.proofs.Ends as claims
 use Rattle.visibility_claims.proofs.Refusals.{answer-takes}
-use Rattle.history.specs.Seen.{Seen, unseen, asks, isWaiting, isTaken, seesCall}
+use Rattle.history.specs.Seen.{Seen, unseen, asks, isWaiting, isTaken, seesCall, seesAnswer}
 use Rattle.history.specs.Marks.{readOff, Settled}
 use Rattle.history.specs.History as at
-use Rattle.history.specs.History.{History, BuildCall, Stray, LockCall, UnlockCall, EnableCall}
+use Rattle.history.specs.History.{History, BuildCall, DoneCall, Stray, LockCall, UnlockCall, EnableCall}
 use Rattle.history.specs.Answered.{given}
-use Rattle.history.specs.Ends.{Course, start, answer, other, courseOf, takenIn, Falls, Meanwhile, Event, Answer, events, Answers, Ends, insisting, Told, RequestEnds}
+use Rattle.history.specs.Ends.{Course, start, answer, other, courseOf, takenIn, heardIn, Falls, Meanwhile, Event, Answer, events, Answers, Ends, Heard, insisting, Told, RequestEnds}
 use Rattle.history.proofs.Bits.{clash}
 use Rattle.history.proofs.World.{Stands}
 use Rattle.history.proofs.Answers.{taken-seen}
@@ -119,9 +119,47 @@ enable-keeps x y c b =
 
 -- ---- answers
 
+-- what an answer is taken for is under way
+phase-waits : (p : Phase) (b : Bool) → takes p b ≡ true → eqb (statusOf p) 19 ≡ true
+phase-waits phase.Idle b e = e
+phase-waits phase.Halted b e = e
+phase-waits phase.Wait b e = refl
+phase-waits phase.FlushAll b e = refl
+phase-waits phase.ProtectNone0 b e = refl
+phase-waits phase.ProtectNone1 b e = refl
+phase-waits phase.Invalidate b e = refl
+phase-waits phase.Release b e = refl
+phase-waits phase.Modify b e = refl
+phase-waits phase.Accept b e = refl
+phase-waits phase.Zero b e = refl
+phase-waits phase.ProtectDefault0 b e = refl
+phase-waits phase.ProtectDefault1 b e = refl
+
+taken-waits : (w : World) (g : Given) → takenBy g w ≡ true → underWay w ≡ true
+taken-waits w g t = by g t
+  where
+    go : (b f : Bool) → cond b (takesAt (stageIn (w .state)) f) (takes (phaseIn (w .state)) f) ≡ true → eqb (cond b 19 (statusOf (phaseIn (w .state)))) 19 ≡ true
+    go true f e = refl
+    go false f e = phase-waits (phaseIn (w .state)) f e
+
+    by : (g : Given) → takenBy g w ≡ true → underWay w ≡ true
+    by Succeeds t = go (isChanging (w .state)) false (answer-takes (w .state) (fits w) false (eqb-true _ _ t))
+    by (Fails code n) t = go (isChanging (w .state)) true (answer-takes (w .state) (fits w) true (eqb-true _ _ t))
+
 module _ (es : List MemoryRangeWithNode) (u : World) (o : Seen) (k : Stands es u o) where
   abbrev Steps : World → Reply → Type 0
   Steps v r = (isTaken o r ≡ true → leftIn v < leftIn u) × (isTaken o r ≡ false → v ≡ u)
+
+  -- while nothing is under way it begins nothing
+  answer-begins : (g : Given) (v : World) (r : Reply) (p : Seen) → given v r ≡ answerOf g u → Stands es v p → isWaiting p ≡ true → isWaiting o ≡ true
+  answer-begins g v r p e s b = k .waits ∙ go (takenBy g u) refl
+    where
+      go : (t : Bool) → takenBy g u ≡ t → underWay u ≡ true
+      go true t = taken-waits u g t
+      go false t = sym (ap underWay (ap (λ (X : Outcome). X .world) e ∙ claims.untaken-keeps u g t)) ∙ (sym (s .waits) ∙ b)
+
+  stray-begins : (p : Seen) → Stands es u p → isWaiting p ≡ true → isWaiting o ≡ true
+  stray-begins p s b = k .waits ∙ (sym (s .waits) ∙ b)
 
   answer-falls : (g : Given) (v : World) (r : Reply) → given v r ≡ answerOf g u → Steps v r
   answer-falls g v r e =
@@ -149,10 +187,10 @@ module _ (es : List MemoryRangeWithNode) {w : World} {a : Seen} (k : Stands es w
   pub steps-fall : {v : World} {o : Seen} (h : History w a v o) → Falls (courseOf h)
   unfolding courseOf Falls
   steps-fall at.none = tt
-  steps-fall (at.done {u} {v} {o} h c) = let f = answer-falls es u o (at-stop h) Succeeds v (c .result) (done-is c) in (steps-fall h, f .0, f .1)
-  steps-fall (at.failed {u} {v} {o} h c) = let f = answer-falls es u o (at-stop h) (Fails (c .args .1 .1 .1 .1 .1 .1 .1 .1 .1 .0) (c .args .1 .1 .1 .1 .1 .1 .1 .1 .1 .1 .0)) v (c .result) (failed-is c) in (steps-fall h, f .0, f .1)
-  steps-fall (at.strayDone {u} {x} {y} {o} h c s) = let f = stray-falls es u o (at-stop h) x y Succeeds (c .result) s (done-is c) in (steps-fall h, f .0, f .1)
-  steps-fall (at.strayFailed {u} {x} {y} {o} h c s) = let f = stray-falls es u o (at-stop h) x y (Fails (c .args .1 .1 .1 .1 .1 .1 .1 .1 .1 .0) (c .args .1 .1 .1 .1 .1 .1 .1 .1 .1 .1 .0)) (c .result) s (failed-is c) in (steps-fall h, f .0, f .1)
+  steps-fall (at.done {u} {v} {o} h c) = let f = answer-falls es u o (at-stop h) Succeeds v (c .result) (done-is c) in (steps-fall h, f .0, f .1, answer-begins es u o (at-stop h) Succeeds v (c .result) _ (done-is c) (at-stop (at.done h c)))
+  steps-fall (at.failed {u} {v} {o} h c) = let f = answer-falls es u o (at-stop h) (Fails (c .args .1 .1 .1 .1 .1 .1 .1 .1 .1 .0) (c .args .1 .1 .1 .1 .1 .1 .1 .1 .1 .1 .0)) v (c .result) (failed-is c) in (steps-fall h, f .0, f .1, answer-begins es u o (at-stop h) (Fails (c .args .1 .1 .1 .1 .1 .1 .1 .1 .1 .0) (c .args .1 .1 .1 .1 .1 .1 .1 .1 .1 .1 .0)) v (c .result) _ (failed-is c) (at-stop (at.failed h c)))
+  steps-fall (at.strayDone {u} {x} {y} {o} h c s) = let f = stray-falls es u o (at-stop h) x y Succeeds (c .result) s (done-is c) in (steps-fall h, f .0, f .1, stray-begins es u o (at-stop h) _ (at-stop (at.strayDone h c s)))
+  steps-fall (at.strayFailed {u} {x} {y} {o} h c s) = let f = stray-falls es u o (at-stop h) x y (Fails (c .args .1 .1 .1 .1 .1 .1 .1 .1 .1 .0) (c .args .1 .1 .1 .1 .1 .1 .1 .1 .1 .1 .0)) (c .result) s (failed-is c) in (steps-fall h, f .0, f .1, stray-begins es u o (at-stop h) _ (at-stop (at.strayFailed h c s)))
   steps-fall (at.visibility {u} {v} h c) = (steps-fall h, λ b. visibility-keeps u v (c .result) (waiting h b) (c .args .1 .1 .1 .1 .1 .1 .1 .1 .1 .0) (c .args .1 .1 .1 .1 .1 .1 .1 .1 .1 .1 .0) (now (c .args .1 .1 .1 .1 .1 .1 .1 .1 .1 .1 .1 .0)) (visibility-is c))
   steps-fall (at.protection {u} {v} h c) = (steps-fall h, λ b. protection-keeps u v (c .result) (waiting h b) (c .args .1 .1 .1 .1 .1 .1 .1 .1 .1 .0) (c .args .1 .1 .1 .1 .1 .1 .1 .1 .1 .1 .0) (now (c .args .1 .1 .1 .1 .1 .1 .1 .1 .1 .1 .1 .0)) (protection-is c))
   steps-fall (at.default {u} {v} h c) = (steps-fall h, λ b. default-keeps u v (c .result) (waiting h b) (c .args .1 .1 .1 .1 .1 .1 .1 .1 .1 .0) (c .args .1 .1 .1 .1 .1 .1 .1 .1 .1 .1 .0) (default-is c))
@@ -206,11 +244,42 @@ idle-at-none : (v : World) → leftIn v ≤ 0 → underWay v ≡ false
 unfolding afterAll takenOf
 idle-at-none v h = claims.ends v [] h
 
-request-ends : (es : List MemoryRangeWithNode) {w v : World} {a o : Seen} → Stands es w a → (h : History w a v o) → Meanwhile (courseOf h) → leftIn w ≤ takenIn (courseOf h) → isWaiting o ≡ false
-request-ends es {w} {v} k h m e = at-stop es k h .waits ∙ idle-at-none v (rest (leftIn v) (leftIn w) (takenIn (courseOf h)) (sum-falls (courseOf h) (steps-fall es k h) m) e)
+-- where it still waits it waited at each answer, and each that wasn't refused was taken
+all-taken : {w v : World} {a o : Seen} (h : Course w a v o) → Falls h → Meanwhile h → isWaiting o ≡ true → heardIn h ≡ takenIn h
+unfolding Falls Meanwhile takenIn heardIn
+all-taken start f m e = refl
+all-taken (answer {u} {v} {o} {p} h g b) f m e =
+    let before : isWaiting o ≡ true = f .3 e in
+    ap₂ (λ (c : Bool) (n : ℕ). cond c 1 0 + n) (ap (λ (x : Bool). b || not x) before ∙ or-false b) (all-taken h (f .0) m before)
   where
-    rest : (a b c : ℕ) → a + c ≤ b → b ≤ c → a ≤ 0
-    rest a b c d e = omega (arith, d, e)
+    or-false : (b : Bool) → (b || false) ≡ b
+    or-false true = refl
+    or-false false = refl
+all-taken (other h) f m e = all-taken h (f .0) (m .0) (m .1)
+
+module _ (es : List MemoryRangeWithNode) {w v : World} {a o : Seen} (k : Stands es w a) (h : History w a v o) (m : Meanwhile (courseOf h)) where
+  still-fewer : isWaiting o ≡ true → takenIn (courseOf h) < leftIn w
+  still-fewer e = go (leftIn v) refl
+    where
+      rest : (a b c n : ℕ) → a + c ≤ b → a ≡ suc n → c < b
+      rest a b c n d e = omega (arith, d, e)
+
+      none : (a : ℕ) → a ≡ 0 → a ≤ 0
+      none a e = omega (arith, e)
+
+      go : (n : ℕ) → leftIn v ≡ n → takenIn (courseOf h) < leftIn w
+      go (suc n) d = rest (leftIn v) (leftIn w) (takenIn (courseOf h)) n (sum-falls (courseOf h) (steps-fall es k h) m) d
+      go zero d = absurd (clash _ e (at-stop es k h .waits ∙ idle-at-none v (none (leftIn v) d)))
+
+  request-ends : leftIn w ≤ heardIn (courseOf h) → isWaiting o ≡ false
+  request-ends e = go (isWaiting o) refl
+    where
+      go : (b : Bool) → isWaiting o ≡ b → isWaiting o ≡ false
+      go false b = b
+      go true b = absurd (rest (leftIn w) (takenIn (courseOf h)) (heardIn (courseOf h)) (still-fewer b) (all-taken (courseOf h) (steps-fall es k h) m b) e)
+        where
+          rest : (a b c : ℕ) → b < a → c ≡ b → a ≤ c → ⊥
+          rest a b c d e f = omega (arith, d, e, f)
 
 -- ---- lists of answers alone
 
@@ -236,33 +305,6 @@ further {w = w} h m (Fails code n ∷ gs) =
       alone = x .alone ∙ append-assoc (events (courseOf h)) _ (map Answer gs) ∙ ap₂ (λ (a b : ℕ). events (courseOf h) ++ (Answer (Fails a b) ∷ map Answer gs)) (c .1 .0) (c .1 .1);
       meanwhile = x .meanwhile;
     }
-
--- what an answer is taken for is under way
-phase-waits : (p : Phase) (b : Bool) → takes p b ≡ true → eqb (statusOf p) 19 ≡ true
-phase-waits phase.Idle b e = e
-phase-waits phase.Halted b e = e
-phase-waits phase.Wait b e = refl
-phase-waits phase.FlushAll b e = refl
-phase-waits phase.ProtectNone0 b e = refl
-phase-waits phase.ProtectNone1 b e = refl
-phase-waits phase.Invalidate b e = refl
-phase-waits phase.Release b e = refl
-phase-waits phase.Modify b e = refl
-phase-waits phase.Accept b e = refl
-phase-waits phase.Zero b e = refl
-phase-waits phase.ProtectDefault0 b e = refl
-phase-waits phase.ProtectDefault1 b e = refl
-
-taken-waits : (w : World) (g : Given) → takenBy g w ≡ true → underWay w ≡ true
-taken-waits w g t = by g t
-  where
-    go : (b f : Bool) → cond b (takesAt (stageIn (w .state)) f) (takes (phaseIn (w .state)) f) ≡ true → eqb (cond b 19 (statusOf (phaseIn (w .state)))) 19 ≡ true
-    go true f e = refl
-    go false f e = phase-waits (phaseIn (w .state)) f e
-
-    by : (g : Given) → takenBy g w ≡ true → underWay w ≡ true
-    by Succeeds t = go (isChanging (w .state)) false (answer-takes (w .state) (fits w) false (eqb-true _ _ t))
-    by (Fails code n) t = go (isChanging (w .state)) true (answer-takes (w .state) (fits w) true (eqb-true _ _ t))
 
 -- done after each that isn't taken
 insisting-over : (w : World) → Whole w → (gs : List Given) → (underWay w ≡ true → leftIn w ≤ length gs) → underWay (afterAll w (insisting w gs)) ≡ false
@@ -303,6 +345,10 @@ dones-unrefused (suc n) w k = (claims.done-taken w (k .long) (k .fit), dones-unr
 stands-told : (es : List MemoryRangeWithNode) (v : World) (o : Seen) → Stands es v o → Told v o
 stands-told es v o k = record { waits = k .waits; takes = taken-seen es v o k }
 
+-- while a request is under way done is taken
+done-answers : (es : List MemoryRangeWithNode) (v : World) (o : Seen) → Lent es v o → {x : World} (c : DoneCall v x) → isWaiting o ≡ true → isTaken o (c .result) ≡ true
+done-answers es v o k c b = ap (λ (X : Outcome). isTaken o (X .reply)) (done-is c) ∙ taken-seen es v o (k .stands) Succeeds ∙ claims.done-taken v (k .whole .long) (k .whole .fit) (sym (k .stands .waits) ∙ b)
+
 module _ (es : List MemoryRangeWithNode) (v : World) (o : Seen) (k : Lent es v o) where
   giving : (gs : List Given) → Answers v o gs
   unfolding courseOf events Meanwhile
@@ -314,14 +360,45 @@ module _ (es : List MemoryRangeWithNode) (v : World) (o : Seen) (k : Lent es v o
   unfolding giving
   ending gs e = record { answers = giving gs; over = at-stop es (k .stands) (giving gs .calls) .waits ∙ e }
 
+  -- done so many times
+  done-heard : {x y : World} {p : Seen} → Lent es x p → (c : DoneCall x y) → (isTaken p (c .result) || not (isWaiting p)) ≡ true
+  done-heard {x} {p = p} s c = go (isWaiting p) refl
+    where
+      go : (b : Bool) → isWaiting p ≡ b → (isTaken p (c .result) || not b) ≡ true
+      go true b = ap (λ (t : Bool). t || false) (done-answers es x p s c b)
+      go false b = or-true (isTaken p (c .result))
+        where
+          or-true : (b : Bool) → (b || true) ≡ true
+          or-true true = refl
+          or-true false = refl
+
+  hearing : (n : ℕ) → Heard v o n
+  unfolding courseOf Meanwhile heardIn
+  hearing zero = record { world = v; seen = o; calls = at.none; meanwhile = tt; heard = refl }
+  hearing (suc n) =
+      let x = hearing n in
+      let c = any-call (x .world) .done in
+      record {
+        world = answerDone (x .world) .world;
+        seen = seesAnswer Succeeds (c .result) (answerDone (x .world) .world .pages) (x .seen);
+        calls = at.done (x .calls) c;
+        meanwhile = x .meanwhile;
+        heard = ap₂ (λ (b : Bool) (n : ℕ). cond b 1 0 + n) (done-heard (history-keeps (Lent es) (lent-kept es) (x .calls) k) c) (x .heard) ∙ one-more n;
+      }
+    where
+      one-more : (n : ℕ) → 1 + n ≡ suc n
+      one-more n = omega arith
+
   pub lent-ends : RequestEnds v o
   lent-ends =
       record {
         told = stands-told es v o (k .stands);
         falls = λ h. steps-fall es (k .stands) h;
         few = λ h m. sum-falls (courseOf h) (steps-fall es (k .stands) h) m;
-        ends = λ h. request-ends es (k .stands) h;
-        done-taken = λ c b. ap (λ (X : Outcome). isTaken o (X .reply)) (done-is c) ∙ taken-seen es v o (k .stands) Succeeds ∙ claims.done-taken v (k .whole .long) (k .whole .fit) (sym (k .stands .waits) ∙ b);
+        still = λ h m. still-fewer es (k .stands) h m;
+        ends = λ h m. request-ends es (k .stands) h m;
+        heard = hearing;
+        done-taken = λ c b. done-answers es v o k c b;
         given = giving;
         insisted = λ gs e. ending (insisting v gs) (insisting-over v (k .whole) gs (λ _. e));
         unrefused-end = λ gs r e. ending gs (claims.every-request-ends v gs r e);

@@ -1,7 +1,7 @@
 -- Every request ends (01, "The request under way"): while one is under way, a taken answer lowers the number of the operations to come, and no other call
 -- changes anything. Under way and taken are told from the calls and what they gave.
 use mathlib.Core.Path.{_≡_}
-use mathlib.Core.Bool.{Bool, true, false, cond}
+use mathlib.Core.Bool.{Bool, true, false, cond, not, _||_}
 use mathlib.Core.List.{List, [], _∷_, _++_, map}
 use Prim.Native.Nat.{ℕ, _+_, _≤_, _<_}
 use lib.ListN.{length, replicate}
@@ -62,10 +62,17 @@ takenIn start = 0
 takenIn (answer h g b) = cond b 1 0 + takenIn h
 takenIn (other h) = takenIn h
 
--- a taken answer lowers the number; one that isn't taken changes nothing, nor does any other call while a request is under way
+-- how many answers came, but for those that were refused while a request was under way: each that was taken, and each that came while none was under way
+unfoldable pub heardIn : {w v : World} {a o : Seen} → Course w a v o → ℕ
+heardIn start = 0
+heardIn (answer {u} {v} {o} h g b) = cond (b || not (isWaiting o)) 1 0 + heardIn h
+heardIn (other h) = heardIn h
+
+-- a taken answer lowers the number; one that isn't taken changes nothing, nor does any other call while a request is under way; and while none is under way
+-- no answer begins one
 unfoldable pub Falls : {w v : World} {a o : Seen} → Course w a v o → Type 0
 Falls start = Unit {0}
-Falls (answer {u} {v} h g b) = Falls h × (b ≡ true → leftIn v < leftIn u) × (b ≡ false → v ≡ u)
+Falls (answer {u} {v} {o} {p} h g b) = Falls h × (b ≡ true → leftIn v < leftIn u) × (b ≡ false → v ≡ u) × (isWaiting p ≡ true → isWaiting o ≡ true)
 Falls (other {u} {v} {o} h) = Falls h × (isWaiting o ≡ true → v ≡ u)
 
 -- each call but an answer came while a request was under way, so that no other began
@@ -85,18 +92,27 @@ events start = []
 events (answer h g b) = events h ++ (Answer g ∷ [])
 events (other h) = events h ++ (Other ∷ [])
 
--- a list of calls from v, where o was seen: these answers in turn and no other call; once as many were taken as the number says, nothing is under way
+-- a list of calls from v, where o was seen: these answers in turn and no other call; if as many came as the number says, those refused while the request was
+-- under way not counted, nothing is under way
 pub record Answers (v : World) (o : Seen) (gs : List Given) : Type 0 where
   pub world : World
   pub seen : Seen
   pub calls : History v o world seen
   pub alone : events (courseOf calls) ≡ map Answer gs
-  pub enough : leftIn v ≤ takenIn (courseOf calls) → isWaiting seen ≡ false
+  pub enough : leftIn v ≤ heardIn (courseOf calls) → isWaiting seen ≡ false
 
 -- one at whose end nothing is under way
 pub record Ends (v : World) (o : Seen) (gs : List Given) : Type 0 where
   pub answers : Answers v o gs
   pub over : isWaiting (answers .seen) ≡ false
+
+-- a list of calls from v in which so many answers came, those refused while a request was under way not counted
+pub record Heard (v : World) (o : Seen) (n : ℕ) : Type 0 where
+  pub world : World
+  pub seen : Seen
+  pub calls : History v o world seen
+  pub meanwhile : Meanwhile (courseOf calls)
+  pub heard : heardIn (courseOf calls) ≡ n
 
 -- answers in turn, and done after each that isn't taken
 unfoldable pub insisting : World → List Given → List Given
@@ -114,9 +130,13 @@ pub record RequestEnds (v : World) (o : Seen) : Type 0 where
   pub told : Told v o
   -- in any list of calls each taken answer lowers the number, and nothing else changes it while a request is under way
   pub falls : {x : World} {p : Seen} (h : History v o x p) → Falls (courseOf h)
-  -- so no more answers are taken than it says, and as many as it says end the request
+  -- so no more answers are taken than it says, and fewer while the request is still under way
   pub few : {x : World} {p : Seen} (h : History v o x p) → Meanwhile (courseOf h) → leftIn x + takenIn (courseOf h) ≤ leftIn v
-  pub ends : {x : World} {p : Seen} (h : History v o x p) → Meanwhile (courseOf h) → leftIn v ≤ takenIn (courseOf h) → isWaiting p ≡ false
+  pub still : {x : World} {p : Seen} (h : History v o x p) → Meanwhile (courseOf h) → isWaiting p ≡ true → takenIn (courseOf h) < leftIn v
+  -- and it has ended once as many answers came as it says, of any kind and with any refused calls between them: only an answer that is refused while the
+  -- request is under way doesn't count. Lists with any such number of answers exist
+  pub ends : {x : World} {p : Seen} (h : History v o x p) → Meanwhile (courseOf h) → leftIn v ≤ heardIn (courseOf h) → isWaiting p ≡ false
+  pub heard : (n : ℕ) → Heard v o n
   -- while it is under way done is taken
   pub done-taken : {x : World} (c : DoneCall v x) → isWaiting o ≡ true → isTaken o (c .result) ≡ true
   -- any answers can be given; and any so many, with done after each that isn't taken, end the request, as do so many of which none is refused
