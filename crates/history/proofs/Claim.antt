@@ -1,6 +1,6 @@
 -- A build that is taken: what stands of it, and THE CLAIM of every list of calls from it, wherever it stops. Assumes nothing.
 use Prim.Native.Nat.{ℕ, _-_, _*_, _/_, _<_, _≤_}
-use mathlib.Core.Path.{_≡_, refl, sym, ap, _∙_, subst}
+use mathlib.Core.Path.{_≡_, refl, sym, ap, _∙_, subst, fun-ext}
 use mathlib.Core.List.{List}
 use mathlib.Core.Bool.{Bool, true, false, cond, _&&_}
 use native.Mathlib.Omega.{arith}
@@ -11,6 +11,7 @@ use lib.Dec.{eqb, ltb}
 use borrow.Author.Tests.{eqb-true, eqb-false, lt-ltb}
 use Rattle.laws.specs.Bools.{and-left, and-right, and-true}
 use Rattle.laws.specs.Refusal.{unless, passed}
+use Rattle.bitmap.specs.Pages.{bitAt}
 use Rattle.bitmap.proofs.Map.{length-written}
 use Rattle.layout.specs.declared.MemoryRangeWithNode.{MemoryRangeWithNode}
 use Rattle.layout.specs.Layout.{entriesOf, refusalOf, isRam, mapLen}
@@ -22,25 +23,28 @@ use Rattle.mapping.specs.Maps.{fresh, marksFit, permissionLen, permissionsFit}
 use Rattle.mapping.proofs.Marks.{fresh-page}
 use Rattle.pages.specs.Pages.{among}
 use Rattle.protector_state.specs.declared.Reply.{Reply}
-use Rattle.protector_state.specs.State.{stateLen, firstPhases, phaseOf, builtState, entriesIn}
+use Rattle.protector_state.specs.State.{stateLen, firstPhases, phaseOf, builtState, ramOf, entriesIn}
 use Rattle.protector.specs.World.{World, world, Outcome, pagesLen, tablesLen}
 use Rattle.protector.specs.Calls.{refusedBy, buildFits, buildRefusal, buildTaken, buildOf}
 use Rattle.history.specs.Seen.{Seen, unseen}
-use Rattle.history.specs.Marks.{Has, Marked, Holds}
+use Rattle.history.specs.Marks.{Has, Marked, Holds, readOff, Settled}
 use Rattle.history.specs.History.{BuildCall, History}
 use Rattle.history.proofs.Bits.{clash}
 use Rattle.history.proofs.World.{Stands}
-use Rattle.history.specs.Answered.{given, Claim}
+use Rattle.history.specs.Answered.{given, ClaimFrom, Claim}
 use Rattle.history.proofs.Answered.{answered, composed}
 use Rattle.history.proofs.Calls.{status}
 use Rattle.history.proofs.Strays.{Whole}
 use Rattle.history.proofs.Histories.{Lent, lent-kept, history-keeps, stands-kept, Both, both-kept}
 use Rattle.history.proofs.Aging.{Snp}
 
-entries-built : (ram : List ℕ) (i t r : ℕ) → Fit ram → entriesIn (builtState ram i t r) ≡ entriesOf ram
-entries-built ram i t r k =
+ram-built : (ram : List ℕ) (i t r : ℕ) → Fit ram → ramOf (builtState ram i t r) ≡ ram
+ram-built ram i t r k =
     let n : length ram ≡ 3 * length (entriesOf ram) = omega (arith, k .divided, entries-count ram) in
-    ap entriesOf (take-at ram (replicate (96 - length ram) 0) (3 * length (entriesOf ram)) n)
+    take-at ram (replicate (96 - length ram) 0) (3 * length (entriesOf ram)) n
+
+entries-built : (ram : List ℕ) (i t r : ℕ) → Fit ram → entriesIn (builtState ram i t r) ≡ entriesOf ram
+entries-built ram i t r k = ap entriesOf (ram-built ram i t r k)
 
 -- a map as a build leaves it
 length-fresh : (es : List MemoryRangeWithNode) (s : Bool) (n : ℕ) → length (fresh es s n) ≡ n
@@ -56,20 +60,23 @@ fresh-ram es n z h = go (isRam es z) (ltb (z / 8) n) (sym (fresh-page es true n 
     go true b e = refl
     go false b e = e
 
-fresh-none : (es : List MemoryRangeWithNode) (n z : ℕ) → Has (fresh es false n) z → ⊥
-fresh-none es n z h = clash false (go (isRam es z && ltb (z / 8) n) ∙ sym (fresh-page es false n z) ∙ h) refl
+fresh-bare : (es : List MemoryRangeWithNode) (n z : ℕ) → bitAt 8 (fresh es false n) z ≡ false
+fresh-bare es n z = fresh-page es false n z ∙ go (isRam es z && ltb (z / 8) n)
   where
-    go : (b : Bool) → false ≡ cond b false false
+    go : (b : Bool) → cond b false false ≡ false
     go true = refl
     go false = refl
+
+fresh-none : (es : List MemoryRangeWithNode) (n z : ℕ) → Has (fresh es false n) z → ⊥
+fresh-none es n z h = clash _ h (fresh-bare es n z)
 
 module _ (u : World) (ram : List ℕ) (i t r : ℕ) (z : buildRefusal ram i t r (buildFits (mapLen (entriesOf ram)) t u) ≡ 0) where
   abbrev es : List MemoryRangeWithNode
   es = entriesOf ram
 
-  well : Fit ram
+  ram-taken : refusalOf ram ≡ 0
   unfolding buildRefusal
-  well = fit ram (eqb-true _ _ (layout-passed (refusalOf ram) _ z))
+  ram-taken = eqb-true _ _ (layout-passed (refusalOf ram) _ z)
     where
       layout-passed : (n rest : ℕ) → unless (eqb n 0) n rest ≡ 0 → eqb n 0 ≡ true
       layout-passed n rest h = go (eqb n 0) refl h
@@ -77,6 +84,9 @@ module _ (u : World) (ram : List ℕ) (i t r : ℕ) (z : buildRefusal ram i t r 
           go : (b : Bool) → eqb n 0 ≡ b → cond b rest n ≡ 0 → eqb n 0 ≡ true
           go true e h = e
           go false e h = absurd (eqb-false n 0 e h)
+
+  well : Fit ram
+  well = fit ram ram-taken
 
   lengths : buildFits (mapLen es) t u ≡ true
   unfolding buildRefusal
@@ -160,6 +170,26 @@ module _ (u : World) (ram : List ℕ) (i t r : ℕ) (z : buildRefusal ram i t r 
             (and-true _ _ (and-true _ _ marks-fit maps-fit) (and-right (eqb (length (u .state)) stateLen) _ runs-fit));
       }
 
+  -- nothing is under way, and each RAM page is marked private
+  taken-settled : Settled (buildTaken u ram i t r .world)
+  unfolding buildTaken phaseOf firstPhases
+  taken-settled =
+      let same : entriesIn (builtState ram i t r) ≡ es = entries-built ram i t r well in
+      record {
+        layout = ap refusalOf (ram-built ram i t r well) ∙ ram-taken;
+        idle = refl;
+        long = built-whole .long;
+        lent = built-whole .fit;
+        private-ram = λ z h. ap (λ (es : List MemoryRangeWithNode). isRam es z) same ∙ fresh-ram es (length (u .maps .private)) z h;
+        shared-ram = λ z h. absurd (fresh-none es (length (u .maps .shared)) z h);
+        never-both = λ z _ h. fresh-none es (length (u .maps .shared)) z h;
+        either = λ z r _. let q : isRam es z ≡ true = sym (ap (λ (es : List MemoryRangeWithNode). isRam es z) same) ∙ r in fresh-has es (length (u .maps .private)) z q (omega (arith, long-private, page-in-map ram z well q));
+      }
+
+  taken-unseen : readOff (buildTaken u ram i t r .world .maps) ≡ unseen
+  unfolding buildTaken
+  taken-unseen = ap (λ (f : ℕ → Bool). record { op = unseen .op; table = unseen .table; halted = false; listed = unseen .listed; last = f; age = unseen .age }) (fun-ext (λ z. fresh-bare es (length (u .maps .shared)) z))
+
 -- a build whose reply has no number of a refusal was taken
 pub build-taken : (u w : World) (ram : List ℕ) (i t r : ℕ) (reply : Reply) → given w reply ≡ buildOf u ram i t r → reply .number ≡ 0
     → (buildRefusal ram i t r (buildFits (mapLen (entriesOf ram)) t u) ≡ 0) × (buildTaken u ram i t r .world ≡ w)
@@ -192,17 +222,19 @@ stands-marked es w o k =
     }
 
 -- of every list of calls from any world that meets the invariant, whatever was seen before
-pub holds-from : (es : List MemoryRangeWithNode) (i : IsolationType) {w v : World} {a o : Seen} → Stands es w a → (isSnp i ≡ true → Snp w a) → History w a v o → Holds es i (v .maps) o
+holds-from : (es : List MemoryRangeWithNode) (i : IsolationType) {w v : World} {a o : Seen} → Stands es w a → (isSnp i ≡ true → Snp w a) → History w a v o → Holds es i (v .maps) o
 holds-from es i {w} {v} {a} {o} k f h =
     record {
       marks = stands-marked es v o (history-keeps (Stands es) (stands-kept es) h k);
       settled = λ e. history-keeps (Both es) (both-kept es) h (record { stands = k; ages = f e }) .ages .ages .settled;
     }
 
--- THE CLAIM, of every list of calls of the protector's entries from a build that was taken, refused calls among them, wherever it stops: each call gave what
--- its definition gives of what it was lent; the marks are what the hypervisor last took; and on SNP a page is marked private only if it was never returned,
--- or validated and then zeroed since its return
-module _ {u w v : World} {o : Seen} (b : BuildCall u w) (d : b .result .number ≡ 0) (h : History w unseen v o) where
+pub claim-from : (es : List MemoryRangeWithNode) (i : IsolationType) {w v : World} {a o : Seen} → Stands es w a → (isSnp i ≡ true → Snp w a) → (h : History w a v o) → ClaimFrom es i h
+claim-from es i k f h = record { answered = answered h; composed = composed h; holds = holds-from es i k f h }
+
+-- ---- a build that was taken
+
+module _ {u w : World} (b : BuildCall u w) (d : b .result .number ≡ 0) where
   abbrev ram : List ℕ
   ram = now (b .args .0)
 
@@ -218,14 +250,25 @@ module _ {u w v : World} {o : Seen} (b : BuildCall u w) (d : b .result .number �
   ages : isSnp (isolationOf (b .args .1 .0)) ≡ true → Snp w unseen
   ages e = subst (λ (w : World). Snp w unseen) (was .1) (built-aged u ram (b .args .1 .0) (b .args .1 .1 .0) (b .args .1 .1 .1 .0) e)
 
+  -- the world that it leaves is settled, and what is read off its marks is what is seen at a build: one start among those of Restart
+  pub built-settled : Settled w
+  built-settled = subst (λ (w : World). Settled w) (was .1) (taken-settled u ram (b .args .1 .0) (b .args .1 .1 .0) (b .args .1 .1 .1 .0) (was .0))
+
+  pub built-unseen : readOff (w .maps) ≡ unseen
+  built-unseen = subst (λ (w : World). readOff (w .maps) ≡ unseen) (was .1) (taken-unseen u ram (b .args .1 .0) (b .args .1 .1 .0) (b .args .1 .1 .1 .0) (was .0))
+
+-- THE CLAIM, of every list of calls of the protector's entries from a build that was taken, refused calls among them, wherever it stops: each call gave what
+-- its definition gives of what it was lent; the marks are what the hypervisor last took; and on SNP a page is marked private only if it was never returned,
+-- or validated and then zeroed since its return
+module _ {u w v : World} {o : Seen} (b : BuildCall u w) (d : b .result .number ≡ 0) (h : History w unseen v o) where
   pub calls-hold : Claim b h
-  calls-hold = record { built = build-is; answered = answered h; composed = composed h; holds = holds-from (entriesOf ram) (isolationOf (b .args .1 .0)) starts ages h }
+  calls-hold = record { built = build-is b d; calls = claim-from (entriesOf (ram b d)) (isolationOf (b .args .1 .0)) (starts b d) (ages b d) h }
 
   -- the invariant stands, and what was last left has its lengths
-  pub lent-holds : Lent (entriesOf ram) v o
+  pub lent-holds : Lent (entriesOf (now (b .args .0))) v o
   lent-holds =
-      let first : Whole w = subst (λ (w : World). Whole w) (was .1) (built-whole u ram (b .args .1 .0) (b .args .1 .1 .0) (b .args .1 .1 .1 .0) (was .0)) in
-      history-keeps (Lent (entriesOf ram)) (lent-kept (entriesOf ram)) h (record { stands = starts; whole = first })
+      let k : Settled w = built-settled b d in
+      history-keeps (Lent (entriesOf (now (b .args .0)))) (lent-kept (entriesOf (now (b .args .0)))) h (record { stands = starts b d; whole = record { long = k .long; fit = k .lent } })
 
   pub lengths-hold : Whole v
   lengths-hold = lent-holds .whole

@@ -409,13 +409,13 @@ module _ (es : List MemoryRangeWithNode) (v : World) (o : Seen) (k : Lent es v o
 pub every-request-ends : {u w v : World} {o : Seen} (b : BuildCall u w) → b .result .number ≡ 0 → History w unseen v o → RequestEnds v o
 every-request-ends {v = v} {o = o} b d h = lent-ends (entriesOf (now (b .args .0))) v o (lent-holds b d h)
 
--- and wherever one stops from a world that is settled; the end where its state block has its length
+-- and wherever one stops from a world that is settled
 pub settled-told : {w v : World} {o : Seen} → Settled w → History w (readOff (w .maps)) v o → Told v o
 settled-told {w} {v} {o} k h = stands-told (entriesIn (w .state)) v o (at-stop (entriesIn (w .state)) (settled-stands w k) h)
 
-pub settled-requests-end : {w v : World} {o : Seen} → Settled w → length (w .state) ≡ stateLen → History w (readOff (w .maps)) v o → RequestEnds v o
-settled-requests-end {w} {v} {o} k e h =
-    lent-ends (entriesIn (w .state)) v o (history-keeps (Lent (entriesIn (w .state))) (lent-kept (entriesIn (w .state))) h (record { stands = settled-stands w k; whole = record { long = e; fit = k .lent } }))
+pub settled-requests-end : {w v : World} {o : Seen} → Settled w → History w (readOff (w .maps)) v o → RequestEnds v o
+settled-requests-end {w} {v} {o} k h =
+    lent-ends (entriesIn (w .state)) v o (history-keeps (Lent (entriesIn (w .state))) (lent-kept (entriesIn (w .state))) h (record { stands = settled-stands w k; whole = record { long = k .long; fit = k .lent } }))
 
 -- ---- a request that is under way, of eight pages of RAM: page 3 is shared
 

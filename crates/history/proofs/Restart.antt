@@ -20,14 +20,15 @@ use Rattle.change_state.specs.State.{isChanging}
 use Rattle.protector_state.specs.State.{phaseIn, requestOf, settingsOf, ramOf, entriesIn}
 use Rattle.protector.specs.World.{World, statusOf}
 use Rattle.history.specs.Seen.{Seen}
-use Rattle.history.specs.Marks.{Has, Holds, readOff, Settled}
+use Rattle.history.specs.Marks.{Has, readOff, Settled}
+use Rattle.history.specs.Answered.{ClaimFrom}
 use Rattle.history.specs.History.{History}
 use Rattle.history.proofs.Bits.{clash}
 use Rattle.history.proofs.Right.{Right, Names, opened}
 use Rattle.history.proofs.World.{Stands}
 use Rattle.history.proofs.Ages.{Aged}
 use Rattle.history.proofs.Aging.{Snp}
-use Rattle.history.proofs.Claim.{holds-from}
+use Rattle.history.proofs.Claim.{claim-from}
 
 no-status : (n : ℕ) → eqb n 0 ≡ false → n ≡ 0 → ⊥
 no-status n e z = clash (eqb n 0) (ap (λ n. eqb n 0) z) e
@@ -114,5 +115,5 @@ module _ (w : World) (k : Settled w) where
       }
 
   -- THE CLAIM
-  pub settled-hold : {v : World} {o : Seen} → History w (readOff (w .maps)) v o → Holds es (settingsOf (w .state) .isolation) (v .maps) o
-  settled-hold h = holds-from es (settingsOf (w .state) .isolation) settled-stands settled-aged h
+  pub settled-hold : {v : World} {o : Seen} (h : History w (readOff (w .maps)) v o) → ClaimFrom es (settingsOf (w .state) .isolation) h
+  settled-hold h = claim-from es (settingsOf (w .state) .isolation) settled-stands settled-aged h

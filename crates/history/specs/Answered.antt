@@ -4,7 +4,9 @@ use mathlib.Core.Path.{_≡_}
 use mathlib.Core.List.{List}
 use Prim.Native.Nat.{ℕ}
 use denote.Ref.{now}
+use Rattle.layout.specs.declared.MemoryRangeWithNode.{MemoryRangeWithNode}
 use Rattle.layout.specs.Layout.{entriesOf}
+use Rattle.permissions.specs.declared.IsolationType.{IsolationType}
 use Rattle.permissions.specs.Flags.{isolationOf}
 use Rattle.protector_state.specs.declared.Reply.{Reply}
 use Rattle.protector.specs.World.{World, world, Outcome}
@@ -162,10 +164,16 @@ leaves (at.strayFault h c) = leaves h
 leaves (at.strayLower h c) = leaves h
 leaves (at.strayAccess h c) = leaves h
 
--- ---- the claim of a list of calls h from a build b: the build and each call gave what its definition gives, and the marks hold where the list stops
+-- ---- the claim of a list of calls h from any world, of the layout es and the isolation i: each call gave what its definition gives, and the marks hold where
+-- the list stops
+
+pub record ClaimFrom (es : List MemoryRangeWithNode) (i : IsolationType) {w v : World} {a o : Seen} (h : History w a v o) : Type 0 where
+  pub answered : Answered h
+  pub composed : v ≡ leaves h
+  pub holds : Holds es i (v .maps) o
+
+-- and from a build b: the build too gave what its definition gives
 
 pub record Claim {u w v : World} {o : Seen} (b : BuildCall u w) (h : History w unseen v o) : Type 0 where
   pub built : BuildIs b
-  pub answered : Answered h
-  pub composed : v ≡ leaves h
-  pub holds : Holds (entriesOf (now (b .args .0))) (isolationOf (b .args .1 .0)) (v .maps) o
+  pub calls : ClaimFrom (entriesOf (now (b .args .0))) (isolationOf (b .args .1 .0)) h

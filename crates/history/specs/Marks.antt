@@ -10,7 +10,8 @@ use Rattle.permissions.specs.declared.IsolationType.{IsolationType}
 use Rattle.acceptor.specs.Steps.{isSnp}
 use Rattle.pages.specs.Pages.{among}
 use Rattle.mapping.specs.Maps.{Maps}
-use Rattle.protector_state.specs.State.{ramOf, entriesIn}
+use lib.ListN.{length}
+use Rattle.protector_state.specs.State.{stateLen, ramOf, entriesIn}
 use Rattle.protector_state.specs.Reply.{finished}
 use Rattle.protector.specs.World.{World, fits, statusIn}
 use Rattle.history.specs.Seen.{Seen, Age, Never, Returned, Validated, Zeroed}
@@ -49,6 +50,7 @@ readOff m = record { op = finished 0 0 0 0; table = []; halted = false; listed =
 pub record Settled (w : World) : Type 0 where
   pub layout : refusalOf (ramOf (w .state)) ≡ 0
   pub idle : statusIn (w .state) ≡ 0
+  pub long : length (w .state) ≡ stateLen
   pub lent : fits w ≡ true
   pub private-ram : (z : ℕ) → Has (w .maps .private) z → isRam (entriesIn (w .state)) z ≡ true
   pub shared-ram : (z : ℕ) → Has (w .maps .shared) z → isRam (entriesIn (w .state)) z ≡ true
