@@ -2,28 +2,29 @@
 -- layout has a build that is taken. Assumes nothing.
 use native.Mathlib.Omega.{arith}
 use mathlib.Core.Path.{_≡_, refl}
-use mathlib.Core.Bool.{true}
+use mathlib.Core.Bool.{Bool, true, false, _&&_}
 use mathlib.Core.List.{List, [], _∷_}
 use Prim.Native.Nat.{ℕ}
-use lib.ListN.{replicate}
+use lib.ListN.{length, replicate}
 use denote.Ref.{RefT}
 use Rattle.bitmap.specs.Pages.{word, writtenFrom}
-use Rattle.layout.specs.Layout.{entriesOf, ordered, aligned, refusalOf, ramByte}
-use Rattle.mapping.specs.Maps.{maps}
+use Rattle.layout.specs.declared.MemoryRangeWithNode.{MemoryRangeWithNode}
+use Rattle.layout.specs.Layout.{entriesOf, mapLen, ordered, aligned, refusalOf, ramByte}
+use Rattle.mapping.specs.Maps.{maps, marksFit, permissionLen, permissionsFit}
 use Rattle.pages.specs.Pages.{numberOf, numberAt, numbersFrom, among, repeats}
 use Rattle.request.specs.Request.{pick, tableOf, stopAt, put}
 use Rattle.overlays.specs.Overlays.{placeFrom}
 use Rattle.locks.specs.Locks.{listsFrom, held}
 use Rattle.acceptor.specs.Steps.{operationOf, ask, cleared, startOf}
-use Rattle.protector_state.specs.State.{firstPhases, phaseOf}
+use Rattle.protector_state.specs.State.{firstPhases, phaseOf, settingsOf, entriesIn}
 use Rattle.protector_state.specs.Reply.{askedOf, flatOf}
 use Rattle.protector.specs.World.{World, world, applied}
 use Rattle.protector.specs.Calls.{carriedOut, firstRefusal, visibilityRefusal, visibilityTaken, visibilityOf, buildRefusal, buildTaken, buildOf}
 use Rattle.visibility_claims.specs.Table.{page}
-use Rattle.history.specs.History.{VisibilityCall, BuildCall, History, Stray, block, StrayLock, lockTables}
+use Rattle.history.specs.History.{VisibilityCall, BuildCall, History, block, other, lockBlock, lockTables}
 use Rattle.history.specs.Seen.{Seen, unseen, asks}
-use Rattle.history.specs.Arguments.{Callable}
-use Rattle.history.specs.Answered.{Claim, withTables, withState}
+use Rattle.history.specs.Arguments.{Callable, Strays}
+use Rattle.history.specs.Answered.{Claim}
 use Rattle.history.proofs.Claim.{calls-hold}
 use Rattle.history.proofs.Exists.{visibility-may, done-may, failed-may}
 use Rattle.history.proofs.ExistsOthers.{protection-may, default-may, register-may, unregister-may, lock-may, unlock-may, enable-may, build-may}
@@ -57,9 +58,22 @@ any-call w =
       build = λ ram isolation tracked release. (build-may ([], ([], ([], ([], ([], ([], ([], ([], ([], ([], tt)))))))))) (lend ram, (isolation, (tracked, (release, (lend (w .maps .private), (lend (w .maps .shared), (lend (w .maps .permissions .read), (lend (w .maps .permissions .write), (lend (w .maps .permissions .kernel), (lend (w .maps .permissions .user), (lend (w .state), (lend (w .pages), (lend (w .tables), tt))))))))))))), (refl, refl, refl, refl));
     }
 
--- so each may be lent something of another length, whatever was last left: no state block at all, or no tables
-pub any-stray : (u : World) → Stray u (withState u []) × StrayLock u (withTables u [])
-any-stray u = (block (λ e. absurd (omega (arith, e))), lockTables refl (λ e. absurd (omega (arith, e))))
+-- so each may be lent something of another length, whatever was last left
+pub any-stray : (u : World) → Strays u
+any-stray u =
+    record {
+      no-block = block (λ e. absurd (omega (arith, e)));
+      no-pages = other refl (none (marksFit (mapLen es) (length (u .maps .private)) (length (u .maps .shared)) && permissionsFit (permissionLen (mapLen es) (settingsOf (u .state) .tracked)) (length (u .maps .permissions .read)) (length (u .maps .permissions .write)) (length (u .maps .permissions .kernel)) (length (u .maps .permissions .user))));
+      no-lock-block = lockBlock (λ e. absurd (omega (arith, e)));
+      no-lock-tables = lockTables refl (λ e. absurd (omega (arith, e)));
+    }
+  where
+    es : List MemoryRangeWithNode
+    es = entriesIn (u .state)
+
+    none : (b : Bool) → (b && false) ≡ false
+    none true = refl
+    none false = refl
 
 -- ---- eight pages of RAM, on SNP with permissions tracked
 

@@ -1,7 +1,7 @@
--- The arguments of each call beside what it is lent, by name, the other calls having none; and that every entry has a call with any of them, whatever it is
--- lent.
+-- The arguments of each call beside what it is lent, by name, the other calls having none; that every entry has a call with any of them, whatever it is
+-- lent; and that something of another length may be lent, whatever was last left.
 use mathlib.Core.Path.{_≡_}
-use mathlib.Core.List.{List}
+use mathlib.Core.List.{List, []}
 use Prim.Native.Nat.{ℕ}
 use denote.Ref.{now}
 use Rattle.protector.specs.World.{World, world}
@@ -10,7 +10,7 @@ use Rattle.vtl_protections.specs.Calls.{protectionOf, defaultOf}
 use Rattle.overlay_pages.specs.Calls.{registerOf, unregisterOf}
 use Rattle.locked_pages.specs.Calls.{lockOf, unlockOf}
 use Rattle.vtl1_protections.specs.Calls.{enableOf}
-use Rattle.history.specs.History.{VisibilityCall, DoneCall, FailedCall, ProtectionCall, DefaultCall, RegisterCall, UnregisterCall, LockCall, UnlockCall, EnableCall, TellEnabledCall, TellDefaultCall, IsOverlayCall, QueryCall, FaultCall, LowerCall, AccessCall, BuildCall}
+use Rattle.history.specs.History.{VisibilityCall, DoneCall, FailedCall, ProtectionCall, DefaultCall, RegisterCall, UnregisterCall, LockCall, UnlockCall, EnableCall, TellEnabledCall, TellDefaultCall, IsOverlayCall, QueryCall, FaultCall, LowerCall, AccessCall, BuildCall, Stray, StrayLock}
 
 abbrev pub VisibilityWith : {w v : World} → VisibilityCall w v → ℕ → ℕ → List ℕ → Type 0
 VisibilityWith c vtl visibility l = (c .args .1 .1 .1 .1 .1 .1 .1 .1 .1 .0 ≡ vtl) × (c .args .1 .1 .1 .1 .1 .1 .1 .1 .1 .1 .0 ≡ visibility) × (now (c .args .1 .1 .1 .1 .1 .1 .1 .1 .1 .1 .1 .0) ≡ l)
@@ -75,3 +75,11 @@ pub record Callable (w : World) : Type 0 where
   pub lower : (vtl p : ℕ) → (c : LowerCall w) × LowerWith c vtl p
   pub access : (p : ℕ) → (c : AccessCall w) × AccessWith c p
   pub build : (ram : List ℕ) (isolation tracked release : ℕ) → (c : BuildCall w (buildOf w ram isolation tracked release .world)) × BuildWith c ram isolation tracked release
+
+-- ---- something of another length: no state block at all; or, beside the state block as it was left, no pages run, or no tables
+
+pub record Strays (u : World) : Type 0 where
+  pub no-block : Stray u (world (u .maps) [] (u .pages) (u .tables))
+  pub no-pages : Stray u (world (u .maps) (u .state) [] (u .tables))
+  pub no-lock-block : StrayLock u (world (u .maps) [] (u .pages) (u .tables))
+  pub no-lock-tables : StrayLock u (world (u .maps) (u .state) (u .pages) [])
