@@ -1,10 +1,9 @@
 -- Every list of calls of the protector's entries keeps what stands. Assumes nothing.
 use Prim.Native.Nat.{ℕ}
-use mathlib.Core.Path.{_≡_, sym, ap, _∙_, subst}
+use mathlib.Core.Path.{_≡_, sym, ap, ap₂, _∙_, subst}
 use mathlib.Core.List.{List, []}
 use mathlib.Core.Bool.{true, false, cond}
 use denote.Ref.{now}
-use lib.ListN.{length}
 use Rattle.layout.specs.declared.MemoryRangeWithNode.{MemoryRangeWithNode}
 use Rattle.permissions.specs.Flags.{vtlOf, boolOf}
 use Rattle.mapping.specs.Maps.{maps}
@@ -17,12 +16,12 @@ use Rattle.protector.specs.Calls.{decided, visibilityRefusal, visibilityTaken, 
 use Rattle.vtl_protections.specs.Calls.{protectionRefusal, protectionTaken, protectionOf, defaultRefusal, stored, defaultTaken, defaultOf}
 use Rattle.overlay_tests.specs.Refusals.{registerRefusal, unregisterRefusal}
 use Rattle.overlay_pages.specs.Calls.{currentIn, registerTaken, registerOf, unregisterTaken, unregisterOf}
-use Rattle.locked_pages.specs.Calls.{Kept}
+use Rattle.locked_pages.specs.Calls.{Kept, lockOf, unlockOf}
 use Rattle.vtl1_protections.specs.Calls.{Enabled, enableOf}
 use Rattle.visibility_claims.specs.Whole.{Given, Succeeds, Fails}
 use Rattle.visibility_claims.specs.Calls.{answerOf}
 use Rattle.history.specs.Seen.{Seen, seesCall, seesAnswer}
-use Rattle.history.specs.History.{strayLock, strayUnlock, strayEnable, strayTellEnabled, strayTellDefault, strayIsOverlay, strayQuery, strayFault, strayLower, strayAccess, Stray, strayVisibility, strayDone, strayFailed, strayProtection, strayDefault, strayRegister, strayUnregister, VisibilityCall, DoneCall, FailedCall, ProtectionCall, DefaultCall, RegisterCall, UnregisterCall, History, none, visibility, done, failed, protection, default, register, unregister, lock, unlock, enable, tellEnabled, tellDefault, isOverlay, query, fault, lower, access}
+use Rattle.history.specs.History.{strayLock, strayUnlock, strayEnable, strayTellEnabled, strayTellDefault, strayIsOverlay, strayQuery, strayFault, strayLower, strayAccess, Stray, strayVisibility, strayDone, strayFailed, strayProtection, strayDefault, strayRegister, strayUnregister, VisibilityCall, DoneCall, FailedCall, ProtectionCall, DefaultCall, RegisterCall, UnregisterCall, LockCall, UnlockCall, History, none, visibility, done, failed, protection, default, register, unregister, lock, unlock, enable, tellEnabled, tellDefault, isOverlay, query, fault, lower, access}
 use Rattle.history.specs.Answered.{given, VisibilityIs, DoneIs, FailedIs, ProtectionIs, DefaultIs, RegisterIs, UnregisterIs}
 use Rattle.history.proofs.World.{Stands}
 use Rattle.history.proofs.Answers.{answer-stands}
@@ -56,6 +55,18 @@ register-is c = rw (c .left, c .given) (c .contract)
 pub unregister-is : {w v : World} (c : UnregisterCall w v) → UnregisterIs c
 unregister-is c = rw (c .left, c .given) (c .contract)
 
+lock-leaves : {u v : World} (c : LockCall u v) → v ≡ world (u .maps) (u .state) (u .pages) (lockOf (u .state) (u .tables) (c .args .1 .1 .0) (now (c .args .1 .1 .1 .0)) .tables)
+lock-leaves {u} c =
+    c .left
+    ∙ ap (λ (t : List ℕ). world (u .maps) (u .state) (u .pages) t)
+    (ap (λ (x : Kept). x .tables) (c .contract) ∙ ap₂ (λ (s t : List ℕ). lockOf s t (c .args .1 .1 .0) (now (c .args .1 .1 .1 .0)) .tables) (sym (c .given-state)) (sym (c .given-tables)))
+
+unlock-leaves : {u v : World} (c : UnlockCall u v) → v ≡ world (u .maps) (u .state) (u .pages) (unlockOf (u .state) (u .tables) (c .args .1 .1 .0) (now (c .args .1 .1 .1 .0)) .tables)
+unlock-leaves {u} c =
+    c .left
+    ∙ ap (λ (t : List ℕ). world (u .maps) (u .state) (u .pages) t)
+    (ap (λ (x : Kept). x .tables) (c .contract) ∙ ap₂ (λ (s t : List ℕ). unlockOf s t (c .args .1 .1 .0) (now (c .args .1 .1 .1 .0)) .tables) (sym (c .given-state)) (sym (c .given-tables)))
+
 -- ---- what every call and answer keeps, every list of calls keeps
 
 pub record Keeps (K : World → Seen → Type 0) : Type 0 where
@@ -66,7 +77,8 @@ pub record Keeps (K : World → Seen → Type 0) : Type 0 where
   pub default : (w : World) (o : Seen) → K w o → (vtl flags : ℕ) → let X = defaultOf w vtl flags in K (X .world) (seesCall [] (X .reply) (X .world .pages) o)
   pub register : (w : World) (o : Seen) → K w o → (vtl p source checked new : ℕ) → let X = registerOf w vtl p source checked new in K (X .world) (seesCall [] (X .reply) (X .world .pages) o)
   pub unregister : (w : World) (o : Seen) → K w o → (vtl p : ℕ) → let X = unregisterOf w vtl p in K (X .world) (seesCall [] (X .reply) (X .world .pages) o)
-  pub locks : (w : World) (o : Seen) → K w o → (tables : List ℕ) → length tables ≡ length (w .tables) → K (world (w .maps) (w .state) (w .pages) tables) o
+  pub locks : (w : World) (o : Seen) → K w o → (vtl : ℕ) (l : List ℕ) → K (world (w .maps) (w .state) (w .pages) (lockOf (w .state) (w .tables) vtl l .tables)) o
+  pub unlocks : (w : World) (o : Seen) → K w o → (vtl : ℕ) (l : List ℕ) → K (world (w .maps) (w .state) (w .pages) (unlockOf (w .state) (w .tables) vtl l .tables)) o
   pub enables : (w : World) (o : Seen) → K w o → K (world (w .maps) (enableOf (w .state) .state) (w .pages) (w .tables)) o
 
 module _ (K : World → Seen → Type 0) (f : Keeps K) where
@@ -114,12 +126,8 @@ module _ (K : World → Seen → Type 0) (f : Keeps K) where
   history-keeps (unregister {u} {v} {o} h c) k = by-call _ o v (c .result) _ (unregister-is c) (f .unregister u o (history-keeps h k) (c .args .1 .1 .1 .1 .1 .1 .1 .1 .1 .0) (c .args .1 .1 .1 .1 .1 .1 .1 .1 .1 .1 .0))
   history-keeps (done {u} {v} {o} h c) k = by-answer Succeeds o v (c .result) (answerDone u) (done-is c) (f .answer u o (history-keeps h k) Succeeds)
   history-keeps (failed {u} {v} {o} h c) k = by-answer (Fails (c .args .1 .1 .1 .1 .1 .1 .1 .1 .1 .0) (c .args .1 .1 .1 .1 .1 .1 .1 .1 .1 .1 .0)) o v (c .result) _ (failed-is c) (f .answer u o (history-keeps h k) (Fails (c .args .1 .1 .1 .1 .1 .1 .1 .1 .1 .0) (c .args .1 .1 .1 .1 .1 .1 .1 .1 .1 .1 .0)))
-  history-keeps (lock {u} {v} {o} h c) k =
-      let e : length (now (c .exit .1 .0)) ≡ length (u .tables) = ap (λ (x : Kept). length (x .tables)) (c .contract) ∙ lock-tables-long (now (c .args .0)) (now (c .args .1 .0)) (c .args .1 .1 .0) (now (c .args .1 .1 .1 .0)) ∙ ap length (sym (c .given-tables)) in
-      subst (λ (v : World). K v o) (sym (c .left)) (f .locks u o (history-keeps h k) (now (c .exit .1 .0)) e)
-  history-keeps (unlock {u} {v} {o} h c) k =
-      let e : length (now (c .exit .1 .0)) ≡ length (u .tables) = ap (λ (x : Kept). length (x .tables)) (c .contract) ∙ unlock-tables-long (now (c .args .0)) (now (c .args .1 .0)) (c .args .1 .1 .0) (now (c .args .1 .1 .1 .0)) ∙ ap length (sym (c .given-tables)) in
-      subst (λ (v : World). K v o) (sym (c .left)) (f .locks u o (history-keeps h k) (now (c .exit .1 .0)) e)
+  history-keeps (lock {u} {v} {o} h c) k = subst (λ (v : World). K v o) (sym (lock-leaves c)) (f .locks u o (history-keeps h k) (c .args .1 .1 .0) (now (c .args .1 .1 .1 .0)))
+  history-keeps (unlock {u} {v} {o} h c) k = subst (λ (v : World). K v o) (sym (unlock-leaves c)) (f .unlocks u o (history-keeps h k) (c .args .1 .1 .0) (now (c .args .1 .1 .1 .0)))
   history-keeps (enable {u} {v} {o} h c) k =
       let e : enableOf (u .state) .state ≡ now (c .exit .0) = ap (λ (s : List ℕ). enableOf s .state) (c .given-state) ∙ sym (ap (λ (x : Enabled). x .state) (c .contract)) in
       subst (λ (v : World). K v o) (ap (λ (s : List ℕ). world (u .maps) s (u .pages) (u .tables)) e ∙ sym (c .left)) (f .enables u o (history-keeps h k))
@@ -160,7 +168,8 @@ stands-kept es =
       default = λ w o k. default-stands es w o k;
       register = λ w o k. register-stands es w o k;
       unregister = λ w o k. unregister-stands es w o k;
-      locks = λ w o k t e. tables-stand es w o k t;
+      locks = λ w o k a l. tables-stand es w o k _;
+      unlocks = λ w o k a l. tables-stand es w o k _;
       enables = λ w o k. enable-stands es w o k;
     }
 
@@ -178,7 +187,8 @@ both-kept es =
       default = λ w o k a b. record { stands = default-stands es w o (k .stands) a b; ages = default-aged es w o (k .stands) (k .ages) a b };
       register = λ w o k a b c d e. record { stands = register-stands es w o (k .stands) a b c d e; ages = register-aged es w o (k .stands) (k .ages) a b c d e };
       unregister = λ w o k a b. record { stands = unregister-stands es w o (k .stands) a b; ages = unregister-aged es w o (k .stands) (k .ages) a b };
-      locks = λ w o k t e. record { stands = tables-stand es w o (k .stands) t; ages = tables-aged es w o (k .stands) (k .ages) t };
+      locks = λ w o k a l. record { stands = tables-stand es w o (k .stands) _; ages = tables-aged es w o (k .stands) (k .ages) _ };
+      unlocks = λ w o k a l. record { stands = tables-stand es w o (k .stands) _; ages = tables-aged es w o (k .stands) (k .ages) _ };
       enables = λ w o k. record { stands = enable-stands es w o (k .stands); ages = enable-aged es w o (k .stands) (k .ages) };
     }
 
@@ -198,6 +208,7 @@ lent-kept es =
       default = λ w o k a b. record { stands = default-stands es w o (k .stands) a b; whole = default-long w (k .whole) a b };
       register = λ w o k a b c d e. record { stands = register-stands es w o (k .stands) a b c d e; whole = register-long w (k .whole) a b c d e };
       unregister = λ w o k a b. record { stands = unregister-stands es w o (k .stands) a b; whole = unregister-long w (k .whole) a b };
-      locks = λ w o k t e. record { stands = tables-stand es w o (k .stands) t; whole = tables-whole w t e (k .whole) };
+      locks = λ w o k a l. record { stands = tables-stand es w o (k .stands) _; whole = tables-whole w _ (lock-tables-long (w .state) (w .tables) a l) (k .whole) };
+      unlocks = λ w o k a l. record { stands = tables-stand es w o (k .stands) _; whole = tables-whole w _ (unlock-tables-long (w .state) (w .tables) a l) (k .whole) };
       enables = λ w o k. record { stands = enable-stands es w o (k .stands); whole = enable-long w (k .whole) };
     }
