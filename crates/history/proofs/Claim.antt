@@ -1,4 +1,4 @@
--- A build that is taken: what stands of it, and THE CLAIM of every list of calls from it, wherever it stops. Assumes nothing.
+-- A build that is taken leaves a world that is settled; so THE CLAIM holds of every list of calls from it, wherever it stops. Assumes nothing.
 use Prim.Native.Nat.{ℕ, _-_, _*_, _/_, _<_, _≤_}
 use mathlib.Core.Path.{_≡_, refl, sym, ap, _∙_, subst, fun-ext}
 use mathlib.Core.List.{List}
@@ -10,7 +10,7 @@ use lib.Seq.{take-at}
 use lib.Dec.{eqb, ltb}
 use borrow.Author.Tests.{eqb-true, eqb-false, lt-ltb}
 use Rattle.laws.specs.Bools.{and-left, and-right, and-true}
-use Rattle.laws.specs.Refusal.{unless, passed}
+use Rattle.laws.specs.Refusal.{passed}
 use Rattle.bitmap.specs.Pages.{bitAt}
 use Rattle.bitmap.proofs.Map.{length-written}
 use Rattle.layout.specs.declared.MemoryRangeWithNode.{MemoryRangeWithNode}
@@ -18,25 +18,21 @@ use Rattle.layout.specs.Layout.{entriesOf, refusalOf, isRam, mapLen}
 use Rattle.layout.proofs.Laws.{Fit, fit, entries-count, page-in-map}
 use Rattle.permissions.specs.declared.IsolationType.{IsolationType}
 use Rattle.permissions.specs.Flags.{fitIsolation, isolationOf, fitBool, boolOf}
-use Rattle.acceptor.specs.Steps.{isSnp}
 use Rattle.mapping.specs.Maps.{fresh, marksFit, permissionLen, permissionsFit}
 use Rattle.mapping.proofs.Marks.{fresh-page}
-use Rattle.pages.specs.Pages.{among}
 use Rattle.protector_state.specs.declared.Reply.{Reply}
-use Rattle.protector_state.specs.State.{stateLen, firstPhases, phaseOf, builtState, ramOf, entriesIn}
+use Rattle.protector_state.specs.State.{stateLen, firstPhases, phaseOf, builtState, settingsOf, ramOf, entriesIn}
 use Rattle.protector.specs.World.{World, world, Outcome, pagesLen, tablesLen}
 use Rattle.protector.specs.Calls.{refusedBy, buildFits, buildRefusal, buildTaken, buildOf}
 use Rattle.history.specs.Seen.{Seen, unseen}
-use Rattle.history.specs.Marks.{Has, Marked, Holds, readOff, Settled}
+use Rattle.history.specs.Marks.{Has, readOff, Settled}
 use Rattle.history.specs.History.{BuildCall, History}
 use Rattle.history.proofs.Bits.{clash}
-use Rattle.history.proofs.World.{Stands}
 use Rattle.history.specs.Answered.{given, ClaimFrom, Claim}
-use Rattle.history.proofs.Answered.{answered, composed}
 use Rattle.history.proofs.Calls.{status}
 use Rattle.history.proofs.Strays.{Whole}
-use Rattle.history.proofs.Histories.{Lent, lent-kept, history-keeps, stands-kept, Both, both-kept}
-use Rattle.history.proofs.Aging.{Snp}
+use Rattle.history.proofs.Histories.{Lent}
+use Rattle.history.proofs.Restart.{settled-hold, settled-lent}
 
 ram-built : (ram : List ℕ) (i t r : ℕ) → Fit ram → ramOf (builtState ram i t r) ≡ ram
 ram-built ram i t r k =
@@ -76,14 +72,7 @@ module _ (u : World) (ram : List ℕ) (i t r : ℕ) (z : buildRefusal ram i t r 
 
   ram-taken : refusalOf ram ≡ 0
   unfolding buildRefusal
-  ram-taken = eqb-true _ _ (layout-passed (refusalOf ram) _ z)
-    where
-      layout-passed : (n rest : ℕ) → unless (eqb n 0) n rest ≡ 0 → eqb n 0 ≡ true
-      layout-passed n rest h = go (eqb n 0) refl h
-        where
-          go : (b : Bool) → eqb n 0 ≡ b → cond b rest n ≡ 0 → eqb n 0 ≡ true
-          go true e h = e
-          go false e h = absurd (eqb-false n 0 e h)
+  ram-taken = status (refusalOf ram) _ z .0
 
   well : Fit ram
   well = fit ram ram-taken
@@ -91,16 +80,8 @@ module _ (u : World) (ram : List ℕ) (i t r : ℕ) (z : buildRefusal ram i t r 
   lengths : buildFits (mapLen es) t u ≡ true
   unfolding buildRefusal
   lengths =
-      let a = status (refusalOf ram) _ z in
-      let b = passed (fitIsolation i) 2 _ a in
+      let b = passed (fitIsolation i) 2 _ (status (refusalOf ram) _ z .1) in
       passed (buildFits (mapLen es) t u) 3 _ (b .1) .0
-    where
-      status : (n rest : ℕ) → unless (eqb n 0) n rest ≡ 0 → rest ≡ 0
-      status n rest h = go (eqb n 0) refl h
-        where
-          go : (b : Bool) → eqb n 0 ≡ b → cond b rest n ≡ 0 → rest ≡ 0
-          go true e h = h
-          go false e h = absurd (eqb-false n 0 e h)
 
   marks-fit : marksFit (mapLen es) (length (u .maps .private)) (length (u .maps .shared)) ≡ true
   marks-fit = and-left _ _ lengths
@@ -108,36 +89,6 @@ module _ (u : World) (ram : List ℕ) (i t r : ℕ) (z : buildRefusal ram i t r 
   long-private : length (u .maps .private) ≡ mapLen es
   long-private = eqb-true _ _ (and-left _ _ marks-fit)
 
-  long-shared : length (u .maps .shared) ≡ mapLen es
-  long-shared = eqb-true _ _ (and-right (eqb (length (u .maps .private)) (mapLen es)) _ marks-fit)
-
-  built-stands : Stands es (buildTaken u ram i t r .world) unseen
-  unfolding buildTaken phaseOf firstPhases
-  built-stands =
-      record {
-        layout = entries-built ram i t r well;
-        right =
-            record {
-              room-private = λ z r. omega (arith, length-fresh es true (length (u .maps .private)), long-private, page-in-map ram z well r);
-              room-shared = λ z r. omega (arith, length-fresh es false (length (u .maps .shared)), long-shared, page-in-map ram z well r);
-              private-ram = λ z h. fresh-ram es (length (u .maps .private)) z h;
-              shared-ram = λ z h. absurd (fresh-none es (length (u .maps .shared)) z h);
-              only-private = λ z h. refl;
-              only-shared = λ z h. absurd (fresh-none es (length (u .maps .shared)) z h);
-              full = λ z r a off. (λ _. fresh-has es (length (u .maps .private)) z r (omega (arith, long-private, page-in-map ram z well r)), λ e. clash false e refl);
-              bare = λ e. clash false e refl;
-              once = λ e. clash false e refl;
-              toward = λ e. clash false e refl;
-              within = λ e. clash false e refl;
-              named = λ e. clash false e refl;
-            };
-        halts = refl;
-        waits = refl;
-        names = refl;
-        table = λ e. clash false e refl;
-      }
-
-  -- and the lengths
   short-ram : length ram ≤ 96
   short-ram = omega (arith, well .divided, well .few, entries-count ram)
 
@@ -186,6 +137,14 @@ module _ (u : World) (ram : List ℕ) (i t r : ℕ) (z : buildRefusal ram i t r 
         either = λ z r _. let q : isRam es z ≡ true = sym (ap (λ (es : List MemoryRangeWithNode). isRam es z) same) ∙ r in fresh-has es (length (u .maps .private)) z q (omega (arith, long-private, page-in-map ram z well q));
       }
 
+  taken-entries : entriesIn (buildTaken u ram i t r .world .state) ≡ es
+  unfolding buildTaken
+  taken-entries = entries-built ram i t r well
+
+  taken-isolation : settingsOf (buildTaken u ram i t r .world .state) .isolation ≡ isolationOf i
+  unfolding buildTaken
+  taken-isolation = refl
+
   taken-unseen : readOff (buildTaken u ram i t r .world .maps) ≡ unseen
   unfolding buildTaken
   taken-unseen = ap (λ (f : ℕ → Bool). record { op = unseen .op; table = unseen .table; halted = false; listed = unseen .listed; last = f; age = unseen .age }) (fun-ext (λ z. fresh-bare es (length (u .maps .shared)) z))
@@ -203,35 +162,6 @@ build-taken u w ram i t r reply e d = go (eqb n 0) refl e
     go true h e = (eqb-true n 0 h, ap (λ (X : Outcome). X .world) (sym e))
     go false h e = absurd (eqb-false n 0 h (sym (ap (λ (X : Outcome). X .reply .number) e) ∙ d))
 
-built-aged : (u : World) (ram : List ℕ) (i t r : ℕ) → isSnp (isolationOf i) ≡ true → Snp (buildTaken u ram i t r .world) unseen
-unfolding buildTaken phaseOf firstPhases
-built-aged u ram i t r e =
-    record { snp = e; ages = record { settled = λ z h. refl; long = λ o. clash false o refl; came = λ o. clash false o refl; past = λ o. clash false o refl; valid = λ o. clash false o refl } }
-
--- what stands says of the marks
-pub stands-marked : (es : List MemoryRangeWithNode) (w : World) (o : Seen) → Stands es w o → Marked es (w .maps) o
-stands-marked es w o k =
-    let g = k .right in
-    record {
-      exact = λ z r off. g .full z r (λ j a b d y. clash (among (o .listed) z) (ap (among (o .listed)) (sym y) ∙ g .named a j b d) off) (λ _. off);
-      private-right = g .only-private;
-      shared-right = g .only-shared;
-      never-both = λ z a b. clash (o .last z) (g .only-shared z b) (g .only-private z a);
-      private-ram = g .private-ram;
-      shared-ram = g .shared-ram;
-    }
-
--- of every list of calls from any world that meets the invariant, whatever was seen before
-holds-from : (es : List MemoryRangeWithNode) (i : IsolationType) {w v : World} {a o : Seen} → Stands es w a → (isSnp i ≡ true → Snp w a) → History w a v o → Holds es i (v .maps) o
-holds-from es i {w} {v} {a} {o} k f h =
-    record {
-      marks = stands-marked es v o (history-keeps (Stands es) (stands-kept es) h k);
-      settled = λ e. history-keeps (Both es) (both-kept es) h (record { stands = k; ages = f e }) .ages .ages .settled;
-    }
-
-pub claim-from : (es : List MemoryRangeWithNode) (i : IsolationType) {w v : World} {a o : Seen} → Stands es w a → (isSnp i ≡ true → Snp w a) → (h : History w a v o) → ClaimFrom es i h
-claim-from es i k f h = record { answered = answered h; composed = composed h; holds = holds-from es i k f h }
-
 -- ---- a build that was taken
 
 module _ {u w : World} (b : BuildCall u w) (d : b .result .number ≡ 0) where
@@ -244,31 +174,39 @@ module _ {u w : World} (b : BuildCall u w) (d : b .result .number ≡ 0) where
   was : (buildRefusal ram (b .args .1 .0) (b .args .1 .1 .0) (b .args .1 .1 .1 .0) (buildFits (mapLen (entriesOf ram)) (b .args .1 .1 .0) u) ≡ 0) × (buildTaken u ram (b .args .1 .0) (b .args .1 .1 .0) (b .args .1 .1 .1 .0) .world ≡ w)
   was = build-taken u w ram (b .args .1 .0) (b .args .1 .1 .0) (b .args .1 .1 .1 .0) (b .result) build-is d
 
-  starts : Stands (entriesOf ram) w unseen
-  starts = subst (λ (w : World). Stands (entriesOf ram) w unseen) (was .1) (built-stands u ram (b .args .1 .0) (b .args .1 .1 .0) (b .args .1 .1 .1 .0) (was .0))
-
-  ages : isSnp (isolationOf (b .args .1 .0)) ≡ true → Snp w unseen
-  ages e = subst (λ (w : World). Snp w unseen) (was .1) (built-aged u ram (b .args .1 .0) (b .args .1 .1 .0) (b .args .1 .1 .1 .0) e)
-
-  -- the world that it leaves is settled, and what is read off its marks is what is seen at a build: one start among those of Restart
+  -- the world that it leaves is settled, and what is read off its marks is what is seen at a build: one start among those that Restart is about
   pub built-settled : Settled w
   built-settled = subst (λ (w : World). Settled w) (was .1) (taken-settled u ram (b .args .1 .0) (b .args .1 .1 .0) (b .args .1 .1 .1 .0) (was .0))
 
   pub built-unseen : readOff (w .maps) ≡ unseen
   built-unseen = subst (λ (w : World). readOff (w .maps) ≡ unseen) (was .1) (taken-unseen u ram (b .args .1 .0) (b .args .1 .1 .0) (b .args .1 .1 .1 .0) (was .0))
 
+  same-entries : entriesIn (w .state) ≡ entriesOf ram
+  same-entries = subst (λ (w : World). entriesIn (w .state) ≡ entriesOf ram) (was .1) (taken-entries u ram (b .args .1 .0) (b .args .1 .1 .0) (b .args .1 .1 .1 .0) (was .0))
+
+  same-isolation : settingsOf (w .state) .isolation ≡ isolationOf (b .args .1 .0)
+  same-isolation = subst (λ (w : World). settingsOf (w .state) .isolation ≡ isolationOf (b .args .1 .0)) (was .1) (taken-isolation u ram (b .args .1 .0) (b .args .1 .1 .0) (b .args .1 .1 .1 .0) (was .0))
+
 -- THE CLAIM, of every list of calls of the protector's entries from a build that was taken, refused calls among them, wherever it stops: each call gave what
 -- its definition gives of what it was lent; the marks are what the hypervisor last took; and on SNP a page is marked private only if it was never returned,
 -- or validated and then zeroed since its return
 module _ {u w v : World} {o : Seen} (b : BuildCall u w) (d : b .result .number ≡ 0) (h : History w unseen v o) where
   pub calls-hold : Claim b h
-  calls-hold = record { built = build-is b d; calls = claim-from (entriesOf (ram b d)) (isolationOf (b .args .1 .0)) (starts b d) (ages b d) h }
+  calls-hold =
+      record {
+        built = build-is b d;
+        calls =
+            subst (λ (a : Seen). (h : History w a v o) → ClaimFrom (entriesOf (now (b .args .0))) (isolationOf (b .args .1 .0)) h) (built-unseen b d)
+            (subst (λ (es : List MemoryRangeWithNode). (h : History w (readOff (w .maps)) v o) → ClaimFrom es (isolationOf (b .args .1 .0)) h) (same-entries b d)
+            (subst (λ (i : IsolationType). (h : History w (readOff (w .maps)) v o) → ClaimFrom (entriesIn (w .state)) i h) (same-isolation b d) (λ h. settled-hold w (built-settled b d) h)))
+            h;
+      }
 
   -- the invariant stands, and what was last left has its lengths
   pub lent-holds : Lent (entriesOf (now (b .args .0))) v o
   lent-holds =
-      let k : Settled w = built-settled b d in
-      history-keeps (Lent (entriesOf (now (b .args .0)))) (lent-kept (entriesOf (now (b .args .0)))) h (record { stands = starts b d; whole = record { long = k .long; fit = k .lent } })
+      subst (λ (a : Seen). History w a v o → Lent (entriesOf (now (b .args .0))) v o) (built-unseen b d)
+      (λ h. subst (λ (es : List MemoryRangeWithNode). Lent es v o) (same-entries b d) (settled-lent w (built-settled b d) h)) h
 
   pub lengths-hold : Whole v
   lengths-hold = lent-holds .whole

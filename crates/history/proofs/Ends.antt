@@ -46,7 +46,7 @@ use Rattle.history.proofs.Wholes.{answer-long}
 use Rattle.history.proofs.Histories.{visibility-is, done-is, failed-is, protection-is, default-is, register-is, unregister-is, Lent, lent-kept, stands-kept, history-keeps}
 use Rattle.history.proofs.Claim.{lent-holds}
 use Rattle.history.proofs.Answered.{lock-is, unlock-is, enable-is}
-use Rattle.history.proofs.Restart.{settled-stands}
+use Rattle.history.proofs.Restart.{settled-stands, settled-lent}
 use Rattle.history.proofs.ExistsAny.{any-call, build8, build8-taken, shared8, share8, share8-asks}
 
 -- ---- while a request is under way every call that may write, but an answer, is refused, and changes nothing
@@ -414,8 +414,7 @@ pub settled-told : {w v : World} {o : Seen} → Settled w → History w (readOff
 settled-told {w} {v} {o} k h = stands-told (entriesIn (w .state)) v o (at-stop (entriesIn (w .state)) (settled-stands w k) h)
 
 pub settled-requests-end : {w v : World} {o : Seen} → Settled w → History w (readOff (w .maps)) v o → RequestEnds v o
-settled-requests-end {w} {v} {o} k h =
-    lent-ends (entriesIn (w .state)) v o (history-keeps (Lent (entriesIn (w .state))) (lent-kept (entriesIn (w .state))) h (record { stands = settled-stands w k; whole = record { long = k .long; fit = k .lent } }))
+settled-requests-end {w} {v} {o} k h = lent-ends (entriesIn (w .state)) v o (settled-lent w k h)
 
 -- ---- a request that is under way, of eight pages of RAM: page 3 is shared
 

@@ -25,7 +25,8 @@ use Rattle.history.specs.History.{VisibilityCall, BuildCall, History, bl
 use Rattle.history.specs.Seen.{Seen, unseen, asks}
 use Rattle.history.specs.Arguments.{Callable, Strays}
 use Rattle.history.specs.Answered.{Claim}
-use Rattle.history.proofs.Claim.{calls-hold}
+use Rattle.history.specs.Marks.{Settled}
+use Rattle.history.proofs.Claim.{built-settled, calls-hold}
 use Rattle.history.proofs.Exists.{visibility-may, done-may, failed-may}
 use Rattle.history.proofs.ExistsOthers.{protection-may, default-may, register-may, unregister-may, lock-may, unlock-may, enable-may, build-may}
 use Rattle.history.proofs.ExistsReaders.{tell-enabled-may, tell-default-may, is-overlay-may, query-may, fault-may, lower-may, access-may}
@@ -92,6 +93,9 @@ build8 = any-call before8 .build ram8 2 1 0 .0
 pub build8-taken : build8 .result .number ≡ 0
 unfolding buildOf buildRefusal refusalOf entriesOf ordered aligned buildTaken build8 any-call build-may
 build8-taken = refl
+
+pub built8-settled : Settled built8
+built8-settled = built-settled build8 build8-taken
 
 -- so the claim holds of every list of calls from it
 pub claim8 : {v : World} {o : Seen} (h : History built8 unseen v o) → Claim build8 h

@@ -13,10 +13,10 @@ pub mod Lengths
 pub mod Wholes
 pub mod Histories
 pub mod Answered
+pub mod Restart
 pub mod Claim
 pub mod Exists
 pub mod ExistsOthers
 pub mod ExistsReaders
 pub mod ExistsAny
 pub mod Ends
-pub mod Restart

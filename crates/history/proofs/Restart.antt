@@ -2,7 +2,7 @@
 -- read off the marks. Assumes nothing.
 use native.Mathlib.Omega.{arith}
 use Prim.Native.Nat.{ℕ, _/_, _<_}
-use mathlib.Core.Path.{_≡_, refl, sym, ap}
+use mathlib.Core.Path.{_≡_, refl, sym, ap, _∙_}
 use mathlib.Core.List.{List, []}
 use mathlib.Core.Bool.{Bool, true, false, cond}
 use lib.Dec.{eqb}
@@ -13,6 +13,8 @@ use Rattle.bitmap.specs.Pages.{bitAt}
 use Rattle.layout.specs.declared.MemoryRangeWithNode.{MemoryRangeWithNode}
 use Rattle.layout.specs.Layout.{isRam, mapLen}
 use Rattle.layout.proofs.Laws.{fit, page-in-map}
+use Rattle.pages.specs.Pages.{among}
+use Rattle.permissions.specs.declared.IsolationType.{IsolationType}
 use Rattle.acceptor.specs.declared.Phase.{Phase}
 use Rattle.acceptor.specs.declared.Phase.the-variants as at
 use Rattle.acceptor.specs.Steps.{isSnp}
@@ -20,7 +22,7 @@ use Rattle.change_state.specs.State.{isChanging}
 use Rattle.protector_state.specs.State.{phaseIn, requestOf, settingsOf, ramOf, entriesIn}
 use Rattle.protector.specs.World.{World, statusOf}
 use Rattle.history.specs.Seen.{Seen}
-use Rattle.history.specs.Marks.{Has, readOff, Settled}
+use Rattle.history.specs.Marks.{Has, Marked, Holds, readOff, Settled}
 use Rattle.history.specs.Answered.{ClaimFrom}
 use Rattle.history.specs.History.{History}
 use Rattle.history.proofs.Bits.{clash}
@@ -28,7 +30,34 @@ use Rattle.history.proofs.Right.{Right, Names, opened}
 use Rattle.history.proofs.World.{Stands}
 use Rattle.history.proofs.Ages.{Aged}
 use Rattle.history.proofs.Aging.{Snp}
-use Rattle.history.proofs.Claim.{claim-from}
+use Rattle.history.proofs.Answered.{answered, composed}
+use Rattle.history.proofs.Histories.{Lent, lent-kept, history-keeps, stands-kept, Both, both-kept}
+
+-- what stands says of the marks
+stands-marked : (es : List MemoryRangeWithNode) (w : World) (o : Seen) → Stands es w o → Marked es (w .maps) o
+stands-marked es w o k =
+    let g = k .right in
+    record {
+      exact = λ z r off. g .full z r (λ j a b d y. clash (among (o .listed) z) (ap (among (o .listed)) (sym y) ∙ g .named a j b d) off) (λ _. off);
+      private-right = g .only-private;
+      shared-right = g .only-shared;
+      never-both = λ z a b. clash (o .last z) (g .only-shared z b) (g .only-private z a);
+      private-ram = g .private-ram;
+      shared-ram = g .shared-ram;
+    }
+
+-- of every list of calls from any world that meets the invariant, whatever was seen before
+holds-from : (es : List MemoryRangeWithNode) (i : IsolationType) {w v : World} {a o : Seen} → Stands es w a → (isSnp i ≡ true → Snp w a) → History w a v o → Holds es i (v .maps) o
+holds-from es i {w} {v} {a} {o} k f h =
+    record {
+      marks = stands-marked es v o (history-keeps (Stands es) (stands-kept es) h k);
+      settled = λ e. history-keeps (Both es) (both-kept es) h (record { stands = k; ages = f e }) .ages .ages .settled;
+    }
+
+claim-from : (es : List MemoryRangeWithNode) (i : IsolationType) {w v : World} {a o : Seen} → Stands es w a → (isSnp i ≡ true → Snp w a) → (h : History w a v o) → ClaimFrom es i h
+claim-from es i k f h = record { answered = answered h; composed = composed h; holds = holds-from es i k f h }
+
+-- ---- where nothing is under way
 
 no-status : (n : ℕ) → eqb n 0 ≡ false → n ≡ 0 → ⊥
 no-status n e z = clash (eqb n 0) (ap (λ n. eqb n 0) z) e
@@ -117,3 +146,7 @@ module _ (w : World) (k : Settled w) where
   -- THE CLAIM
   pub settled-hold : {v : World} {o : Seen} (h : History w (readOff (w .maps)) v o) → ClaimFrom es (settingsOf (w .state) .isolation) h
   settled-hold h = claim-from es (settingsOf (w .state) .isolation) settled-stands settled-aged h
+
+  -- the invariant stands, and what was last left has its lengths
+  pub settled-lent : {v : World} {o : Seen} → History w (readOff (w .maps)) v o → Lent es v o
+  settled-lent h = history-keeps (Lent es) (lent-kept es) h (record { stands = settled-stands; whole = record { long = k .long; fit = k .lent } })

@@ -42,7 +42,7 @@ pub record Holds (es : List MemoryRangeWithNode) (i : IsolationType) (m : Maps) 
   pub marks : Marked es m o
   pub settled : isSnp i ≡ true → (z : ℕ) → Has (m .private) z → isSettled (o .age z) ≡ true
 
--- ---- a list may begin where nothing is under way and each RAM page has one mark: what was last taken is then read off the marks
+-- ---- a list may begin where nothing is under way and each RAM page has one mark, as after a build: what was last taken is then read off the marks
 
 abbrev pub readOff : Maps → Seen
 readOff m = record { op = finished 0 0 0 0; table = []; halted = false; listed = []; last = λ z. bitAt 8 (m .shared) z; age = λ z. Never }
