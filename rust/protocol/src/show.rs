@@ -45,7 +45,10 @@ pub fn words(words: &[u64]) -> String {
 
 /// Bytes of two hex digits, upper case.
 pub fn hex(bytes: &[u8]) -> String {
-    bytes.iter().map(|byte| format!("{byte:02X}")).collect()
+    let digits = bytes.iter().flat_map(|byte| [byte >> 4, byte & 15]);
+    digits
+        .map(|digit| char::from(b"0123456789ABCDEF"[usize::from(digit)]))
+        .collect()
 }
 
 /// A long map by its runs of nonzero bytes: `sparse(LEN)[PLACE:HEX;PLACE:BBxN;..]`
@@ -92,6 +95,11 @@ mod tests {
         assert_eq!(stretches(5, &[255; 9]), ["5:FFx9"]);
         let mixed = [&[7; 2][..], &[255; 4], &[9]].concat();
         assert_eq!(stretches(5, &mixed), ["5:0707", "7:FFx4", "11:09"]);
+    }
+
+    #[test]
+    fn bytes_are_two_digits() {
+        assert_eq!(hex(&[0, 9, 0xAF, 0xFF]), "0009AFFF");
     }
 
     #[test]

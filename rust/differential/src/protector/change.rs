@@ -67,10 +67,7 @@ impl List {
         match self {
             List::Pages(pages) if pages.is_empty() => ".".to_string(),
             List::Pages(pages) => runs(pages),
-            List::Bytes(bytes) => {
-                let digits: String = bytes.iter().map(|byte| format!("{byte:02X}")).collect();
-                format!("hex:{digits}")
-            }
+            List::Bytes(bytes) => format!("hex:{}", hex(bytes)),
         }
     }
 
@@ -302,4 +299,13 @@ impl Change {
         }
         changes
     }
+}
+
+/// Bytes of two hex digits, upper case.
+pub(super) fn hex(bytes: &[u8]) -> String {
+    let digits = bytes.iter().flat_map(|byte| [byte / 16, byte % 16]);
+    digits
+        .filter_map(|digit| char::from_digit(digit.into(), 16))
+        .map(|digit| digit.to_ascii_uppercase())
+        .collect()
 }

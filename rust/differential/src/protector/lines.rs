@@ -3,6 +3,7 @@
 use super::change::Change;
 use super::change::Failures;
 use super::change::List;
+use super::change::hex;
 use super::change::runs;
 use super::predict::Answer;
 use super::predict::Call;
@@ -917,10 +918,7 @@ pub(super) fn maps(world: &World) -> String {
     let shown = shown.map(|(i, (name, map))| match i < 2 || tracked {
         false => format!("{name}=-"),
         true if map.len() > 65_536 => format!("{name}={}", sparse(map)),
-        true => {
-            let digits: String = map.iter().map(|byte| format!("{byte:02X}")).collect();
-            format!("{name}={digits}")
-        }
+        true => format!("{name}={}", hex(map)),
     });
     shown.collect::<Vec<_>>().join(" ")
 }
@@ -967,7 +965,7 @@ fn sparse(map: &[u8]) -> String {
             }
         } else {
             let (_, digits) = mixed.get_or_insert((i, String::new()));
-            (0..equal).for_each(|_| *digits += &format!("{:02X}", map[i]));
+            *digits += &hex(&map[i..i + equal]);
         }
         i += equal;
     }
