@@ -12,14 +12,16 @@ use Rattle.permissions.specs.Flags.{noFlags}
 use Rattle.request.specs.Request.{runEnd}
 use Rattle.acceptor.specs.declared.Phase.{Phase}
 use Rattle.acceptor.specs.declared.Phase.the-variants as at
-use Rattle.acceptor.specs.declared.Operation.{Operation}
 use Rattle.acceptor.specs.declared.Answer.{Answer}
-use Rattle.acceptor.specs.declared.Answer.the-variants.{Done, AccessDenied, Failed, Ask}
+use Rattle.acceptor.specs.declared.Answer.the-variants.{Done, AccessDenied, Failed}
 use Rattle.acceptor.specs.declared.Settings.{Settings}
 use Rattle.acceptor.specs.declared.Request.{Request}
 use Rattle.acceptor.specs.declared.Writes.{Writes}
 use Rattle.acceptor.specs.declared.Step.{Step}
-use Rattle.acceptor.specs.Steps.{isSnp, isCca, releases, places, writes, noWrites, setPrivate, setShared, setPermissions, step, operationOf, ask, finish, end, halt, shareRun, defaultRun, returnRun, afterFlush, afterWait, afterModify, afterAccept, cutAt, failedModify, isVtl0, cleared}
+use Rattle.acceptor.specs.declared.Marks.{Marks}
+use Rattle.acceptor.specs.declared.Next.{Next}
+use Rattle.acceptor.specs.Next.{asks, ends, keeps, markedBy, writesAt, nextStep}
+use Rattle.acceptor.specs.Steps.{isSnp, isCca, releases, places, writes, noWrites, setPrivate, setShared, setPermissions, operationOf, ask, finished, end, halt, keep, shareRun, defaultRun, returnRun, afterFlush, afterWait, afterModify, afterAccept, cutAt, failedModify, isVtl0, cleared}
 
 -- a choice whose test is known
 module _ {A : Type 0} (b : Bool) (x y r : A) where
@@ -28,6 +30,14 @@ module _ {A : Type 0} (b : Bool) (x y r : A) where
 
   left : b ≡ false → r ≡ y → r ≡ cond b x y
   left e f = f ∙ ap (λ (t : Bool). cond t x y) (sym e)
+
+-- a choice by a test t that the code made as b
+module _ {A : Type 0} (b t : Bool) (x y r : A) (e : b ≡ t) where
+  pub chose : b ≡ true → r ≡ x → r ≡ cond t x y
+  chose h f = took t x y r (sym e ∙ h) f
+
+  pub chose-not : b ≡ false → r ≡ y → r ≡ cond t x y
+  chose-not h f = left t x y r (sym e ∙ h) f
 
 -- a test of two parts of which the first holds
 then : (a b x : Bool) → a ≡ true → b ≡ x → (a && b) ≡ x
@@ -38,26 +48,50 @@ never a b e = ap (λ (x : Bool). x && b) e
 
 -- ---- the end
 
-module _ (q : Request) (w : Writes) (r : Step) where
-  pub end-stopped : q .stopped ≡ true → r ≡ finish (AccessDenied (q .index) (q .count)) w → r ≡ end q w
-  unfolding end
-  end-stopped h f = f ∙ ap (λ (a : Answer). finish a w) (took (q .stopped) _ _ _ h refl)
+module _ (q : Request) (r : Answer) where
+  pub finished-stopped : q .stopped ≡ true → r ≡ AccessDenied (q .index) (q .count) → r ≡ finished q
+  finished-stopped h f = took (q .stopped) _ _ r h f
 
-  pub end-failed : q .stopped ≡ false → q .failed ≡ true → r ≡ finish (Failed (q .code) (q .index) (q .count)) w → r ≡ end q w
-  unfolding end
-  end-failed h g f = f ∙ ap (λ (a : Answer). finish a w) (left (q .stopped) _ _ _ h (took (q .failed) _ _ _ g refl))
+  pub finished-failed : q .stopped ≡ false → q .failed ≡ true → r ≡ Failed (q .code) (q .index) (q .count) → r ≡ finished q
+  finished-failed h g f = left (q .stopped) _ _ r h (took (q .failed) _ _ r g f)
 
-  pub end-done : q .stopped ≡ false → q .failed ≡ false → r ≡ finish (Done (q .count)) w → r ≡ end q w
-  unfolding end
-  end-done h g f = f ∙ ap (λ (a : Answer). finish a w) (left (q .stopped) _ _ _ h (left (q .failed) _ _ _ g refl))
+  pub finished-done : q .stopped ≡ false → q .failed ≡ false → r ≡ Done (q .count) → r ≡ finished q
+  finished-done h g f = left (q .stopped) _ _ r h (left (q .failed) _ _ r g f)
 
--- ---- an operation asked for
+-- ---- the step that stands for what an answer leads to
 
-pub asks : (s : Settings) (q : Request) (t : List ℕ) (w : Writes) (p : Phase) (a n : ℕ) (o : Operation) → n ≡ (q .count + 1) % 2 ^ 64
-    → o ≡ operationOf s p (record { share = q .share; vtl = q .vtl; n = q .n; at = a; stopped = q .stopped; failed = q .failed; index = q .index; code = q .code; count = n }) t
-    → step p (record { share = q .share; vtl = q .vtl; n = q .n; at = a; stopped = q .stopped; failed = q .failed; index = q .index; code = q .code; count = n }) (Ask o) w ≡ ask s p q t a w
-unfolding ask
-asks s q t w p a n o e f = rw (f, e)
+module _ (s : Settings) (q : Request) (t : List ℕ) where
+  asks-step : (p : Phase) (a : ℕ) (m : Marks) → nextStep s q t (asks p a m) ≡ ask s p q t a (writesAt s p t (q .n) a m)
+  unfolding nextStep ask operationOf
+  asks-step at.Idle a m = refl
+  asks-step at.Halted a m = refl
+  asks-step at.Wait a m = refl
+  asks-step at.FlushAll a m = refl
+  asks-step at.ProtectNone0 a m = refl
+  asks-step at.ProtectNone1 a m = refl
+  asks-step at.Invalidate a m = refl
+  asks-step at.Release a m = refl
+  asks-step at.Modify a m = refl
+  asks-step at.Accept a m = refl
+  asks-step at.Zero a m = refl
+  asks-step at.ProtectDefault0 a m = refl
+  asks-step at.ProtectDefault1 a m = refl
+
+  pub next-asks : (p : Phase) (a : ℕ) (m m′ : Marks) (x : Next) → x ≡ asks p a m → m ≡ m′ → nextStep s q t x ≡ ask s p q t a (writesAt s p t (q .n) a m′)
+  next-asks p a m m′ x e f = ap (nextStep s q t) (e ∙ ap (asks p a) f) ∙ asks-step p a m′
+
+  pub next-ends : (m : Marks) (x : Next) → x ≡ ends m → nextStep s q t x ≡ end q (markedBy m)
+  unfolding nextStep end
+  next-ends m x e = ap (nextStep s q t) e
+
+  module _ (p : Phase) (x : Next) (e : x ≡ keeps p) where
+    pub next-idle : p ≡ at.Idle → nextStep s q t x ≡ keep at.Idle q
+    unfolding nextStep keep
+    next-idle h = ap (nextStep s q t) (e ∙ ap keeps h)
+
+    pub next-halted : p ≡ at.Halted → nextStep s q t x ≡ keep at.Halted q
+    unfolding nextStep keep
+    next-halted h = ap (nextStep s q t) (e ∙ ap keeps h)
 
 module _ (s : Settings) (q : Request) (t : List ℕ) (r : Step) (w : Writes) where
   -- ---- to shared

@@ -73,21 +73,24 @@ orNone None = noFlags
 abbrev pub runOf : Request → List ℕ → PageRun
 runOf q t = runAt t (q .n) (q .at)
 
--- the operation that a phase stands at
+-- the operation of a phase, on the run that it is at
+abbrev pub operationOn : Settings → Phase → Request → PageRun → Operation
+operationOn s at.Idle q r = Wait
+operationOn s at.Halted q r = Wait
+operationOn s at.Wait q r = Wait
+operationOn s at.FlushAll q r = FlushAll
+operationOn s at.ProtectNone0 q r = Protect Vtl0 noFlags r
+operationOn s at.ProtectNone1 q r = Protect Vtl1 noFlags r
+operationOn s at.Invalidate q r = Invalidate r
+operationOn s at.Release q r = Release r
+operationOn s at.Modify q r = Modify (q .share) (q .n)
+operationOn s at.Accept q r = Accept r
+operationOn s at.Zero q r = Zero r
+operationOn s at.ProtectDefault0 q r = Protect Vtl0 (s .defaults .vtl0) r
+operationOn s at.ProtectDefault1 q r = Protect Vtl1 (orNone (s .defaults .vtl1)) r
+
 unfoldable pub operationOf : Settings → Phase → Request → List ℕ → Operation
-operationOf s at.Idle q t = Wait
-operationOf s at.Halted q t = Wait
-operationOf s at.Wait q t = Wait
-operationOf s at.FlushAll q t = FlushAll
-operationOf s at.ProtectNone0 q t = Protect Vtl0 noFlags (runOf q t)
-operationOf s at.ProtectNone1 q t = Protect Vtl1 noFlags (runOf q t)
-operationOf s at.Invalidate q t = Invalidate (runOf q t)
-operationOf s at.Release q t = Release (runOf q t)
-operationOf s at.Modify q t = Modify (q .share) (q .n)
-operationOf s at.Accept q t = Accept (runOf q t)
-operationOf s at.Zero q t = Zero (runOf q t)
-operationOf s at.ProtectDefault0 q t = Protect Vtl0 (s .defaults .vtl0) (runOf q t)
-operationOf s at.ProtectDefault1 q t = Protect Vtl1 (orNone (s .defaults .vtl1)) (runOf q t)
+operationOf s p q t = operationOn s p q (runOf q t)
 
 -- the request with one operation more, at a place; a count of 64 bits
 abbrev pub counted : Request → ℕ → Request

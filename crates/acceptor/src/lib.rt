@@ -3,7 +3,8 @@
 ghost use mathlib.Core.Path.{_≡_};
 ghost use mathlib.Core.Bool.{cond, _&&_};
 ghost use Rattle.request.specs.Request.{runEnd};
-ghost use Rattle.acceptor.specs.Steps.{isSnp, isCca, releases, noWrites, setPrivate, setShared, setPermissions, orNone, operationOf, ask, noRequest, finish, end, halt, keep, shareRun, defaultRun, returnRun, afterFlush, afterWait, afterModify, afterAccept, afterDefault0, failedModify, doneOf, failedOf, isVtl0, cleared, startOf};
+ghost use Rattle.acceptor.specs.Steps.{isSnp, isCca, releases, noWrites, orNone, operationOn, counted, noRequest, finished, halt, keep, shareRun, defaultRun, returnRun, afterFlush, afterWait, afterModify, afterAccept, afterDefault0, failedModify, doneOf, failedOf, asked, isVtl0, cleared};
+ghost use Rattle.acceptor.specs.Next.{marks, markedBy, asks, ends, keeps, hasRun, isDefault0, runIn, answerBy, requestBy, permittedAt, flagsAt, nextStep};
 use pages::PageRun;
 use permissions::DefaultVtlPermissions;
 use permissions::GuestVtl;
@@ -103,6 +104,28 @@ pub struct Step {
     pub writes: Writes,
 }
 
+// The marks that an answer sets: private before a place of the table, shared from a place to before another.
+pub struct Marks {
+    pub private: u64,
+    pub from: u64,
+    pub to: u64,
+}
+
+// An operation is asked for, the call ends, or the answer isn't taken.
+pub enum Turn {
+    Ask,
+    End,
+    Keep,
+}
+
+// A step as far as it isn't told by the request and its table: the phase asked for, its place in the table, and the marks set.
+pub struct Next {
+    pub turn: Turn,
+    pub phase: Phase,
+    pub at: u64,
+    pub marks: Marks,
+}
+
 pub fn is_snp(set: Settings) -> bool
     ensures { λ r. ⌜ r ≡ isSnp (set .isolation) ⌝ }
 {
@@ -148,51 +171,7 @@ fn no_writes() -> Writes
     }
 }
 
-fn set_private(w: Writes, n: u64) -> Writes
-    ensures { λ r. ⌜ r ≡ setPrivate w n ⌝ }
-{
-    let shared = w.shared;
-    let permissions = w.permissions;
-    let flags = w.flags;
-    Writes {
-        state: w.state,
-        private: Places { from: 0, to: n },
-        shared: shared,
-        permissions: permissions,
-        flags: flags,
-    }
-}
-
-fn set_shared(w: Writes, from: u64, to: u64) -> Writes
-    ensures { λ r. ⌜ r ≡ setShared w from to ⌝ }
-{
-    let private = w.private;
-    let permissions = w.permissions;
-    let flags = w.flags;
-    Writes {
-        state: w.state,
-        private: private,
-        shared: Places { from: from, to: to },
-        permissions: permissions,
-        flags: flags,
-    }
-}
-
-fn set_permissions(w: Writes, from: u64, to: u64, flags: HvMapGpaFlags) -> Writes
-    ensures { λ r. ⌜ r ≡ setPermissions w from to flags ⌝ }
-{
-    let private = w.private;
-    let shared = w.shared;
-    Writes {
-        state: w.state,
-        private: private,
-        shared: shared,
-        permissions: Places { from: from, to: to },
-        flags: flags,
-    }
-}
-
-fn or_none(f: OptionFlags) -> HvMapGpaFlags
+pub fn or_none(f: OptionFlags) -> HvMapGpaFlags
     ensures { λ r. ⌜ r ≡ orNone f ⌝ }
 {
     match f {
@@ -201,9 +180,9 @@ fn or_none(f: OptionFlags) -> HvMapGpaFlags
     }
 }
 
-// The operation that a phase stands at.
-fn operation_of(set: Settings, phase: Phase, q: Request, t: &[u64]) -> Operation
-    ensures { λ r. ⌜ r ≡ operationOf set phase q (now (t .entry)) ⌝ }
+// The operation of a phase, on a run.
+fn operation_on(set: Settings, phase: Phase, q: Request, run: PageRun) -> Operation
+    ensures { λ r. ⌜ r ≡ operationOn set phase q run ⌝ }
 {
     let defaults = set.defaults;
     let vtl0 = defaults.vtl0;
@@ -216,47 +195,42 @@ fn operation_of(set: Settings, phase: Phase, q: Request, t: &[u64]) -> Operation
         Phase::ProtectNone0 => Operation::Protect {
             vtl: GuestVtl::Vtl0,
             flags: HvMapGpaFlags::none(),
-            run: pages::run_at(t, q.n, q.at),
+            run: run,
         },
         Phase::ProtectNone1 => Operation::Protect {
             vtl: GuestVtl::Vtl1,
             flags: HvMapGpaFlags::none(),
-            run: pages::run_at(t, q.n, q.at),
+            run: run,
         },
-        Phase::Invalidate => Operation::Invalidate(pages::run_at(t, q.n, q.at)),
-        Phase::Release => Operation::Release(pages::run_at(t, q.n, q.at)),
+        Phase::Invalidate => Operation::Invalidate(run),
+        Phase::Release => Operation::Release(run),
         Phase::Modify => Operation::Modify {
             share: q.share,
             count: q.n,
         },
-        Phase::Accept => Operation::Accept(pages::run_at(t, q.n, q.at)),
-        Phase::Zero => Operation::Zero(pages::run_at(t, q.n, q.at)),
+        Phase::Accept => Operation::Accept(run),
+        Phase::Zero => Operation::Zero(run),
         Phase::ProtectDefault0 => Operation::Protect {
             vtl: GuestVtl::Vtl0,
             flags: vtl0,
-            run: pages::run_at(t, q.n, q.at),
+            run: run,
         },
         Phase::ProtectDefault1 => Operation::Protect {
             vtl: GuestVtl::Vtl1,
             flags: or_none(vtl1),
-            run: pages::run_at(t, q.n, q.at),
+            run: run,
         },
     }
 }
 
-// The operation of a phase is asked for, at a place.
-fn ask(set: Settings, phase: Phase, q: Request, t: &[u64], at: u64, writes: Writes) -> Step
-    ensures { λ r. ⌜ r ≡ ask set phase q (now (t .entry)) at writes ⌝ }
+// The request with one operation more, at a place.
+fn counted(q: Request, at: u64) -> Request
+    ensures { λ r. ⌜ r ≡ counted q at ⌝ }
 {
     let mut next = q;
     next.at = at;
     next.count = std::num::wrapping_add_u64(q.count, 1);
-    Step {
-        phase: phase,
-        request: next,
-        answer: Answer::Ask(operation_of(set, phase, next, t)),
-        writes: writes,
-    }
+    next
 }
 
 fn no_request() -> Request
@@ -275,41 +249,24 @@ fn no_request() -> Request
     }
 }
 
-fn finish(answer: Answer, writes: Writes) -> Step
-    ensures { λ r. ⌜ r ≡ finish answer writes ⌝ }
-{
-    Step {
-        phase: Phase::Idle,
-        request: no_request(),
-        answer: answer,
-        writes: writes,
-    }
-}
-
-// The call ends.
-fn end(q: Request, writes: Writes) -> Step
-    ensures { λ r. ⌜ r ≡ end q writes ⌝ }
+// What a call that ends gives.
+fn finished(q: Request) -> Answer
+    ensures { λ r. ⌜ r ≡ finished q ⌝ }
 {
     if q.stopped {
-        return finish(
-            Answer::AccessDenied {
-                index: q.index,
-                count: q.count,
-            },
-            writes,
-        );
+        return Answer::AccessDenied {
+            index: q.index,
+            count: q.count,
+        };
     }
     if q.failed {
-        return finish(
-            Answer::Failed {
-                code: q.code,
-                index: q.index,
-                count: q.count,
-            },
-            writes,
-        );
+        return Answer::Failed {
+            code: q.code,
+            index: q.index,
+            count: q.count,
+        };
     }
-    finish(Answer::Done(q.count), writes)
+    Answer::Done(q.count)
 }
 
 // The marks remain as they are.
@@ -342,20 +299,247 @@ fn keep(phase: Phase, q: Request) -> Step
     }
 }
 
+fn no_marks() -> Marks
+    ensures { λ r. ⌜ r ≡ marks 0 0 0 ⌝ }
+{
+    Marks {
+        private: 0,
+        from: 0,
+        to: 0,
+    }
+}
+
+fn with_private(m: Marks, n: u64) -> Marks
+    ensures { λ r. ⌜ r ≡ marks n (m .from) (m .to) ⌝ }
+{
+    Marks {
+        private: n,
+        from: m.from,
+        to: m.to,
+    }
+}
+
+fn asks(phase: Phase, at: u64, m: Marks) -> Next
+    ensures { λ r. ⌜ r ≡ asks phase at m ⌝ }
+{
+    Next {
+        turn: Turn::Ask,
+        phase: phase,
+        at: at,
+        marks: m,
+    }
+}
+
+fn ends(m: Marks) -> Next
+    ensures { λ r. ⌜ r ≡ ends m ⌝ }
+{
+    Next {
+        turn: Turn::End,
+        phase: Phase::Idle,
+        at: 0,
+        marks: m,
+    }
+}
+
+fn keeps(phase: Phase) -> Next
+    ensures { λ r. ⌜ r ≡ keeps phase ⌝ }
+{
+    Next {
+        turn: Turn::Keep,
+        phase: phase,
+        at: 0,
+        marks: no_marks(),
+    }
+}
+
 // Sharing, from the run at a place on.
-fn share_run(set: Settings, q: Request, t: &[u64], at: u64) -> Step
-    ensures { λ r. ⌜ r ≡ shareRun set q (now (t .entry)) at ⌝ }
+fn share_run(set: Settings, q: Request, t: &[u64], at: u64) -> Next
+    ensures { λ r. ⌜ nextStep set q (now (t .entry)) r ≡ shareRun set q (now (t .entry)) at ⌝ }
 {
     if q.n <= at {
-        return ask(set, Phase::Modify, q, t, 0, no_writes());
+        return asks(Phase::Modify, 0, no_marks());
     }
     if is_snp(set) {
-        return ask(set, Phase::ProtectNone0, q, t, at, no_writes());
+        return asks(Phase::ProtectNone0, at, no_marks());
     }
     if is_releasing(set) {
-        return ask(set, Phase::Release, q, t, at, no_writes());
+        return asks(Phase::Release, at, no_marks());
     }
-    ask(set, Phase::Modify, q, t, 0, no_writes())
+    asks(Phase::Modify, 0, no_marks())
+}
+
+// The default permissions, from the run at a place on; then the end.
+fn default_run(set: Settings, q: Request, t: &[u64], at: u64, m: Marks) -> Next
+    ensures { λ r. ⌜ nextStep set q (now (t .entry)) r ≡ defaultRun set q (now (t .entry)) at (markedBy m) ⌝ }
+{
+    if q.n <= at {
+        return ends(m);
+    }
+    asks(Phase::ProtectDefault0, at, m)
+}
+
+// Acceptance, from the run at a place on; then the private marks.
+fn return_run(set: Settings, q: Request, t: &[u64], at: u64, m: Marks) -> Next
+    ensures { λ r. ⌜ nextStep set q (now (t .entry)) r ≡ returnRun set q (now (t .entry)) at (markedBy m) ⌝ }
+{
+    if q.n <= at {
+        return default_run(set, q, t, 0, with_private(m, q.n));
+    }
+    if is_cca(set) {
+        return default_run(set, q, t, 0, with_private(m, q.n));
+    }
+    asks(Phase::Accept, at, m)
+}
+
+fn after_flush(set: Settings, q: Request, t: &[u64]) -> Next
+    ensures { λ r. ⌜ nextStep set q (now (t .entry)) r ≡ afterFlush set q (now (t .entry)) ⌝ }
+{
+    if q.share {
+        return share_run(set, q, t, 0);
+    }
+    asks(Phase::Modify, 0, no_marks())
+}
+
+fn after_wait(set: Settings, q: Request, t: &[u64]) -> Next
+    ensures { λ r. ⌜ nextStep set q (now (t .entry)) r ≡ afterWait set q (now (t .entry)) ⌝ }
+{
+    if is_snp(set) {
+        return asks(Phase::FlushAll, 0, no_marks());
+    }
+    after_flush(set, q, t)
+}
+
+fn after_modify(set: Settings, q: Request, t: &[u64]) -> Next
+    ensures { λ r. ⌜ nextStep set q (now (t .entry)) r ≡ afterModify set q (now (t .entry)) ⌝ }
+{
+    if q.share {
+        return ends(Marks {
+            private: 0,
+            from: 0,
+            to: q.n,
+        });
+    }
+    return_run(set, q, t, 0, no_marks())
+}
+
+fn after_accept(set: Settings, q: Request, t: &[u64]) -> Next
+    ensures { λ r. ⌜ nextStep set q (now (t .entry)) r ≡ afterAccept set q (now (t .entry)) ⌝ }
+{
+    if is_snp(set) {
+        return asks(Phase::Zero, q.at, no_marks());
+    }
+    let next = request::run_end(t, q.n, q.at);
+    return_run(set, q, t, next, no_marks())
+}
+
+fn after_default0(set: Settings, q: Request, t: &[u64]) -> Next
+    ensures { λ r. ⌜ nextStep set q (now (t .entry)) r ≡ afterDefault0 (set .defaults .vtl1) set q (now (t .entry)) ⌝ }
+{
+    let defaults = set.defaults;
+    let vtl1 = defaults.vtl1;
+    match vtl1 {
+        OptionFlags::Some(_) => asks(Phase::ProtectDefault1, q.at, no_marks()),
+        OptionFlags::None => {
+            let next = request::run_end(t, q.n, q.at);
+            default_run(set, q, t, next, no_marks())
+        }
+    }
+}
+
+// The operation outstanding is done.
+pub fn done(set: Settings, phase: Phase, q: Request, t: &[u64]) -> Next
+    ensures { λ r. ⌜ nextStep set q (now (t .entry)) r ≡ doneOf set phase q (now (t .entry)) ⌝ }
+{
+    match phase {
+        Phase::Idle => keeps(phase),
+        Phase::Halted => keeps(phase),
+        Phase::Wait => after_wait(set, q, t),
+        Phase::FlushAll => after_flush(set, q, t),
+        Phase::ProtectNone0 => asks(Phase::ProtectNone1, q.at, no_marks()),
+        Phase::ProtectNone1 => asks(Phase::Invalidate, q.at, no_marks()),
+        Phase::Invalidate => share_run(set, q, t, request::run_end(t, q.n, q.at)),
+        Phase::Release => share_run(set, q, t, request::run_end(t, q.n, q.at)),
+        Phase::Modify => after_modify(set, q, t),
+        Phase::Accept => after_accept(set, q, t),
+        Phase::Zero => return_run(set, q, t, request::run_end(t, q.n, q.at), no_marks()),
+        Phase::ProtectDefault0 => after_default0(set, q, t),
+        Phase::ProtectDefault1 => {
+            default_run(set, q, t, request::run_end(t, q.n, q.at), no_marks())
+        }
+    }
+}
+
+// Whether the operation of a phase is on a run of pages.
+fn has_run(phase: Phase) -> bool
+    ensures { λ r. ⌜ r ≡ hasRun phase ⌝ }
+{
+    match phase {
+        Phase::Idle => false,
+        Phase::Halted => false,
+        Phase::Wait => false,
+        Phase::FlushAll => false,
+        Phase::ProtectNone0 => true,
+        Phase::ProtectNone1 => true,
+        Phase::Invalidate => true,
+        Phase::Release => true,
+        Phase::Modify => false,
+        Phase::Accept => true,
+        Phase::Zero => true,
+        Phase::ProtectDefault0 => true,
+        Phase::ProtectDefault1 => true,
+    }
+}
+
+// Whether the operation of a phase gives VTL0 its default.
+pub fn is_default0(phase: Phase) -> bool
+    ensures { λ r. ⌜ r ≡ isDefault0 phase ⌝ }
+{
+    match phase {
+        Phase::Idle => false,
+        Phase::Halted => false,
+        Phase::Wait => false,
+        Phase::FlushAll => false,
+        Phase::ProtectNone0 => false,
+        Phase::ProtectNone1 => false,
+        Phase::Invalidate => false,
+        Phase::Release => false,
+        Phase::Modify => false,
+        Phase::Accept => false,
+        Phase::Zero => false,
+        Phase::ProtectDefault0 => true,
+        Phase::ProtectDefault1 => false,
+    }
+}
+
+// The run that a phase asks for at a place, of the first n pages.
+pub fn run_in(phase: Phase, t: &[u64], n: u64, at: u64) -> PageRun
+    ensures { λ r. ⌜ r ≡ runIn phase (now (t .entry)) n at ⌝ }
+{
+    if has_run(phase) {
+        return pages::run_at(t, n, at);
+    }
+    PageRun { first: 0, count: 0 }
+}
+
+// The request that is left.
+pub fn next_request(turn: Turn, q: Request, at: u64) -> Request
+    ensures { λ r. ⌜ r ≡ requestBy turn q at ⌝ }
+{
+    match turn {
+        Turn::Ask => counted(q, at),
+        Turn::End => no_request(),
+        Turn::Keep => q,
+    }
+}
+
+fn next_answer(turn: Turn, set: Settings, phase: Phase, q: Request, run: PageRun) -> Answer
+    ensures { λ r. ⌜ r ≡ answerBy turn set phase q run ⌝ }
+{
+    match turn {
+        Turn::Ask => Answer::Ask(operation_on(set, phase, q, run)),
+        Turn::End => finished(q),
+        Turn::Keep => Answer::Refused(21),
+    }
 }
 
 // The place to which a run's permissions are written.
@@ -369,81 +553,53 @@ fn permission_end(tracked: bool, t: &[u64], n: u64, at: u64) -> u64
     }
 }
 
-// The default permissions, from the run at a place on; then the end.
-fn default_run(set: Settings, q: Request, t: &[u64], at: u64, writes: Writes) -> Step
-    ensures { λ r. ⌜ r ≡ defaultRun set q (now (t .entry)) at writes ⌝ }
+fn permitted_at(set: Settings, phase: Phase, t: &[u64], n: u64, at: u64) -> Places
+    ensures { λ r. ⌜ r ≡ permittedAt set phase (now (t .entry)) n at ⌝ }
 {
-    if q.n <= at {
-        return end(q, writes);
+    if is_default0(phase) {
+        return Places {
+            from: at,
+            to: permission_end(set.tracked, t, n, at),
+        };
     }
-    let to = permission_end(set.tracked, t, q.n, at);
-    let defaults = set.defaults;
-    let flags = defaults.vtl0;
-    let w = set_permissions(writes, at, to, flags);
-    ask(set, Phase::ProtectDefault0, q, t, at, w)
+    Places { from: 0, to: 0 }
 }
 
-// Acceptance, from the run at a place on; then the private marks.
-fn return_run(set: Settings, q: Request, t: &[u64], at: u64, writes: Writes) -> Step
-    ensures { λ r. ⌜ r ≡ returnRun set q (now (t .entry)) at writes ⌝ }
-{
-    if q.n <= at {
-        return default_run(set, q, t, 0, set_private(writes, q.n));
-    }
-    if is_cca(set) {
-        return default_run(set, q, t, 0, set_private(writes, q.n));
-    }
-    ask(set, Phase::Accept, q, t, at, writes)
-}
-
-fn after_flush(set: Settings, q: Request, t: &[u64]) -> Step
-    ensures { λ r. ⌜ r ≡ afterFlush set q (now (t .entry)) ⌝ }
-{
-    if q.share {
-        return share_run(set, q, t, 0);
-    }
-    ask(set, Phase::Modify, q, t, 0, no_writes())
-}
-
-fn after_wait(set: Settings, q: Request, t: &[u64]) -> Step
-    ensures { λ r. ⌜ r ≡ afterWait set q (now (t .entry)) ⌝ }
-{
-    if is_snp(set) {
-        return ask(set, Phase::FlushAll, q, t, 0, no_writes());
-    }
-    after_flush(set, q, t)
-}
-
-fn after_modify(set: Settings, q: Request, t: &[u64]) -> Step
-    ensures { λ r. ⌜ r ≡ afterModify set q (now (t .entry)) ⌝ }
-{
-    if q.share {
-        return end(q, set_shared(no_writes(), 0, q.n));
-    }
-    return_run(set, q, t, 0, no_writes())
-}
-
-fn after_accept(set: Settings, q: Request, t: &[u64]) -> Step
-    ensures { λ r. ⌜ r ≡ afterAccept set q (now (t .entry)) ⌝ }
-{
-    if is_snp(set) {
-        return ask(set, Phase::Zero, q, t, q.at, no_writes());
-    }
-    let next = request::run_end(t, q.n, q.at);
-    return_run(set, q, t, next, no_writes())
-}
-
-fn after_default0(set: Settings, q: Request, t: &[u64]) -> Step
-    ensures { λ r. ⌜ r ≡ afterDefault0 (set .defaults .vtl1) set q (now (t .entry)) ⌝ }
+fn flags_at(set: Settings, phase: Phase) -> HvMapGpaFlags
+    ensures { λ r. ⌜ r ≡ flagsAt set phase ⌝ }
 {
     let defaults = set.defaults;
-    let vtl1 = defaults.vtl1;
-    match vtl1 {
-        OptionFlags::Some(_) => ask(set, Phase::ProtectDefault1, q, t, q.at, no_writes()),
-        OptionFlags::None => {
-            let next = request::run_end(t, q.n, q.at);
-            default_run(set, q, t, next, no_writes())
-        }
+    let vtl0 = defaults.vtl0;
+    if is_default0(phase) {
+        return vtl0;
+    }
+    HvMapGpaFlags::none()
+}
+
+// The step in full.
+fn step_of(set: Settings, q: Request, t: &[u64], x: Next) -> Step
+    ensures { λ r. ⌜ r ≡ nextStep set q (now (t .entry)) x ⌝ }
+{
+    let turn = x.turn;
+    let phase = x.phase;
+    let m = x.marks;
+    Step {
+        phase: phase,
+        request: next_request(turn, q, x.at),
+        answer: next_answer(turn, set, phase, q, run_in(phase, t, q.n, x.at)),
+        writes: Writes {
+            state: true,
+            private: Places {
+                from: 0,
+                to: m.private,
+            },
+            shared: Places {
+                from: m.from,
+                to: m.to,
+            },
+            permissions: permitted_at(set, phase, t, q.n, x.at),
+            flags: flags_at(set, phase),
+        },
     }
 }
 
@@ -462,30 +618,12 @@ fn failed_modify(set: Settings, q: Request, t: &[u64], code: u64, processed: u64
     cut.failed = true;
     cut.code = code;
     cut.index = request::place_at(t, processed);
-    return_run(set, cut, t, 0, set_shared(no_writes(), processed, q.n))
-}
-
-// The operation outstanding is done.
-pub fn done(set: Settings, phase: Phase, q: Request, t: &[u64]) -> Step
-    ensures { λ r. ⌜ r ≡ doneOf set phase q (now (t .entry)) ⌝ }
-{
-    match phase {
-        Phase::Idle => keep(phase, q),
-        Phase::Halted => keep(phase, q),
-        Phase::Wait => after_wait(set, q, t),
-        Phase::FlushAll => after_flush(set, q, t),
-        Phase::ProtectNone0 => ask(set, Phase::ProtectNone1, q, t, q.at, no_writes()),
-        Phase::ProtectNone1 => ask(set, Phase::Invalidate, q, t, q.at, no_writes()),
-        Phase::Invalidate => share_run(set, q, t, request::run_end(t, q.n, q.at)),
-        Phase::Release => share_run(set, q, t, request::run_end(t, q.n, q.at)),
-        Phase::Modify => after_modify(set, q, t),
-        Phase::Accept => after_accept(set, q, t),
-        Phase::Zero => return_run(set, q, t, request::run_end(t, q.n, q.at), no_writes()),
-        Phase::ProtectDefault0 => after_default0(set, q, t),
-        Phase::ProtectDefault1 => {
-            default_run(set, q, t, request::run_end(t, q.n, q.at), no_writes())
-        }
-    }
+    let restored = Marks {
+        private: 0,
+        from: processed,
+        to: q.n,
+    };
+    step_of(set, cut, t, return_run(set, cut, t, 0, restored))
 }
 
 // The operation outstanding failed.
@@ -530,7 +668,7 @@ fn cleared_permissions(tracked: bool, vtl: GuestVtl, n: u64) -> u64
 }
 
 // What a taken call clears at once.
-fn clears(tracked: bool, vtl: GuestVtl, share: bool, n: u64) -> Writes
+pub fn clears(tracked: bool, vtl: GuestVtl, share: bool, n: u64) -> Writes
     ensures { λ r. ⌜ r ≡ cleared tracked vtl share n ⌝ }
 {
     let none = Places { from: 0, to: 0 };
@@ -555,24 +693,19 @@ fn clears(tracked: bool, vtl: GuestVtl, share: bool, n: u64) -> Writes
     }
 }
 
-// A call that is taken, `n` pages asked for; `stopped` before the end of its list, at place `stop`, or not.
-pub fn start(set: Settings, vtl: GuestVtl, share: bool, n: u64, stop: u64, stopped: bool) -> Step
-    ensures { λ r. ⌜ r ≡ startOf set vtl share n stop stopped ⌝ }
+// The request of a call that is taken, `n` pages asked for; `stopped` before the end of its list, at place `stop`, or not.
+pub fn asked(vtl: GuestVtl, share: bool, n: u64, stop: u64, stopped: bool) -> Request
+    ensures { λ r. ⌜ r ≡ asked vtl share n stop stopped ⌝ }
 {
-    Step {
-        phase: Phase::Wait,
-        request: Request {
-            share: share,
-            vtl: vtl,
-            n: n,
-            at: 0,
-            stopped: stopped,
-            failed: false,
-            index: stop,
-            code: 0,
-            count: 1,
-        },
-        answer: Answer::Ask(Operation::Wait),
-        writes: clears(set.tracked, vtl, share, n),
+    Request {
+        share: share,
+        vtl: vtl,
+        n: n,
+        at: 0,
+        stopped: stopped,
+        failed: false,
+        index: stop,
+        code: 0,
+        count: 1,
     }
 }

@@ -22,7 +22,7 @@ use Rattle.pages.specs.Runs.{part, neighbours, runAt, run}
 use Rattle.pages.specs.declared.PageRun.{PageRun}
 use Rattle.pages.proofs.RunLaws.{run-here, run-none, part-next}
 use Rattle.request.specs.Request.{runEnd, put}
-use Rattle.request.proofs.Runs.{end-le, end-none}
+use Rattle.request.proofs.Runs.{end-le, end-none, run-places}
 use Rattle.acceptor.specs.declared.Phase.{Phase}
 use Rattle.acceptor.specs.declared.Phase.the-variants as at
 use Rattle.acceptor.specs.declared.Settings.{Settings}
@@ -39,48 +39,8 @@ use Rattle.history.proofs.Right.{opened}
 
 -- ---- the pages of a run are those at its places
 
-abbrev first : ℕ → List ℕ → List ℕ
-first p ps = take (suc (neighbours p ps)) (p ∷ ps)
-
-run-pages : (p : ℕ) (ps : List ℕ) (q : ℕ) → among (first p ps) q ≡ between p (p + suc (neighbours p ps)) q
-unfolding among neighbours
-run-pages p [] q = or-swap (eqb q p) false ∙ one-between p q
-run-pages p (r ∷ rs) q = go (eqb r (p + 1)) (eqb-true r (p + 1)) (run-pages r rs q)
-  where
-    go : (b : Bool) → (b ≡ true → r ≡ p + 1) → among (first r rs) q ≡ between r (r + suc (neighbours r rs)) q
-        → (eqb q p || among (take (cond b (suc (neighbours r rs)) 0) (r ∷ rs)) q) ≡ between p (p + suc (cond b (suc (neighbours r rs)) 0)) q
-    go true h e =
-        let k : ℕ = neighbours r rs in
-        let d : r ≡ p + 1 = h refl in
-        let f : r + suc k ≡ p + suc (suc k) = omega arith in
-        ap₂ (λ (x y : Bool). x || y) (one-between p q) (e ∙ ap₂ (λ (x y : ℕ). between x y q) d f)
-        ∙ or-swap (between p (p + 1) q) (between (p + 1) (p + suc (suc k)) q)
-        ∙ sym (between-join p (p + 1) (p + suc (suc k)) q (omega arith) (omega arith))
-    go false h e = or-swap (eqb q p) false ∙ one-between p q
-
 abbrev inRunAt : List ℕ → ℕ → ℕ → ℕ → Bool
 inRunAt t n a z = between (runAt t n a .first) (runAt t n a .first + runAt t n a .count) z
-
-module _ (t : List ℕ) (n a : ℕ) (h : a < n) (g : n ≤ length t) where
-  abbrev more : ℕ
-  more = neighbours (getD t a 0) (part t n (a + 1))
-
-  run-is : runAt t n a ≡ record { first = getD t a 0; count = suc more }
-  run-is = sym (run-here t n a (getD t a 0) (suc more) h refl refl)
-
-  part-run : part t (runEnd t n a) a ≡ first (getD t a 0) (part t n (a + 1))
-  unfolding runEnd
-  part-run =
-      let m : ℕ = suc more in
-      let e : a + runAt t n a .count ≡ a + m = ap (λ (r : PageRun). a + r .count) run-is in
-      let l : a + m ≤ n = omega (arith, e, end-le t n a h) in
-      ap (λ (k : ℕ). part t k a) e
-      ∙ ap (drop a) (sym (take-take (a + m) n t l) ∙ take-add a m (take n t))
-      ∙ drop-at (take a (take n t)) (take m (drop a (take n t))) a (ap length (take-take a n t (omega arith)) ∙ length-take-le a t (omega arith))
-      ∙ ap (take m) (part-next t n a h (omega arith))
-
-  run-places : (z : ℕ) → among (part t (runEnd t n a) a) z ≡ inRunAt t n a z
-  run-places z = ap (λ (ps : List ℕ). among ps z) part-run ∙ run-pages (getD t a 0) (part t n (a + 1)) z ∙ ap (λ (r : PageRun). between (r .first) (r .first + r .count) z) (sym run-is)
 
 in-run : (t : List ℕ) (n a j : ℕ) → n ≤ length t → a ≤ j → j < runEnd t n a → j < length t → inRunAt t n a (getD t j 0) ≡ true
 in-run t n a j g l k d =

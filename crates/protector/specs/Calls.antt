@@ -166,8 +166,11 @@ unfoldable pub afterFailed : List ℕ → ChangeStep
 afterFailed s = changes.failedOf (stageIn s) (changeIn s)
 
 -- an answer that is taken: of a visibility change, or of another
+abbrev pub doneIn : List ℕ → List ℕ → Step
+doneIn s pages = doneOf (settingsOf s) (phaseIn s) (requestOf s) pages
+
 abbrev pub visibilityDone : World → Outcome
-visibilityDone w = carriedOut w (w .pages) (doneOf (settingsOf (w .state)) (phaseIn (w .state)) (requestOf (w .state)) (w .pages))
+visibilityDone w = carriedOut w (w .pages) (doneIn (w .state) (w .pages))
 
 abbrev pub visibilityFailed : World → ℕ → ℕ → Outcome
 visibilityFailed w code processed =

@@ -1,22 +1,30 @@
 // The protector's tests of a call, and the one function that writes marks.
 ghost use mathlib.Core.Path.{_≡_};
-ghost use mathlib.Core.Bool.{_&&_};
+ghost use mathlib.Core.Bool.{true, _&&_};
+ghost use Prim.Native.Nat.{_≤_};
 ghost use lib.Dec.{eqb};
 ghost use lib.ListN.{length};
 ghost use Rattle.layout.specs.Layout.{entriesOf, mapLen};
-ghost use Rattle.mapping.specs.Maps.{maps, marksFit};
+ghost use Rattle.mapping.specs.Maps.{maps, perms, marksFit};
 ghost use Rattle.pages.specs.Pages.{pagesOf};
-ghost use Rattle.protector_state.specs.State.{stateLen, withRequest, entriesIn};
+ghost use Rattle.request.specs.Request.{put};
+ghost use Rattle.acceptor.specs.Steps.{startOf};
+ghost use Rattle.acceptor.specs.Next.{runIn, permittedAt, flagsAt, nextStep};
+ghost use Rattle.protector_state.specs.State.{stateLen, withRequest, settingsOf, entriesIn};
 ghost use Rattle.protector_state.specs.Reply.{flatOf};
-ghost use Rattle.protector.specs.World.{pagesLen, tablesLen, overlaysOf, locksOf, isLocked, lengthsFit, statusOf, statusIn, takes, takesAt, takesIn, putPlaces, applied, isEmpty, isNothing};
-ghost use Rattle.protector.specs.Calls.{permissionMapsFit, buildRefusal, pageRefusal, firstRefusal, visibilityRefusal, looksAt, answerRefusal};
+ghost use Rattle.protector.specs.World.{pagesLen, tablesLen, overlaysOf, locksOf, isLocked, lengthsFit, statusOf, statusIn, takes, takesAt, takesIn, putPlaces, putPermissions, applied, isEmpty, isNothing};
+ghost use Rattle.protector.specs.Calls.{permissionMapsFit, buildRefusal, pageRefusal, firstRefusal, visibilityRefusal, looksAt, answerRefusal, doneIn};
+use acceptor::Next;
 use acceptor::Phase;
 use acceptor::Places;
+use acceptor::Request;
 use acceptor::Settings;
 use acceptor::Step;
 use acceptor::Writes;
 use changes::Stage;
+use pages::PageRun;
 use permissions::GuestVtl;
+use permissions::HvMapGpaFlags;
 use protector_state::Reply;
 
 // The tables of one VTL.
@@ -394,6 +402,154 @@ pub fn carry_out(
     apply(private, shared, read, write, kernel, user, pages, writes);
     protector_state::save(state, phase, request);
     protector_state::flatten(isolation, answer)
+}
+
+// The marks at the places from `from` to before `to` are set.
+fn mark(map: &mut [u8], pages: &[u64], from: u64, to: u64)
+    ensures { λ _. ⌜ now (map .exit) ≡ put (now (pages .entry)) from to true (now (map .entry)) ⌝ }
+{
+    if to <= from {
+        return;
+    }
+    request::set_places(map, pages, from, to, true);
+}
+
+// The default permissions of VTL0 for the run of a phase that asks for them.
+fn permit_default(
+    read: &mut [u8],
+    write: &mut [u8],
+    kernel: &mut [u8],
+    user: &mut [u8],
+    state: &[u64],
+    pages: &[u64],
+    phase: Phase,
+    n: u64,
+    at: u64,
+    run: PageRun,
+)
+    requires { ⌜ (length (now state) ≡ stateLen) × (n ≤ length (now pages)) × (run ≡ runIn phase (now pages) n at) ⌝ }
+    ensures { λ _. ⌜ perms (now (read .exit)) (now (write .exit)) (now (kernel .exit)) (now (user .exit)) ≡ putPermissions (now (pages .entry)) (permittedAt (settingsOf (now (state .entry))) phase (now (pages .entry)) n at) (flagsAt (settingsOf (now (state .entry))) phase) (perms (now (read .entry)) (now (write .entry)) (now (kernel .entry)) (now (user .entry))) ⌝ }
+{
+    if !acceptor::is_default0(phase) {
+        return;
+    }
+    if !protector_state::is_tracked(state) {
+        return;
+    }
+    if n <= at {
+        return;
+    }
+    let flags = protector_state::default_vtl0(state);
+    request::set_run_at(read, pages, n, at, run, flags.readable);
+    request::set_run_at(write, pages, n, at, run, flags.writable);
+    request::set_run_at(kernel, pages, n, at, run, flags.kernel_executable);
+    request::set_run_at(user, pages, n, at, run, flags.user_executable);
+}
+
+// What an answer leads to, carried out.
+fn carry_on(
+    private: &mut [u8],
+    shared: &mut [u8],
+    read: &mut [u8],
+    write: &mut [u8],
+    kernel: &mut [u8],
+    user: &mut [u8],
+    state: &mut [u64],
+    pages: &[u64],
+    q: Request,
+    x: Next,
+) -> Reply
+    requires { ⌜ (length (now state) ≡ stateLen) × (q .n ≤ length (now pages)) ⌝ }
+    ensures { λ _. ⌜ maps (now (private .exit)) (now (shared .exit)) (now (read .exit)) (now (write .exit)) (now (kernel .exit)) (now (user .exit)) ≡ applied (now (pages .entry)) (nextStep (settingsOf (now (state .entry))) q (now (pages .entry)) x .writes) (maps (now (private .entry)) (now (shared .entry)) (now (read .entry)) (now (write .entry)) (now (kernel .entry)) (now (user .entry))) ⌝ }
+    ensures { λ _. ⌜ now (state .exit) ≡ withRequest (nextStep (settingsOf (now (state .entry))) q (now (pages .entry)) x .phase) (nextStep (settingsOf (now (state .entry))) q (now (pages .entry)) x .request) (now (state .entry)) ⌝ }
+    ensures { λ r. ⌜ r ≡ flatOf (settingsOf (now (state .entry)) .isolation) (nextStep (settingsOf (now (state .entry))) q (now (pages .entry)) x .answer) ⌝ }
+{
+    let turn = x.turn;
+    let phase = x.phase;
+    let m = x.marks;
+    let run = acceptor::run_in(phase, pages, q.n, x.at);
+    mark(private, pages, 0, m.private);
+    mark(shared, pages, m.from, m.to);
+    permit_default(
+        read,
+        write,
+        kernel,
+        user,
+        state,
+        pages,
+        phase,
+        q.n,
+        x.at,
+        run,
+    );
+    let r = protector_state::next_reply(state, turn, phase, q, run);
+    protector_state::save(state, phase, acceptor::next_request(turn, q, x.at));
+    r
+}
+
+// The operation asked for is done.
+pub fn answer_done(
+    private: &mut [u8],
+    shared: &mut [u8],
+    read: &mut [u8],
+    write: &mut [u8],
+    kernel: &mut [u8],
+    user: &mut [u8],
+    state: &mut [u64],
+    pages: &[u64],
+) -> Reply
+    requires { ⌜ (length (now state) ≡ stateLen) × (length (now pages) ≡ pagesLen) ⌝ }
+    ensures { λ _. ⌜ maps (now (private .exit)) (now (shared .exit)) (now (read .exit)) (now (write .exit)) (now (kernel .exit)) (now (user .exit)) ≡ applied (now (pages .entry)) (doneIn (now (state .entry)) (now (pages .entry)) .writes) (maps (now (private .entry)) (now (shared .entry)) (now (read .entry)) (now (write .entry)) (now (kernel .entry)) (now (user .entry))) ⌝ }
+    ensures { λ _. ⌜ now (state .exit) ≡ withRequest (doneIn (now (state .entry)) (now (pages .entry)) .phase) (doneIn (now (state .entry)) (now (pages .entry)) .request) (now (state .entry)) ⌝ }
+    ensures { λ r. ⌜ r ≡ flatOf (settingsOf (now (state .entry)) .isolation) (doneIn (now (state .entry)) (now (pages .entry)) .answer) ⌝ }
+{
+    let set = protector_state::settings(state);
+    let phase = protector_state::phase(state);
+    let q = protector_state::load(state);
+    let x = acceptor::done(set, phase, q, pages);
+    carry_on(
+        private,
+        shared,
+        read,
+        write,
+        kernel,
+        user,
+        state,
+        pages,
+        q,
+        x,
+    )
+}
+
+// A visibility change that is taken: what it clears, then Wait is asked for.
+pub fn begin(
+    private: &mut [u8],
+    shared: &mut [u8],
+    read: &mut [u8],
+    write: &mut [u8],
+    kernel: &mut [u8],
+    user: &mut [u8],
+    state: &mut [u64],
+    pages: &[u64],
+    vtl: GuestVtl,
+    share: bool,
+    n: u64,
+    stop: u64,
+    stopped: bool,
+) -> Reply
+    requires { ⌜ length (now state) ≡ stateLen ⌝ }
+    ensures { λ _. ⌜ maps (now (private .exit)) (now (shared .exit)) (now (read .exit)) (now (write .exit)) (now (kernel .exit)) (now (user .exit)) ≡ applied (now (pages .entry)) (startOf (settingsOf (now (state .entry))) vtl share n stop stopped .writes) (maps (now (private .entry)) (now (shared .entry)) (now (read .entry)) (now (write .entry)) (now (kernel .entry)) (now (user .entry))) ⌝ }
+    ensures { λ _. ⌜ now (state .exit) ≡ withRequest (startOf (settingsOf (now (state .entry))) vtl share n stop stopped .phase) (startOf (settingsOf (now (state .entry))) vtl share n stop stopped .request) (now (state .entry)) ⌝ }
+    ensures { λ r. ⌜ r ≡ flatOf (settingsOf (now (state .entry)) .isolation) (startOf (settingsOf (now (state .entry))) vtl share n stop stopped .answer) ⌝ }
+{
+    let w = acceptor::clears(protector_state::is_tracked(state), vtl, share, n);
+    apply(private, shared, read, write, kernel, user, pages, w);
+    protector_state::save(
+        state,
+        Phase::Wait,
+        acceptor::asked(vtl, share, n, stop, stopped),
+    );
+    protector_state::plain(1)
 }
 
 fn permission_maps_fit(

@@ -12,6 +12,14 @@ use Rattle.layout.specs.Layout.{entriesOf}
 use Rattle.permissions.specs.Flags.{vtlNumber}
 use Rattle.acceptor.specs.declared.Phase.{Phase}
 use Rattle.acceptor.specs.declared.Request.{Request}
+use Rattle.permissions.specs.declared.IsolationType.{IsolationType}
+use Rattle.permissions.specs.HvError.{codeOf}
+use mathlib.Core.Bool.{Bool, true, false, cond}
+use Rattle.acceptor.specs.declared.Answer.the-variants.{Done, AccessDenied, Failed}
+use Rattle.acceptor.specs.Steps as acceptor
+use Rattle.acceptor.proofs.Laws.{chose, chose-not}
+use Rattle.protector_state.specs.declared.Reply.{Reply}
+use Rattle.protector_state.specs.Reply.{finished, endedOf, flatOf}
 use Rattle.protector_state.specs.State.{phaseNumber, withRequest, ramOf, builtState}
 
 -- ---- the request's words
@@ -75,3 +83,24 @@ module _ (ram : List ℕ) (iso tracked release i : ℕ) where
   filled-all h k =
       let d : i ≡ length ram = omega arith in
       ap (filledTo ram iso tracked release) d ∙ ap (λ (l : List ℕ). 0 ∷ 0 ∷ 0 ∷ 0 ∷ 0 ∷ 0 ∷ 0 ∷ 0 ∷ 0 ∷ 0 ∷ 0 ∷ 0 ∷ 0 ∷ 0 ∷ 0 ∷ 0 ∷ iso ∷ tracked ∷ release ∷ 0 ∷ 15 ∷ 16 ∷ 0 ∷ 0 ∷ 0 ∷ 0 ∷ 0 ∷ 0 ∷ 0 ∷ 0 ∷ 0 ∷ length (entriesOf ram) ∷ (l ++ replicate (96 - length ram) 0)) (take-length ram)
+
+-- ---- what crosses at the end of a visibility change
+
+module _ (q : Request) (r : Reply) where
+  pub ended-stopped : q .stopped ≡ true → r ≡ finished 15 (codeOf 15) (q .index) (q .count) → r ≡ endedOf q
+  ended-stopped h e = chose (q .stopped) (q .stopped) _ _ r refl h e
+
+  pub ended-failed : q .stopped ≡ false → q .failed ≡ true → r ≡ finished 16 (q .code) (q .index) (q .count) → r ≡ endedOf q
+  ended-failed h g e = chose-not (q .stopped) (q .stopped) _ _ r refl h (chose (q .failed) (q .failed) _ _ r refl g e)
+
+  pub ended-done : q .stopped ≡ false → q .failed ≡ false → r ≡ finished 0 0 0 (q .count) → r ≡ endedOf q
+  ended-done h g e = chose-not (q .stopped) (q .stopped) _ _ r refl h (chose-not (q .failed) (q .failed) _ _ r refl g e)
+
+pub ended-flat : (i : IsolationType) (q : Request) → endedOf q ≡ flatOf i (acceptor.finished q)
+unfolding flatOf
+ended-flat i q = go (q .stopped) (q .failed)
+  where
+    go : (s f : Bool) → cond s (finished 15 (codeOf 15) (q .index) (q .count)) (cond f (finished 16 (q .code) (q .index) (q .count)) (finished 0 0 0 (q .count))) ≡ flatOf i (cond s (AccessDenied (q .index) (q .count)) (cond f (Failed (q .code) (q .index) (q .count)) (Done (q .count))))
+    go true f = refl
+    go false true = refl
+    go false false = refl

@@ -14,6 +14,7 @@ use Rattle.acceptor.specs.declared.Operation.{Operation}
 use Rattle.acceptor.specs.declared.Operation.the-variants.{Wait, FlushAll, Protect, Invalidate, Release, Modify, Accept, Zero, Flush, TlbWait}
 use Rattle.acceptor.specs.declared.Answer.{Answer}
 use Rattle.acceptor.specs.declared.Answer.the-variants.{Done, AccessDenied, Failed, Halted, Ask, Refused}
+use Rattle.acceptor.specs.declared.Request.{Request}
 use Rattle.acceptor.specs.Steps.{isSnp}
 use Rattle.protector_state.specs.declared.Reply.{Reply}
 
@@ -62,3 +63,10 @@ flatOf i (Failed code index n) = finished 16 code index n
 flatOf i (Halted n) = finished 20 0 0 n
 flatOf i (Ask o) = askedOf i o
 flatOf i (Refused number) = finished number (codeOf number) 0 0
+
+-- what a visibility change that ends gives, whatever the isolation
+abbrev pub endedOf : Request → Reply
+endedOf q =
+    cond (q .stopped) (finished 15 (codeOf 15) (q .index) (q .count))
+    (cond (q .failed) (finished 16 (q .code) (q .index) (q .count))
+    (finished 0 0 0 (q .count)))

@@ -3,16 +3,19 @@ ghost use mathlib.Core.Path.{_≡_};
 ghost use Prim.Native.Nat.{_≤_};
 ghost use mathlib.Core.Bool.{cond};
 ghost use lib.ListN.{length};
-ghost use Rattle.acceptor.specs.Steps.{isSnp};
+ghost use Rattle.acceptor.specs.Steps.{isSnp, orNone, operationOn};
+ghost use Rattle.acceptor.specs.Next.{answerBy};
 ghost use Rattle.permissions.specs.HvError.{codeOf};
 ghost use Rattle.permissions.specs.Rmpadjust.{operandOf};
 ghost use Rattle.protector_state.specs.State.{stateLen, phaseNumber, firstPhases, phaseOf, phaseIn, requestOf, withRequest, optionOf, settingsOf, ramOf, builtState};
-ghost use Rattle.protector_state.specs.Reply.{finished, plain, onVtl, onRun, protects, modifies, askedOf, flatOf};
+ghost use Rattle.protector_state.specs.Reply.{finished, plain, onVtl, onRun, protects, modifies, askedOf, endedOf, flatOf};
 use acceptor::Answer;
+use acceptor::Next;
 use acceptor::Operation;
 use acceptor::Phase;
 use acceptor::Request;
 use acceptor::Settings;
+use acceptor::Turn;
 use pages::PageRun;
 use permissions::DefaultVtlPermissions;
 use permissions::GuestVtl;
@@ -61,7 +64,7 @@ pub fn refused(number: u64) -> Reply
     finished(number, permissions::hv_error(number), 0, 0)
 }
 
-fn plain(operation: u64) -> Reply
+pub fn plain(operation: u64) -> Reply
     ensures { λ r. ⌜ r ≡ plain operation ⌝ }
 {
     Reply {
@@ -196,6 +199,18 @@ pub fn flatten(isolation: IsolationType, answer: Answer) -> Reply
         Answer::Ask(operation) => asked(isolation, operation),
         Answer::Refused(number) => refused(number),
     }
+}
+
+fn ended(q: Request) -> Reply
+    ensures { λ r. ⌜ r ≡ endedOf q ⌝ }
+{
+    if q.stopped {
+        return stopped(q.index, q.count);
+    }
+    if q.failed {
+        return finished(16, q.code, q.index, q.count);
+    }
+    finished(0, 0, 0, q.count)
 }
 
 fn phase_number(phase: Phase) -> u64
@@ -336,6 +351,70 @@ pub fn settings(state: &[u64]) -> Settings
             vtl0: HvMapGpaFlags::from_bits(state[20]),
             vtl1: option_of(state[21]),
         },
+    }
+}
+
+fn isolation(state: &[u64]) -> IsolationType
+    requires { ⌜ length (now state) ≡ stateLen ⌝ }
+    ensures { λ r. ⌜ r ≡ settingsOf (now (state .entry)) .isolation ⌝ }
+{
+    permissions::isolation_of(state[16])
+}
+
+pub fn is_tracked(state: &[u64]) -> bool
+    requires { ⌜ length (now state) ≡ stateLen ⌝ }
+    ensures { λ r. ⌜ r ≡ settingsOf (now (state .entry)) .tracked ⌝ }
+{
+    state[17] == 1
+}
+
+pub fn default_vtl0(state: &[u64]) -> HvMapGpaFlags
+    requires { ⌜ length (now state) ≡ stateLen ⌝ }
+    ensures { λ r. ⌜ r ≡ settingsOf (now (state .entry)) .defaults .vtl0 ⌝ }
+{
+    HvMapGpaFlags::from_bits(state[20])
+}
+
+fn default_vtl1(state: &[u64]) -> HvMapGpaFlags
+    requires { ⌜ length (now state) ≡ stateLen ⌝ }
+    ensures { λ r. ⌜ r ≡ orNone (settingsOf (now (state .entry)) .defaults .vtl1) ⌝ }
+{
+    acceptor::or_none(option_of(state[21]))
+}
+
+// What crosses for the operation of a phase. Only what it needs is read from the state.
+fn asked_at(state: &[u64], phase: Phase, q: Request, run: PageRun) -> Reply
+    requires { ⌜ length (now state) ≡ stateLen ⌝ }
+    ensures { λ r. ⌜ r ≡ askedOf (settingsOf (now (state .entry)) .isolation) (operationOn (settingsOf (now (state .entry))) phase q run) ⌝ }
+{
+    let vtl0 = GuestVtl::Vtl0;
+    let vtl1 = GuestVtl::Vtl1;
+    match phase {
+        Phase::Idle => plain(1),
+        Phase::Halted => plain(1),
+        Phase::Wait => plain(1),
+        Phase::FlushAll => plain(2),
+        Phase::ProtectNone0 => protect(isolation(state), vtl0, HvMapGpaFlags::none(), run),
+        Phase::ProtectNone1 => protect(isolation(state), vtl1, HvMapGpaFlags::none(), run),
+        Phase::Invalidate => on_run(4, run),
+        Phase::Release => on_run(5, run),
+        Phase::Modify => modify(q.share, q.n),
+        Phase::Accept => on_run(7, run),
+        Phase::Zero => on_run(8, run),
+        Phase::ProtectDefault0 => protect(isolation(state), vtl0, default_vtl0(state), run),
+        Phase::ProtectDefault1 => protect(isolation(state), vtl1, default_vtl1(state), run),
+    }
+}
+
+// What crosses for what an answer leads to.
+pub fn next_reply(state: &[u64], turn: Turn, phase: Phase, q: Request, run: PageRun) -> Reply
+    requires { ⌜ length (now state) ≡ stateLen ⌝ }
+    ensures { λ r. ⌜ r ≡ flatOf (settingsOf (now (state .entry)) .isolation) (answerBy turn (settingsOf (now (state .entry))) phase q run) ⌝ }
+{
+    match turn {
+        Turn::Ask => asked_at(state, phase, q, run),
+        Turn::End => ended(q),
+        Turn::Keep => refused(21),
     }
 }
 

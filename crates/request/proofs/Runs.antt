@@ -3,16 +3,16 @@ use mathlib.Core.Bool.{Bool, true, false, cond, _||_}
 use mathlib.Core.List.{List, [], _∷_}
 use mathlib.Core.Logic.{⊎-elim}
 use mathlib.Core.Path.{_≡_, refl, sym, ap, ap₂, _∙_}
-use Prim.Native.Nat.{ℕ, suc, _+_, _-_, _≤_, _<_, min, max}
+use Prim.Native.Nat.{ℕ, suc, _+_, _-_, _*_, _≤_, _<_, min, max}
 use native.Mathlib.Omega.{arith}
 use lib.Dec.{eqb}
 use lib.ListN.{length, getD, take, drop, length-take, length-drop}
-use lib.Seq.{drop-drop, getD-drop, getD-take}
+use lib.Seq.{drop-drop, getD-drop, getD-take, take-take, take-add, drop-at, length-take-le}
 use borrow.Author.Tests.{eqb-true}
 use Rattle.laws.specs.Bools.{or-swap, or-assoc, lt-or-le}
 use Rattle.laws.specs.Ranges.{between, between-join}
 use Rattle.bitmap.specs.Pages.{written}
-use Rattle.bitmap.proofs.Map.{both, none}
+use Rattle.bitmap.proofs.Map.{both, none, alike}
 use Rattle.bitmap.proofs.Runs.{one-between}
 use Rattle.pages.specs.Pages.{among}
 use Rattle.pages.specs.Runs.{part, neighbours, runAt}
@@ -125,6 +125,72 @@ module _ (t : List ℕ) (to a end first last : ℕ) (h : a < to) (g : a < length
       ∙ both 8 (among (part t to end)) (between first (last + 1)) (among (part t to a)) s m
       (λ q. ap (λ (l : List ℕ). among l q) (part-next t to a h g) ∙ run-pages p (part t to (a + 1)) q
       ∙ ap₂ (λ (l : List ℕ) (b : Bool). among l q || b) rest (ap₂ (λ (x y : ℕ). between x y q) (sym e) (sym v)))
+
+-- ---- the pages at the places of a run
+abbrev first : ℕ → List ℕ → List ℕ
+first p ps = take (suc (neighbours p ps)) (p ∷ ps)
+
+own-pages : (p : ℕ) (ps : List ℕ) (q : ℕ) → among (first p ps) q ≡ between p (p + suc (neighbours p ps)) q
+unfolding among neighbours
+own-pages p [] q = or-swap (eqb q p) false ∙ one-between p q
+own-pages p (r ∷ rs) q = go (eqb r (p + 1)) (eqb-true r (p + 1)) (own-pages r rs q)
+  where
+    go : (b : Bool) → (b ≡ true → r ≡ p + 1) → among (first r rs) q ≡ between r (r + suc (neighbours r rs)) q
+        → (eqb q p || among (take (cond b (suc (neighbours r rs)) 0) (r ∷ rs)) q) ≡ between p (p + suc (cond b (suc (neighbours r rs)) 0)) q
+    go true h e =
+        let k : ℕ = neighbours r rs in
+        let d : r ≡ p + 1 = h refl in
+        let f : r + suc k ≡ p + suc (suc k) = omega arith in
+        ap₂ (λ (x y : Bool). x || y) (one-between p q) (e ∙ ap₂ (λ (x y : ℕ). between x y q) d f)
+        ∙ or-swap (between p (p + 1) q) (between (p + 1) (p + suc (suc k)) q)
+        ∙ sym (between-join p (p + 1) (p + suc (suc k)) q (omega arith) (omega arith))
+    go false h e = or-swap (eqb q p) false ∙ one-between p q
+
+module _ (t : List ℕ) (n a : ℕ) (h : a < n) (g : n ≤ length t) where
+  run-is : runAt t n a ≡ record { first = getD t a 0; count = suc (more t n a h) }
+  run-is = sym (run-here t n a (getD t a 0) (suc (more t n a h)) h refl refl)
+
+  part-run : part t (runEnd t n a) a ≡ first (getD t a 0) (part t n (a + 1))
+  unfolding runEnd
+  part-run =
+      let m : ℕ = suc (more t n a h) in
+      let e : a + runAt t n a .count ≡ a + m = ap (λ (r : PageRun). a + r .count) run-is in
+      let l : a + m ≤ n = omega (arith, e, end-le t n a h) in
+      ap (λ (k : ℕ). part t k a) e
+      ∙ ap (drop a) (sym (take-take (a + m) n t l) ∙ take-add a m (take n t))
+      ∙ drop-at (take a (take n t)) (take m (drop a (take n t))) a (ap length (take-take a n t (omega arith)) ∙ length-take-le a t (omega arith))
+      ∙ ap (take m) (part-next t n a h (omega arith))
+
+  pub run-places : (z : ℕ) → among (part t (runEnd t n a) a) z ≡ between (runAt t n a .first) (runAt t n a .first + runAt t n a .count) z
+  run-places z = ap (λ (ps : List ℕ). among ps z) part-run ∙ own-pages (getD t a 0) (part t n (a + 1)) z ∙ ap (λ (r : PageRun). between (r .first) (r .first + r .count) z) (sym run-is)
+
+  -- a map written at these places
+  module _ (r : PageRun) (e : r ≡ runAt t n a) where
+    more-of : r .count ≡ suc (more t n a h)
+    more-of = ap (λ (r : PageRun). r .count) (e ∙ run-is)
+
+    pub run-some : 1 ≤ r .count
+    run-some = omega (arith, more-of)
+
+    pub run-inside : a + (r .count - 1) < n
+    run-inside = omega (arith, more-of, end-is t n a h, end-le t n a h)
+
+  module _ (r : PageRun) (last : ℕ) (e : r ≡ runAt t n a) (d : last ≡ getD t (a + (r .count - 1)) 0) where
+    run-last : last ≡ r .first + more t n a h
+    run-last =
+        let k : a + (r .count - 1) ≡ runEnd t n a - 1 = omega (arith, more-of r e, end-is t n a h) in
+        last-of t n a (runEnd t n a) (r .first) last h (omega arith) refl (ap (λ (r : PageRun). r .first) (e ∙ run-is)) (d ∙ ap (λ (i : ℕ). getD t i 0) k)
+
+    pub run-above : r .first ≤ last
+    run-above = omega (arith, run-last)
+
+    pub put-at : (s : Bool) (m m′ : List ℕ) → m′ ≡ written 8 (between (r .first) (last + 1)) s m → m′ ≡ put t a (runEnd t n a) s m
+    unfolding put
+    put-at s m m′ f =
+        let u : last + 1 ≡ r .first + r .count = omega (arith, run-last, more-of r e) in
+        f ∙ ap (λ (x : ℕ). written 8 (between (r .first) x) s m) u
+        ∙ ap (λ (r : PageRun). written 8 (between (r .first) (r .first + r .count)) s m) e
+        ∙ alike 8 _ _ s m (λ j k l v. sym (run-places (j * 8 + k)))
 
 -- ---- an empty range
 module _ (t : List ℕ) (to a : ℕ) (s : Bool) (m : List ℕ) where

@@ -7,7 +7,9 @@ ghost use lib.ListN.{length, getD, set, take};
 ghost use Rattle.laws.specs.Ranges.{between};
 ghost use Rattle.bitmap.specs.Pages.{bitAt, written};
 ghost use Rattle.pages.specs.Pages.{pagesOf};
+ghost use Rattle.pages.specs.Runs.{runAt};
 ghost use Rattle.request.specs.Request.{pick, tableOf, stopAt, isOpen, wanted, runEnd, put};
+use pages::PageRun;
 
 // Whether a page is readable and writable.
 fn is_open(read: &[u8], write: &[u8], p: u64) -> bool
@@ -99,8 +101,21 @@ pub fn set_run(map: &mut [u8], first: u64, last: u64, state: bool)
     requires { ⌜ first ≤ last ⌝ }
     ensures { λ _. ⌜ now (map .exit) ≡ written 8 (between first (last + 1)) state (now (map .entry)) ⌝ }
 {
+    if first == last {
+        bitmap::set_page(map, first, state);
+        return;
+    }
     bitmap::update(map, first, last, state);
     bitmap::set_page(map, last, state);
+}
+
+// The pages of the run at a place, of the first n.
+pub fn set_run_at(map: &mut [u8], t: &[u64], n: u64, at: u64, run: PageRun, state: bool)
+    requires { ⌜ (at < n) × (n ≤ length (now t)) × (run ≡ runAt (now t) n at) ⌝ }
+    ensures { λ _. ⌜ now (map .exit) ≡ put (now (t .entry)) at (runEnd (now (t .entry)) n at) state (now (map .entry)) ⌝ }
+{
+    let last = numbers::word_at(t, at + (run.count - 1));
+    set_run(map, run.first, last, state);
 }
 
 // The pages at the places from `from` to before `to`, run by run.

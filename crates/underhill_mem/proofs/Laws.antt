@@ -117,21 +117,24 @@ changed w x a b c d s t r h =
     ∙ ap (outcome (withPermissions (w .maps) (x .written) (flagsOf (x .change .flags))) (withChange (x .stage) (x .change) (w .state)) (w .pages) (entered (x .entry) (x .change) (w .tables))) (h .1 .1 .1)
 
 module _ (w : World) (v : GuestVtl) (share : Bool) (l : List ℕ) where
-  pub visibility-made : (set : Settings) (looks : Bool) (stop count pc : ℕ) (table : List ℕ) (st : Step) (m : Maps) (s : List ℕ) (r : Reply) → set ≡ settingsOf (w .state) → looks ≡ looksAt set v share
+  -- a call that is taken begins with n pages, of a list of k that stops at a place
+  abbrev begun : ℕ → ℕ → ℕ → Step
+  begun n stop k = startOf (settingsOf (w .state)) v share n stop (ltb stop k)
+
+  pub visibility-made : (set : Settings) (looks : Bool) (stop count pc : ℕ) (table : List ℕ) (m : Maps) (s : List ℕ) (r : Reply) → set ≡ settingsOf (w .state) → looks ≡ looksAt set v share
       → stop ≡ stopAt (isOpen (w .maps .permissions .read) (w .maps .permissions .write) looks) (pagesOf l)
       → count ≡ length (pick (wanted (w .maps .shared) share) (take stop (pagesOf l))) → table ≡ tableOf (wanted (w .maps .shared) share) (take stop (pagesOf l)) (w .pages)
-      → pc ≡ length (pagesOf l) → st ≡ startOf set v share count stop (ltb stop pc) → m ≡ applied table (st .writes) (w .maps)
-      → s ≡ withRequest (st .phase) (st .request) (w .state) → r ≡ flatOf (set .isolation) (st .answer)
+      → pc ≡ length (pagesOf l) → m ≡ applied table (begun count stop pc .writes) (w .maps)
+      → s ≡ withRequest (begun count stop pc .phase) (begun count stop pc .request) (w .state) → r ≡ flatOf (settingsOf (w .state) .isolation) (begun count stop pc .answer)
       → outcome m s table (w .tables) r ≡ visibilityTaken w v share l
   unfolding visibilityTaken
-  visibility-made set looks stop count pc table st m s r e1 e2 e3 e4 e5 e6 e7 a b c =
+  visibility-made set looks stop count pc table m s r e1 e2 e3 e4 e5 e6 a b c =
       let ps : List ℕ = pagesOf l in
       let f : stop ≡ stopAt (isOpen (w .maps .permissions .read) (w .maps .permissions .write) (looksAt (settingsOf (w .state)) v share)) ps
       = e3 ∙ ap (λ (y : Bool). stopAt (isOpen (w .maps .permissions .read) (w .maps .permissions .write) y) ps) (e2 ∙ ap (λ (y : Settings). looksAt y v share) e1) in
-      carried w table set st _ m s r e1 e7 a b c
+      carried w table (settingsOf (w .state)) (begun count stop pc) _ m s r refl refl a b c
       ∙ ap₂ (carriedOut w) (e5 ∙ ap (λ (k : ℕ). tableOf (wanted (w .maps .shared) share) (take k ps) (w .pages)) f)
-      (ap₂ (λ (y : Settings) (k : ℕ). startOf y v share k stop (ltb stop pc)) e1 e4 ∙ ap (λ (k : ℕ). startOf (settingsOf (w .state)) v share (length (pick (wanted (w .maps .shared) share) (take stop ps))) stop (ltb stop k)) e6
-      ∙ ap (λ (k : ℕ). startOf (settingsOf (w .state)) v share (length (pick (wanted (w .maps .shared) share) (take k ps))) k (ltb k (length ps))) f)
+      (ap₂ (λ (n k : ℕ). begun n stop k) e4 e6 ∙ ap (λ (k : ℕ). begun (length (pick (wanted (w .maps .shared) share) (take k ps))) k (length ps)) f)
 
 pub build-made : (w : World) (ram : List ℕ) (isolation tracked release : ℕ) (m : Maps) (s p t : List ℕ) (r : Reply) → m ≡ built (entriesOf ram) (w .maps) → s ≡ builtState ram isolation tracked release
     → p ≡ replicate (length (w .pages)) 0 → t ≡ replicate (length (w .tables)) 0 → r ≡ finished 0 0 0 0 → outcome m s p t r ≡ buildTaken w ram isolation tracked release

@@ -92,8 +92,7 @@ pub extern "C" fn protector_change_host_visibility(
     let stop = request::stop_at(read, write, looks, list);
     let count = request::store(pages, shared, share, list, stop);
     let stopped = stop < pages::page_count(list);
-    let s = acceptor::start(set, v, share, count, stop, stopped);
-    protector::carry_out(
+    protector::begin(
         private,
         shared,
         read,
@@ -102,8 +101,11 @@ pub extern "C" fn protector_change_host_visibility(
         user,
         state,
         pages,
-        set,
-        s,
+        v,
+        share,
+        count,
+        stop,
+        stopped,
     )
 }
 
@@ -140,22 +142,7 @@ pub extern "C" fn protector_answer_done(
     if change_state::is_changing(state) {
         return protections::answer_done(private, read, write, kernel, user, state, pages, tables);
     }
-    let set = protector_state::settings(state);
-    let phase = protector_state::phase(state);
-    let q = protector_state::load(state);
-    let s = acceptor::done(set, phase, q, pages);
-    protector::carry_out(
-        private,
-        shared,
-        read,
-        write,
-        kernel,
-        user,
-        state,
-        pages,
-        set,
-        s,
-    )
+    protector::answer_done(private, shared, read, write, kernel, user, state, pages)
 }
 
 // The operation asked for failed.

@@ -1,43 +1,53 @@
 -- `acceptor::after_accept` meets its contract. Assumes nothing.
 use borrow.Author.Needs.{needs}
-use mathlib.Core.Path.{sym, _∙_}
+use mathlib.Core.Path.{refl, sym, ap, _∙_}
+use Rattle.acceptor.specs.declared.Phase.the-variants as at
+use Rattle.acceptor.specs.declared.Marks.{Marks}
+use Rattle.acceptor.specs.Steps.{noWrites, returnRun}
+use Rattle.acceptor.specs.Next.{markedBy}
+use Rattle.acceptor.proofs.Laws as laws
 use Rattle.acceptor.proofs.after_accept.Statement.{statement}
 use Rattle.acceptor.proofs.after_accept.Tie as tie
-use Rattle.acceptor.proofs.Laws as laws
 
 is-snp-requires : tie.Need-is-snp-requires
 is-snp-requires c κs = search needs
 
-no-writes-requires : tie.Need-no-writes-requires
-no-writes-requires c κs = search needs
+no-marks-requires : tie.Need-no-marks-requires
+no-marks-requires c κs = search needs
 
-ask-requires : tie.Need-ask-requires
-ask-requires c κs = search needs
+asks-requires : tie.Need-asks-requires
+asks-requires c κs = search needs
 
 returns : tie.Need-returns
-returns c = let a = c .before .before .before .before .before .args in laws.accept-snp (a .set) (a .q) (a .t .now) (c .ask .result) (c .before .no-writes .result) (sym (c .before .before .before .is-snp .ensures) ∙ c .before .before .if1 .taken) (c .before .no-writes .ensures) (c .ask .ensures)
+returns c =
+    let a = c .before .before .before .before .before .args in
+    laws.accept-snp (a .set) (a .q) (a .t .now) _ noWrites (sym (c .before .before .before .is-snp .ensures) ∙ c .before .before .if1 .taken) refl
+    (laws.next-asks (a .set) (a .q) (a .t .now) at.Zero (a .q .at) _ _ _ (c .asks .ensures) (c .before .no-marks .ensures))
 
 run-end-requires : tie.Need-run-end-requires
 run-end-requires c κs = search needs
 
-no-writes-requires-2 : tie.Need-no-writes-requires-2
-no-writes-requires-2 c κs = search needs
+no-marks-requires-2 : tie.Need-no-marks-requires-2
+no-marks-requires-2 c κs = search needs
 
 return-run-requires : tie.Need-return-run-requires
 return-run-requires c κs = search needs
 
 returns-2 : tie.Need-returns-2
-returns-2 c = let a = c .before .before .before .before .before .before .args in laws.accept-on (a .set) (a .q) (a .t .now) (c .return-run .result) (c .before .no-writes2 .result) _ (sym (c .before .before .before .before .is-snp .ensures) ∙ c .before .before .before .if1 .left) (c .before .before .run-end .ensures) (c .before .no-writes2 .ensures) (c .return-run .ensures)
+returns-2 c =
+    let a = c .before .before .before .before .before .before .args in
+    laws.accept-on (a .set) (a .q) (a .t .now) _ noWrites _ (sym (c .before .before .before .before .is-snp .ensures) ∙ c .before .before .before .if1 .left) (c .before .before .run-end .ensures) refl
+    (c .return-run .ensures ∙ ap (λ (m : Marks). returnRun (a .set) (a .q) (a .t .now) (c .before .before .run-end .result) (markedBy m)) (c .before .no-marks2 .ensures))
 
 pub after-accept-spec : {M : Type 1} → statement M
 after-accept-spec =
     tie.close
     (tie.spec
     is-snp-requires
-    no-writes-requires
-    ask-requires
+    no-marks-requires
+    asks-requires
     returns
     run-end-requires
-    no-writes-requires-2
+    no-marks-requires-2
     return-run-requires
     returns-2)

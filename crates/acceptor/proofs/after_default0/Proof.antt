@@ -3,20 +3,22 @@ use borrow.Author.Needs.{needs}
 use mathlib.Core.Path.{sym, ap, ap₂, _∙_}
 use Prim.Native.Nat.{ℕ}
 use Rattle.permissions.specs.declared.OptionFlags.{OptionFlags}
-use Rattle.acceptor.specs.Steps.{afterDefault0, ask, defaultRun}
-use Rattle.acceptor.specs.declared.Writes.{Writes}
 use Rattle.acceptor.specs.declared.Phase.the-variants as at
+use Rattle.acceptor.specs.declared.Marks.{Marks}
+use Rattle.acceptor.specs.Steps.{afterDefault0, defaultRun}
+use Rattle.acceptor.specs.Next.{markedBy}
+use Rattle.acceptor.proofs.Laws as laws
 use Rattle.acceptor.proofs.after_default0.Statement.{statement}
 use Rattle.acceptor.proofs.after_default0.Tie as tie
 
 enum-told : tie.Need-enum-told
 enum-told c = search needs
 
-no-writes-requires : tie.Need-no-writes-requires
-no-writes-requires c κs = search needs
+no-marks-requires : tie.Need-no-marks-requires
+no-marks-requires c κs = search needs
 
-ask-requires : tie.Need-ask-requires
-ask-requires c κs = search needs
+asks-requires : tie.Need-asks-requires
+asks-requires c κs = search needs
 
 enum-told-2 : tie.Need-enum-told-2
 enum-told-2 c = search needs
@@ -24,28 +26,35 @@ enum-told-2 c = search needs
 run-end-requires : tie.Need-run-end-requires
 run-end-requires c κs = search needs
 
-no-writes-requires-2 : tie.Need-no-writes-requires-2
-no-writes-requires-2 c κs = search needs
+no-marks-requires-2 : tie.Need-no-marks-requires-2
+no-marks-requires-2 c κs = search needs
 
 default-run-requires : tie.Need-default-run-requires
 default-run-requires c κs = search needs
 
 returns : tie.Need-returns
-returns c = let a = c .before .before .before .before .before .before .args in c .ask .ensures ∙ ap (ask (a .set) at.ProtectDefault1 (a .q) (a .t .now) (a .q .at)) (c .before .no-writes .ensures) ∙ ap (λ (o : OptionFlags). afterDefault0 o (a .set) (a .q) (a .t .now)) (sym (c .before .before .enum-told .given .1))
+returns c =
+    let a = c .before .before .before .before .before .before .args in
+    laws.next-asks (a .set) (a .q) (a .t .now) at.ProtectDefault1 (a .q .at) _ _ _ (c .asks .ensures) (c .before .no-marks .ensures)
+    ∙ ap (λ (o : OptionFlags). afterDefault0 o (a .set) (a .q) (a .t .now)) (sym (c .before .before .enum-told .given .1))
 
 returns-2 : tie.Need-returns-2
-returns-2 c = let a = c .before .before .before .before .before .before .before .args in c .default-run .ensures ∙ ap₂ (λ (k : ℕ) (w : Writes). defaultRun (a .set) (a .q) (a .t .now) k w) (c .before .before .run-end .ensures) (c .before .no-writes2 .ensures) ∙ ap (λ (o : OptionFlags). afterDefault0 o (a .set) (a .q) (a .t .now)) (sym (c .before .before .before .enum-told2 .given .1))
+returns-2 c =
+    let a = c .before .before .before .before .before .before .before .args in
+    c .default-run .ensures
+    ∙ ap₂ (λ (k : ℕ) (m : Marks). defaultRun (a .set) (a .q) (a .t .now) k (markedBy m)) (c .before .before .run-end .ensures) (c .before .no-marks2 .ensures)
+    ∙ ap (λ (o : OptionFlags). afterDefault0 o (a .set) (a .q) (a .t .now)) (sym (c .before .before .before .enum-told2 .given .1))
 
 pub after-default0-spec : {M : Type 1} → statement M
 after-default0-spec =
     tie.close
     (tie.spec
     enum-told
-    no-writes-requires
-    ask-requires
+    no-marks-requires
+    asks-requires
     enum-told-2
     run-end-requires
-    no-writes-requires-2
+    no-marks-requires-2
     default-run-requires
     returns
     returns-2)

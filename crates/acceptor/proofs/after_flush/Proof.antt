@@ -1,25 +1,32 @@
 -- `acceptor::after_flush` meets its contract. Assumes nothing.
 use borrow.Author.Needs.{needs}
+use mathlib.Core.Path.{refl}
+use Rattle.acceptor.specs.declared.Phase.the-variants as at
 use Rattle.acceptor.specs.Steps.{noWrites}
+use Rattle.acceptor.proofs.Laws as laws
 use Rattle.acceptor.proofs.after_flush.Statement.{statement}
 use Rattle.acceptor.proofs.after_flush.Tie as tie
-use Rattle.acceptor.proofs.Laws as laws
 
 share-run-requires : tie.Need-share-run-requires
 share-run-requires c κs = search needs
 
 returns : tie.Need-returns
-returns c = let a = c .before .before .before .args in laws.flush-share (a .set) (a .q) (a .t .now) (c .share-run .result) (noWrites) (c .before .if1 .taken) (c .share-run .ensures)
+returns c =
+    let a = c .before .before .before .args in
+    laws.flush-share (a .set) (a .q) (a .t .now) _ noWrites (c .before .if1 .taken) (c .share-run .ensures)
 
-no-writes-requires : tie.Need-no-writes-requires
-no-writes-requires c κs = search needs
+no-marks-requires : tie.Need-no-marks-requires
+no-marks-requires c κs = search needs
 
-ask-requires : tie.Need-ask-requires
-ask-requires c κs = search needs
+asks-requires : tie.Need-asks-requires
+asks-requires c κs = search needs
 
 returns-2 : tie.Need-returns-2
-returns-2 c = let a = c .before .before .before .before .args in laws.flush-return (a .set) (a .q) (a .t .now) (c .ask .result) (c .before .no-writes .result) (c .before .before .if1 .left) (c .before .no-writes .ensures) (c .ask .ensures)
+returns-2 c =
+    let a = c .before .before .before .before .args in
+    laws.flush-return (a .set) (a .q) (a .t .now) _ noWrites (c .before .before .if1 .left) refl
+    (laws.next-asks (a .set) (a .q) (a .t .now) at.Modify 0 _ _ _ (c .asks .ensures) (c .before .no-marks .ensures))
 
 pub after-flush-spec : {M : Type 1} → statement M
 after-flush-spec =
-    tie.close (tie.spec share-run-requires returns no-writes-requires ask-requires returns-2)
+    tie.close (tie.spec share-run-requires returns no-marks-requires asks-requires returns-2)

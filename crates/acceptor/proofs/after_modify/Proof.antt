@@ -1,38 +1,33 @@
 -- `acceptor::after_modify` meets its contract. Assumes nothing.
 use borrow.Author.Needs.{needs}
+use mathlib.Core.Path.{refl, ap, _∙_}
+use Rattle.acceptor.specs.declared.Marks.{Marks}
+use Rattle.acceptor.specs.Steps.{noWrites, returnRun}
+use Rattle.acceptor.specs.Next.{markedBy}
+use Rattle.acceptor.proofs.Laws as laws
 use Rattle.acceptor.proofs.after_modify.Statement.{statement}
 use Rattle.acceptor.proofs.after_modify.Tie as tie
-use Rattle.acceptor.proofs.Laws as laws
 
-no-writes-requires : tie.Need-no-writes-requires
-no-writes-requires c κs = search needs
-
-set-shared-requires : tie.Need-set-shared-requires
-set-shared-requires c κs = search needs
-
-end-requires : tie.Need-end-requires
-end-requires c κs = search needs
+ends-requires : tie.Need-ends-requires
+ends-requires c κs = search needs
 
 returns : tie.Need-returns
-returns c = let a = c .before .before .before .before .before .args in laws.modify-share (a .set) (a .q) (a .t .now) (c .end .result) (c .before .before .no-writes .result) _ (c .before .before .before .if1 .taken) (c .before .before .no-writes .ensures) (c .before .set-shared .ensures) (c .end .ensures)
+returns c =
+    let a = c .before .before .before .args in
+    laws.modify-share (a .set) (a .q) (a .t .now) _ noWrites _ (c .before .if1 .taken) refl refl (laws.next-ends (a .set) (a .q) (a .t .now) _ _ (c .ends .ensures))
 
-no-writes-requires-2 : tie.Need-no-writes-requires-2
-no-writes-requires-2 c κs = search needs
+no-marks-requires : tie.Need-no-marks-requires
+no-marks-requires c κs = search needs
 
 return-run-requires : tie.Need-return-run-requires
 return-run-requires c κs = search needs
 
 returns-2 : tie.Need-returns-2
-returns-2 c = let a = c .before .before .before .before .args in laws.modify-return (a .set) (a .q) (a .t .now) (c .return-run .result) (c .before .no-writes2 .result) (c .before .before .if1 .left) (c .before .no-writes2 .ensures) (c .return-run .ensures)
+returns-2 c =
+    let a = c .before .before .before .before .args in
+    laws.modify-return (a .set) (a .q) (a .t .now) _ noWrites (c .before .before .if1 .left) refl
+    (c .return-run .ensures ∙ ap (λ (m : Marks). returnRun (a .set) (a .q) (a .t .now) 0 (markedBy m)) (c .before .no-marks .ensures))
 
 pub after-modify-spec : {M : Type 1} → statement M
 after-modify-spec =
-    tie.close
-    (tie.spec
-    no-writes-requires
-    set-shared-requires
-    end-requires
-    returns
-    no-writes-requires-2
-    return-run-requires
-    returns-2)
+    tie.close (tie.spec ends-requires returns no-marks-requires return-run-requires returns-2)

@@ -1,0 +1,17 @@
+-- `acceptor::keeps` meets its contract. Assumes nothing.
+use borrow.Author.Needs.{needs}
+use mathlib.Core.Path.{ap}
+use Rattle.acceptor.specs.declared.Marks.{Marks}
+use Rattle.acceptor.specs.declared.Turn.the-variants as turn
+use Rattle.acceptor.specs.Next.{next}
+use Rattle.acceptor.proofs.keeps.Statement.{statement}
+use Rattle.acceptor.proofs.keeps.Tie as tie
+
+no-marks-requires : tie.Need-no-marks-requires
+no-marks-requires c κs = search needs
+
+returns : tie.Need-returns
+returns c = ap (λ (m : Marks). next turn.Keep (c .before .args .phase) 0 m) (c .no-marks .ensures)
+
+pub keeps-spec : {M : Type 1} → statement M
+keeps-spec = tie.close (tie.spec no-marks-requires returns)

@@ -1,0 +1,77 @@
+use borrow.Author.Needs.{needs}
+use Rattle.protector.proofs.Laws as laws
+use native.Mathlib.Omega.{arith}
+use mathlib.Core.Path.{ap, _∙_}
+use Rattle.mapping.specs.Maps.{maps}
+use Rattle.acceptor.specs.declared.Step.{Step}
+use Rattle.protector_state.specs.State.{settingsOf, requestOf, withRequest}
+use Rattle.protector_state.specs.Reply.{flatOf}
+use Rattle.protector.specs.World.{applied}
+use Rattle.protector.proofs.answer_done.Statement.{statement}
+use Rattle.protector.proofs.answer_done.Tie as tie
+
+settings-requires : tie.Need-settings-requires
+settings-requires c κs = search needs
+
+phase-requires : tie.Need-phase-requires
+phase-requires c κs = search needs
+
+load-requires : tie.Need-load-requires
+load-requires c κs = search needs
+
+done-requires : tie.Need-done-requires
+done-requires c κs = search needs
+
+carry-on-requires : tie.Need-carry-on-requires
+carry-on-requires c κs = (c .before .before .before .before .before .before .before .before .before .before .before .before .before .before .before .before .before .before .before .before .before .before .pre .0, omega (arith, laws.in-use (c .before .before .before .before .before .before .before .before .before .before .before .before .before .before .before .before .before .before .before .before .before .before .args .state .now) _ (c .before .before .before .before .before .before .before .before .load .ensures), c .before .before .before .before .before .before .before .before .before .before .before .before .before .before .before .before .before .before .before .before .before .before .pre .1))
+
+same-length : tie.Need-same-length
+same-length c = search needs
+
+same-length-2 : tie.Need-same-length-2
+same-length-2 c = search needs
+
+same-length-3 : tie.Need-same-length-3
+same-length-3 c = search needs
+
+same-length-4 : tie.Need-same-length-4
+same-length-4 c = search needs
+
+same-length-5 : tie.Need-same-length-5
+same-length-5 c = search needs
+
+same-length-6 : tie.Need-same-length-6
+same-length-6 c = search needs
+
+same-length-7 : tie.Need-same-length-7
+same-length-7 c = search needs
+
+returns : tie.Need-returns
+returns c =
+    let a = c .before .before .before .before .before .before .before .before .before .before .before .before .before .before .before .before .before .before .before .before .before .before .before .before .before .before .before .before .before .before .before .before .before .before .before .before .before .args in
+    let s = a .state .now in
+    let t = a .pages .now in
+    let m = maps (a .private .now) (a .shared .now) (a .read .now) (a .write .now) (a .kernel .now) (a .user .now) in
+    let x = c .before .before .before .before .before .before .before .before .before .before .before .before .before .before .before .before .before .before .before .before .before .before .done .result in
+    let e = laws.done-is s t _ (settingsOf s) _ _ (requestOf s) x (c .before .before .before .before .before .before .before .before .before .before .before .before .before .before .before .before .before .before .before .before .before .before .before .before .before .before .before .settings .ensures) (c .before .before .before .before .before .before .before .before .before .before .before .before .before .before .before .before .before .before .before .before .before .before .before .before .before .phase .ensures) (c .before .before .before .before .before .before .before .before .before .before .before .before .before .before .before .before .before .before .before .before .before .before .before .load .ensures) (c .before .before .before .before .before .before .before .before .before .before .before .before .before .before .before .before .before .before .before .before .before .before .done .ensures) in (
+      c .before .before .before .before .before .before .before .before .before .before .before .before .before .before .carry-on .ensures .0 ∙ ap (λ (y : Step). applied t (y .writes) m) e,
+      (c .before .before .before .before .before .before .before .before .before .before .before .before .before .before .carry-on .ensures .1 .0 ∙ ap (λ (y : Step). withRequest (y .phase) (y .request) s) e, c .before .before .before .before .before .before .before .before .before .before .before .before .before .before .carry-on .ensures .1 .1 ∙ ap (λ (y : Step). flatOf (settingsOf s .isolation) (y .answer)) e),
+    )
+
+pub answer-done-spec : {M : Type 1} → statement M
+answer-done-spec =
+    tie.close
+    (tie.spec
+    settings-requires
+    phase-requires
+    load-requires
+    done-requires
+    carry-on-requires
+    same-length
+    same-length-2
+    same-length-3
+    same-length-4
+    same-length-5
+    same-length-6
+    same-length-7
+    returns)
