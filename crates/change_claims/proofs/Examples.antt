@@ -2,7 +2,7 @@
 use mathlib.Core.List.{[]}
 use mathlib.Core.Path.{_≡_, refl}
 use Rattle.bitmap.specs.Pages.{word, writtenFrom}
-use Rattle.words.specs.Words.{closed}
+use Rattle.words.specs.Words.{closed, closedTo}
 use Rattle.layout.specs.Layout.{entriesOf, ramByte}
 use Rattle.pages.specs.Pages.{numberOf, numberAt, numbersFrom}
 use Rattle.pages.specs.Runs.{neighbours, runAt}
@@ -47,5 +47,5 @@ pub record Worked : Type 0 where
   pub unregistered : follow (unregisterOf two 0 5) (dones 4) .last .reply ≡ finished 0 0 0 4
 
 pub worked : Worked
-unfolding word writtenFrom entriesOf ramByte numberOf numberAt numbersFrom neighbours runAt pick pickPlaces tableOf runEnd placeFrom listsFrom held span nextOf anyOf anyIn renewedFrom protect ask wait finish halt protectPages protectRam doneOf failedOf startNew startOld firstPhases phaseOf flatOf askedOf stageOf entered carriedChange firstRefusal answerRefusal afterDone afterFailed answerDone answerFailed protectionRefusal protectionTaken protectionOf defaultRefusal defaultStarted defaultTaken defaultOf callRefusal within knownRefusal guestRefusal dmaRefusal pageRefusal registerRefusal currentOf registerTaken registerOf unregisterRefusal unregisterTaken unregisterOf follow closed
+unfolding word writtenFrom entriesOf ramByte numberOf numberAt numbersFrom neighbours runAt pick pickPlaces tableOf runEnd placeFrom listsFrom held span nextOf anyOf anyIn renewedFrom protect ask wait finish halt protectPages protectRam doneOf failedOf startNew startOld firstPhases phaseOf flatOf askedOf stageOf entered carriedChange firstRefusal answerRefusal afterDone afterFailed answerDone answerFailed protectionRefusal protectionTaken protectionOf defaultRefusal defaultStarted defaultTaken defaultOf callRefusal within knownRefusal guestRefusal dmaRefusal pageRefusal registerRefusal currentOf registerTaken registerOf unregisterRefusal unregisterTaken unregisterOf follow closed closedTo
 worked = record { default-two = refl; repeated = refl; registered = refl; unregistered = refl }

@@ -5,10 +5,10 @@ use mathlib.Core.Bool.{Bool, true, false, cond}
 use mathlib.Core.List.{List, _++_}
 use Prim.Native.Nat.{ℕ, zero, suc, _+_, _-_, _*_, _≤_}
 use lib.Dec.{ltb}
-use lib.ListN.{length, getD, set, take, drop, length-append, length-drop, length-take, length-set}
+use lib.ListN.{length, getD, set, take, drop, length-append, length-drop, length-set}
 use lib.Seq.{sets, length-sets, length-take-le}
-use Rattle.words.specs.Words.{closed}
-use Rattle.words.proofs.Padded.{length-padded}
+use Rattle.words.specs.Words.{closedTo}
+use Rattle.words.proofs.Padded.{length-closed}
 use Rattle.layout.specs.declared.MemoryRangeWithNode.{MemoryRangeWithNode}
 use Rattle.permissions.specs.declared.GuestVtl.{GuestVtl}
 use Rattle.permissions.specs.declared.GuestVtl.the-variants.{Vtl0, Vtl1}
@@ -41,17 +41,11 @@ add-long o x = go (ltb (used o) 128)
     go true = length-set (sets o (1 + 5 * used o) (wordsOf x)) 0 (used o + 1) ∙ length-sets o (1 + 5 * used o) (wordsOf x)
     go false = refl
 
-closed-long : (o : List ℕ) (a n : ℕ) → length (closed o a n) ≡ length o
-unfolding closed
-closed-long o a n =
-    length-padded (length o) (take a o ++ drop n (drop a o))
-    (omega (arith, length-append (take a o) (drop n (drop a o)), length-take a o, length-drop n (drop a o), length-drop a o))
-
 pub without-long : (o : List ℕ) (p : ℕ) → length (withoutPage o p) ≡ length o
 without-long o p = go (isOverlay o p)
   where
     go : (b : Bool) → length (cond b (removeWords o (placeOf o p)) o) ≡ length o
-    go true = length-set (closed o (placeOf o p) 5) 0 (used o - 1) ∙ closed-long o (placeOf o p) 5
+    go true = length-set (closedTo o (placeOf o p) 5 (1 + 5 * used o)) 0 (used o - 1) ∙ length-closed o (placeOf o p) 5 (1 + 5 * used o)
     go false = refl
 
 pub renewed-long : (private : List ℕ) (es : List MemoryRangeWithNode) (bits : ℕ) (k : ℕ) (t : List ℕ) (o : ℕ) → length (renewedFrom private es bits t k o) ≡ length t

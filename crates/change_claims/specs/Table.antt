@@ -4,7 +4,7 @@ use mathlib.Core.Path.{_≡_, refl}
 use Prim.Native.Nat.{ℕ, _+_, _-_, _≤_, _<_}
 use lib.ListN.{length, getD, replicate}
 use Rattle.bitmap.specs.Pages.{word, writtenFrom}
-use Rattle.words.specs.Words.{closed}
+use Rattle.words.specs.Words.{closed, closedTo}
 use Rattle.layout.specs.Layout.{entriesOf, ramByte}
 use Rattle.permissions.specs.declared.GuestVtl.the-variants.{Vtl0, Vtl1}
 use Rattle.permissions.specs.Flags.{vtlOf, flagsOf}
@@ -86,7 +86,7 @@ pub record Limits : Type 0 where
       → lockOf s t vtl l ≡ ended t 17
 
 pub changes : Changes
-unfolding word writtenFrom entriesOf ramByte numberOf numberAt numbersFrom runsOf placeFrom span nextOf renewedFrom piecesFrom pageEnd currentOf one inTurn perRun wholeRuns wholeEntry wholeOverlay closed
+unfolding word writtenFrom entriesOf ramByte numberOf numberAt numbersFrom runsOf placeFrom span nextOf renewedFrom piecesFrom pageEnd currentOf one inTurn perRun wholeRuns wholeEntry wholeOverlay closed closedTo
 changes =
     record {
       default-asked = refl;

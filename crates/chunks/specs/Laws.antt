@@ -8,7 +8,7 @@ use mathlib.Core.List.{List, [], _∷_}
 use Prim.Native.Nat.{ℕ, suc, _+_, _-_, _*_, _/_, _%_, _^_, _≤_, _<_, min, max}
 use native.Mathlib.Nat.{div-zero, mul-zero, div-add-mod', mul-le-mul-left, mul-le-mul-right, div-mul-le-self, div-le-self, le-div-iff-mul-le, div-lt-iff-lt-mul}
 use lib.Dec.{eqb, ltb}
-use lib.ListN.{length, getD, drop}
+use lib.ListN.{length, getD, drop, List·getD-eq-default}
 use borrow.Author.Tests.{eqb-true, eqb-false, eq-eqb, ne-eqb, lt-ltb, le-ltb, le-leb, lt-leb}
 use Rattle.laws.specs.Bools.{digit, and-left, and-right}
 use Rattle.laws.specs.Ranges.{between, between-same, between-false, between-join}
@@ -21,8 +21,8 @@ use Rattle.layout.specs.declared.MemoryRangeWithNode.{MemoryRangeWithNode}
 use Rattle.layout.specs.declared.Span.{Span}
 use Rattle.layout.specs.Layout.{range, entry, entryAt, spans, spanAt}
 use Rattle.layout.proofs.Laws.{spans-at, spans-end, next-entry, no-entry, span-next as span-after}
-use Rattle.chunks.specs.Chunks.{up, powerFrom, empty, pieces, firstOf, alike, alignedPart, edgeOf, entryWith}
-use Rattle.chunks.specs.Scan.{Ahead}
+use Rattle.chunks.specs.Chunks.{up, powerFrom, empty, pieces, firstOf, firstNot, alike, alignedPart, edgeOf, entryWith}
+use Rattle.chunks.specs.Scan.{Ahead, first-stop, first-end, first-all}
 
 -- ---- division, rounded down and up
 
@@ -233,6 +233,21 @@ module _ (registered failed : List ℕ) (s : Bool) (c e : ℕ) where
       let f : Bool = eqb (getD failed (c / 64) 0) 0 in
       let r : Bool = eqb (getD registered (c / 64) 0) (digit s * (2 ^ 64 - 1)) in
       word-ahead m l (eqb-true _ _ (and-left f r t)) (eqb-true _ _ (and-right f r t))
+
+past-clear : (m : List ℕ) (c : ℕ) → length m ≤ c / 64 → bitAt 64 m c ≡ false
+past-clear m c h = rw (List·getD-eq-default m 0 h) (bit-of-zero (c % 64))
+
+-- past the end of both bitmaps
+pub run-past : (registered failed : List ℕ) (s : Bool) (c e n stop : ℕ) → n ≡ max (length registered) (length failed) → stop ≡ min e (n * 64) → stop ≤ c → firstNot (alike registered failed s) c e ≡ cond s c (max c e)
+run-past registered failed s c e n stop f g h = elim (decLt c e) [ yes d ↦ inside s d | no d ↦ first-end (alike registered failed s) c e (omega arith) ∙ after s (omega arith) ]
+  where
+    inside : (s : Bool) → c < e → firstNot (alike registered failed s) c e ≡ cond s c (max c e)
+    inside true d = first-stop (alike registered failed true) c e d (rw (past-clear failed c (omega arith), past-clear registered c (omega arith)))
+    inside false d = first-all (alike registered failed false) c e (λ q a b. rw (past-clear failed q (omega arith), past-clear registered q (omega arith)))
+
+    after : (s : Bool) → e ≤ c → c ≡ cond s c (max c e)
+    after true d = refl
+    after false d = omega arith
 
 pub set-word : (m : List ℕ) (c e : ℕ) → c % 64 ≡ 0 → 64 ≤ e - c → getD m (c / 64) 0 ≡ 2 ^ 64 - 1 → Ahead (bitAt 64 m) c e 64
 set-word m c e h l r = record { within = omega arith; holds = one-of; stops = λ z. absurd (omega arith) }

@@ -1,7 +1,7 @@
 // Chunks of guest memory: their number, the RAM in them, and bitmaps of them taken by whole words.
 ghost use mathlib.Core.Path.{_≡_};
 ghost use Prim.Native.Nat.{_+_, _-_, _*_, _/_, _<_, _≤_, _^_, min, max};
-ghost use mathlib.Core.Bool.{true, _&&_};
+ghost use mathlib.Core.Bool.{true, cond, _&&_};
 ghost use lib.Dec.{eqb, ltb};
 ghost use lib.ListN.{getD};
 ghost use Rattle.laws.specs.Bools.{digit};
@@ -168,19 +168,28 @@ fn alike_here(registered: &[u64], failed: &[u64], set: bool, c: u64, to: u64) ->
     }
 }
 
-// The first chunk from `from` to before `to` that is not alike.
+// Of chunks past the end of both bitmaps, none of them set: the first from c to before `to` that is not alike.
+fn alike_past(set: bool, c: u64, to: u64) -> u64
+    ensures { λ r. ⌜ r ≡ cond set c (max c to) ⌝ }
+{
+    if set { c } else { numbers::greatest(c, to) }
+}
+
+// The first chunk from `from` to before `to` that is not alike. The search ends with the bitmaps.
 pub fn run_end(registered: &[u64], failed: &[u64], set: bool, from: u64, to: u64) -> u64
     ensures { λ r. ⌜ r ≡ firstNot (alike (now (registered .entry)) (now (failed .entry)) set) from to ⌝ }
 {
+    let len = numbers::greatest(registered.len() as u64, failed.len() as u64);
+    let stop = stop_at(len, to);
     let mut c = from;
-    while c < to {
-        let n = alike_here(registered, failed, set, c, to);
+    while c < stop {
+        let n = alike_here(registered, failed, set, c, stop);
         if n == 0 {
             return c;
         }
         c += n;
     }
-    c
+    alike_past(set, c, to)
 }
 
 // How many chunks from c on are set, of those before `to`: a whole word, one, or none.

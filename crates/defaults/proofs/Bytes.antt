@@ -1,10 +1,12 @@
 -- Laws of the scan for runs of private pages. Assumes nothing.
-use mathlib.Core.Bool.{Bool, true, false, not}
+use mathlib.Core.Bool.{Bool, true, false, not, cond}
 use mathlib.Core.List.{List}
 use mathlib.Core.Path.{_≡_, refl, ap, _∙_}
 use Prim.Native.Nat.{ℕ, zero, suc, _+_, _-_, _/_, _%_, _≤_, _<_}
 use native.Mathlib.Omega.{arith}
-use lib.ListN.{getD}
+use lib.Dec.{ltb}
+use lib.ListN.{length, getD, List·getD-eq-default}
+use borrow.Author.Tests.{ltb-false}
 use Rattle.bitmap.specs.Pages.{bit, bitAt}
 use Rattle.defaults.specs.Pieces.{span, non, startOf, lenOf, is, wholeByte}
 use Rattle.defaults.proofs.Spans as laws
@@ -43,13 +45,35 @@ whole-bit false m p q e d h g =
 pub whole-span : (s : Bool) (m : List ℕ) (p : ℕ) → p % 8 ≡ 0 → getD m (p / 8) 0 ≡ wholeByte s → span (is s m) p 8 ≡ 8
 whole-span s m p e d = laws.span-all (is s m) 8 p (λ q h g. whole-bit s m p q e d h g)
 
-pub one-span : (P : ℕ → Bool) (p : ℕ) → P p ≡ true → span P p 1 ≡ 1
-unfolding span
-one-span P p e = rw e
-
 pub no-span : (P : ℕ → Bool) (p : ℕ) → span P p 0 ≡ 0
 unfolding span
 no-span P p = refl
+
+past-bit : (m : List ℕ) (q : ℕ) → length m ≤ q / 8 → is true m q ≡ false
+past-bit m q h = ap (λ (y : ℕ). bit y (q % 8)) (List·getD-eq-default m 0 h) ∙ down (q % 8) (omega arith)
+
+none-set : (m : List ℕ) (p : ℕ) → length m ≤ p / 8 → span (is true m) p 8 ≡ 0
+unfolding span
+none-set m p h = rw (past-bit m p h)
+
+abbrev Passed : Bool → List ℕ → ℕ → ℕ → ℕ → Type 0
+Passed s m p end r = (p + r ≤ end) × (span (is s m) p r ≡ r) × (r ≡ 0 → is s m p ≡ false)
+
+-- a whole byte, and all pages past the end of the map
+pub whole-step : (s : Bool) (m : List ℕ) (p end r : ℕ) → p + 8 ≤ end → span (is s m) p 8 ≡ 8 → r ≡ cond (ltb (p / 8) (length m)) 8 (end - p) → Passed s m p end r
+whole-step s m p end r h g e = go (ltb (p / 8) (length m)) refl e
+  where
+    rest : (s : Bool) → span (is s m) p 8 ≡ 8 → length m ≤ p / 8 → Passed s m p end (end - p)
+    rest true d l = absurd (omega (arith, none-set m p l, d))
+    rest false d l = (omega arith, laws.span-all (is false m) (end - p) p (λ q a b. ap not (past-bit m q (omega arith))), λ z. absurd (omega arith))
+
+    go : (b : Bool) → ltb (p / 8) (length m) ≡ b → r ≡ cond b 8 (end - p) → Passed s m p end r
+    go true l d = rw d (h, g, λ z. absurd (omega arith))
+    go false l d = rw d (rest s g (ltb-false _ _ l))
+
+pub one-span : (P : ℕ → Bool) (p : ℕ) → P p ≡ true → span P p 1 ≡ 1
+unfolding span
+one-span P p e = rw e
 
 -- the loop: what is left of the span
 pub scan-more : (P : ℕ → Bool) (p k end : ℕ) → p + k ≤ end → span P p k ≡ k → span P p (end - p) ≡ k + span P (p + k) (end - (p + k))

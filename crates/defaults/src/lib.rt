@@ -1,8 +1,9 @@
 // What a default change looks at: its pieces, which are runs of private RAM pages split at the overlay pages inside them.
 ghost use mathlib.Core.Path.{_≡_};
-ghost use mathlib.Core.Bool.{true, false};
-ghost use Prim.Native.Nat.{_+_, _-_, _<_, _≤_, _^_};
-ghost use lib.ListN.{getD};
+ghost use mathlib.Core.Bool.{true, false, cond};
+ghost use Prim.Native.Nat.{_+_, _-_, _/_, _<_, _≤_, _^_};
+ghost use lib.Dec.{ltb};
+ghost use lib.ListN.{length, getD};
 ghost use Rattle.bitmap.specs.Pages.{bitAt};
 ghost use Rattle.layout.specs.Layout.{entriesOf};
 ghost use Rattle.pages.specs.Runs.{part};
@@ -101,13 +102,21 @@ fn is_whole(map: &[u8], state: bool, p: u64, end: u64) -> bool
     byte_at(map, p / 8) == whole_byte(state)
 }
 
-// How many pages can be passed at one step: a byte, a page or none.
+// How many pages are passed where the eight of a byte have the state: these, or all that are left where the byte is past the map.
+fn whole_step(map: &[u8], p: u64, end: u64) -> u64
+    requires { ⌜ p < end ⌝ }
+    ensures { λ r. ⌜ r ≡ cond (ltb (p / 8) (length (now (map .entry)))) 8 (end - p) ⌝ }
+{
+    if p / 8 < map.len() as u64 { 8 } else { end - p }
+}
+
+// How many pages can be passed at one step: a byte, a page or none; all of them past the end of the map.
 fn step(map: &[u8], state: bool, p: u64, end: u64) -> u64
     requires { ⌜ p < end ⌝ }
     ensures { λ r. ⌜ (p + r ≤ end) × (span (is state (now (map .entry))) p r ≡ r) × (r ≡ 0 → is state (now (map .entry)) p ≡ false) ⌝ }
 {
     if is_whole(map, state, p, end) {
-        return 8;
+        return whole_step(map, p, end);
     }
     if is_state(map, state, p) {
         return 1;

@@ -7,8 +7,8 @@ use mathlib.Core.Bool.{Bool, true, false, cond}
 use lib.Dec.{ltb}
 use lib.ListN.{length, take, drop, set, getD, length-set, length-append, length-drop, take-append-drop}
 use lib.Seq.{sets, length-sets, drop-drop, getD-drop, getD-set-other}
-use Rattle.words.specs.Words.{closed, swapped}
-use Rattle.words.proofs.Padded.{length-padded}
+use Rattle.words.specs.Words.{closedTo, swapped}
+use Rattle.words.proofs.Padded.{length-closed}
 use Rattle.bitmap.proofs.Map.{length-written}
 use Rattle.layout.specs.declared.MemoryRangeWithNode.{MemoryRangeWithNode}
 use Rattle.permissions.specs.Flags.{vtlNumber, boolOf}
@@ -46,11 +46,6 @@ swapped-long t a n m =
     let e : List ℕ = drop n d in
     omega (arith, length-append (take a t) (take m e ++ (take n d ++ drop m e)), length-append (take m e) (take n d ++ drop m e), length-append (take n d) (drop m e), split-long a t, split-long n d, split-long m e)
 
-closed-long : (t : List ℕ) (a n : ℕ) → length (closed t a n) ≡ length t
-unfolding closed
-closed-long t a n =
-    length-padded (length t) (take a t ++ drop n (drop a t)) (omega (arith, length-append (take a t) (drop n (drop a t)), split-long a t, split-long n (drop a t)))
-
 either-long : (b : Bool) (n : ℕ) (x y : List ℕ) → length x ≡ n → length y ≡ n → length (cond b x y) ≡ n
 either-long true n x y e f = e
 either-long false n x y e f = f
@@ -62,8 +57,8 @@ add-long t e =
 
 without-long : (t : List ℕ) (p : ℕ) → length (withoutPage t p) ≡ length t
 without-long t p =
-    let r : List ℕ = closed t (placeOf t p) 5 in
-    either-long (isOverlay t p) (length t) (set r 0 (used t - 1)) t (length-set r 0 (used t - 1) ∙ closed-long t (placeOf t p) 5) refl
+    let r : List ℕ = closedTo t (placeOf t p) 5 (1 + 5 * used t) in
+    either-long (isOverlay t p) (length t) (set r 0 (used t - 1)) t (length-set r 0 (used t - 1) ∙ length-closed t (placeOf t p) 5 (1 + 5 * used t)) refl
 
 pub renewed-long : (m : List ℕ) (es : List MemoryRangeWithNode) (bits : ℕ) (t : List ℕ) (k o : ℕ) → length (renewedFrom m es bits t k o) ≡ length t
 unfolding renewedFrom
@@ -82,7 +77,7 @@ unfolding locks.without
 lock-gone-long t o =
     let e : ℕ = locks.nextAt t o in
     let r : List ℕ = locks.lastTo t e in
-    length-set (closed r o (e - o)) 0 (locks.used t - 1) ∙ closed-long r o (e - o) ∙ swapped-long t e _ _
+    length-set (closedTo r o (e - o) (locks.endAt t)) 0 (locks.used t - 1) ∙ length-closed r o (e - o) (locks.endAt t) ∙ swapped-long t e _ _
 
 pub unlock-long : (t l : List ℕ) → length (locks.unlockWords t l) ≡ length t
 unlock-long t l =

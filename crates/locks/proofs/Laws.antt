@@ -11,7 +11,8 @@ use lib.ListN.{length, getD, set, take, drop, length-take, length-drop, drop-of-
 use lib.Seq.{drop-cons, getD-take, sets}
 use borrow.Author.Tests.{eq-eqb, ne-eqb, lt-ltb, le-ltb, le-leb, lt-leb, not-true, not-false}
 use Rattle.laws.specs.Bools.{and-true, and-false, lt-or-le}
-use Rattle.words.specs.Words.{closed, swapped}
+use Rattle.words.specs.Words.{closedTo, swapped}
+use Rattle.words.proofs.Laws.{swapped-none}
 use Rattle.pages.specs.Runs.{part}
 use Rattle.pages.specs.Pages.{among}
 use Rattle.pages.proofs.Laws as pages
@@ -179,6 +180,17 @@ place-kept t l (suc k) o h g = go (same (listAt t o) l) (place-kept t l k (nextA
     go true m = ne-eqb o 0 (λ e. omega arith)
     go false m = m
 
+-- ---- the last list brought forward
+module _ (t : List ℕ) (end last to : ℕ) where
+  abbrev brought : List ℕ
+  brought = swapped t end (max end last - end) (to - max end last)
+
+  pub last-brought : end < last → (m : ℕ) (t′ : List ℕ) → m ≡ to - last → t′ ≡ swapped t end (last - end) m → t′ ≡ brought
+  last-brought h m t′ e f = let d : last ≡ max end last = omega arith in f ∙ ap (swapped t end (last - end)) e ∙ ap (λ (k : ℕ). swapped t end (k - end) (to - k)) d
+
+  pub last-there : last ≤ end → t ≡ brought
+  last-there h = let d : max end last - end ≡ 0 = omega arith in sym (ap (λ (k : ℕ). swapped t end k (to - max end last)) d ∙ swapped-none t end (to - max end last))
+
 -- ---- lock and unlock, by what the code read and wrote
 module _ (t l : List ℕ) (n c sum : ℕ) (b : Bool) (long : n ≡ length l) (e : c ≡ used t) (f : sum ≡ total (listsFrom t c 1)) (g : b ≡ (ltb c 64 && leb (sum + n) 1024)) where
   seen : b ≡ roomFor (listsOf t) (length l)
@@ -204,11 +216,11 @@ module _ (t l : List ℕ) (c o : ℕ) (e : c ≡ used t) (f : o ≡ placeFrom t 
   pub unlock-none : o ≡ 0 → (18 ≡ unlockCode t l) × (t ≡ unlockWords t l)
   unlock-none h = let r = not-true (kept (listsOf t) l) (sym found ∙ eq-eqb o 0 h) in (rw r refl, rw r refl)
 
-  pub unlock-made : (o ≡ 0 → ⊥) → (less end last middle to n m gap : ℕ) → less ≡ c - 1 → end ≡ nextAt t o → last ≡ endFrom t less 1 → middle ≡ max end last → to ≡ nextAt t last
-      → n ≡ middle - end → m ≡ to - middle → gap ≡ end - o → (t1 t2 t3 : List ℕ) → t1 ≡ swapped t end n m → t2 ≡ closed t1 o gap → t3 ≡ set t2 0 less
+  pub unlock-made : (o ≡ 0 → ⊥) → (behind less end last to gap : ℕ) → endFrom t behind o ≡ endFrom t (c - 1) 1 → less ≡ c - 1 → end ≡ nextAt t o → last ≡ endFrom t behind o → to ≡ nextAt t last → gap ≡ end - o
+      → (t1 t2 t3 : List ℕ) → t1 ≡ swapped t end (max end last - end) (to - max end last) → t2 ≡ closedTo t1 o gap to → t3 ≡ set t2 0 less
       → (0 ≡ unlockCode t l) × (t3 ≡ unlockWords t l)
   unfolding without
-  unlock-made h less end last middle to n m gap xa xb xc xd xe xf xg xh t1 t2 t3 ya yb yc =
+  unlock-made h behind less end last to gap w xa xb xc xd xe t1 t2 t3 ya yb yc =
       let r = not-false (kept (listsOf t) l) (sym found ∙ ne-eqb o 0 h) in
-      let q : t3 ≡ without t o = yc ∙ rw (yb, ya, xh, xg, xf, xe, xd, xc, xb, xa, e) refl in
+      let q : t3 ≡ without t o = yc ∙ rw (yb, ya, xe, xd, xc, w, xb, xa, e) refl in
       (rw r refl, rw r (q ∙ ap (without t) place))

@@ -7,7 +7,7 @@ use native.Mathlib.Omega.{arith}
 use lib.ListN.{length, set, length-append}
 use Rattle.laws.specs.Bools.{false≢true, or-false}
 use Rattle.pages.specs.Runs.{part}
-use Rattle.words.specs.Words.{zeros, padded, closed, swapped}
+use Rattle.words.specs.Words.{zeros, padded, closedTo, swapped}
 use Rattle.words.proofs.Padded.{closed-padded, swapped-padded}
 use Rattle.locks.specs.Locks.{Fit, same, kept, lastOf, allButLast, lastFirst, unlocked, stream, tableOf, used, nextAt, endFrom, placeFrom, lastAt, without, unlockCode, unlockWords}
 use Rattle.locks.proofs.Lists.{stream-append, stream-one, stream-none, stream-some, past, past-length, next-here, part-here, end-from, left, form, cut, whole, short, table-used, table-lists}
@@ -50,7 +50,7 @@ module _ (ls pre mid last : List (List ℕ)) (x : List ℕ) (fit : Fit ls) (here
 
   -- by what the table reads: how far it is to the last list, and how long that is
   pub gone-here : (m z : ℕ) → m ≡ end + length (stream mid) → z ≡ m + length (stream last)
-      → set (closed (swapped (tableOf ls) end (m - end) (z - m)) at (end - at)) 0 (used (tableOf ls) - 1) ≡ tableOf (pre ++ (last ++ mid))
+      → set (closedTo (swapped (tableOf ls) end (m - end) (z - m)) at (end - at) z) 0 (used (tableOf ls) - 1) ≡ tableOf (pre ++ (last ++ mid))
   gone-here m z e f =
       let n : m - end ≡ length (stream mid) = omega arith in
       let k : z - m ≡ length (stream last) = omega arith in
@@ -60,20 +60,20 @@ module _ (ls pre mid last : List (List ℕ)) (x : List ℕ) (fit : Fit ls) (here
       ap₂ (λ (i j : ℕ). swapped (tableOf ls) end i j) n k ∙ ap (λ (r : List ℕ). swapped r end (length (stream mid)) (length (stream last))) table-words
       ∙ swapped-padded 1089 (head ++ gone) (stream mid) (stream last) end (length (stream mid)) (length (stream last)) (length-append head gone ∙ omega (arith, head-length)) refl refl
       ∙ ap (padded 1089) (append-assoc head gone rest) in
-      let fits : length (head ++ (gone ++ rest)) ≤ 1089 = room in
-      ap (λ (r : List ℕ). set (closed r at (end - at)) 0 (used (tableOf ls) - 1)) moved
-      ∙ ap (λ (r : List ℕ). set r 0 (used (tableOf ls) - 1)) (closed-padded 1089 head gone rest at (end - at) head-length (sym g) fits)
+      let long : length (head ++ (gone ++ rest)) ≡ z = sizes .0 ∙ omega arith in
+      ap (λ (r : List ℕ). set (closedTo r at (end - at) z) 0 (used (tableOf ls) - 1)) moved
+      ∙ ap (λ (r : List ℕ). set r 0 (used (tableOf ls) - 1)) (closed-padded 1089 head gone rest at (end - at) z head-length (sym g) long (omega (arith, sizes .1)))
       ∙ form (pre ++ (last ++ mid)) (used (tableOf ls) - 1) (stream pre ++ rest) counted (sym (stream-append pre (last ++ mid) ∙ ap (λ (r : List ℕ). stream pre ++ r) (stream-append last mid)))
     where
-      room : length (head ++ (gone ++ (stream last ++ stream mid))) ≤ 1089
-      room =
+      sizes : (length (head ++ (gone ++ (stream last ++ stream mid))) ≡ end + length (stream mid) + length (stream last)) × (length (head ++ (gone ++ (stream last ++ stream mid))) ≤ 1089)
+      sizes =
           let a = length-append head (gone ++ (stream last ++ stream mid)) in
           let b = length-append gone (stream last ++ stream mid) in
           let c = length-append (stream last) (stream mid) in
           let d = ap (length {A = ℕ}) words-are ∙ length-append (stream pre) (gone ++ (stream mid ++ stream last)) in
           let f = length-append gone (stream mid ++ stream last) in
           let g = length-append (stream mid) (stream last) in
-          omega (arith, short ls fit)
+          (omega arith, omega (arith, short ls fit))
 
 last-here : (ls before : List (List ℕ)) (y : List ℕ) → Fit ls → ls ≡ before ++ (y ∷ []) → lastAt (tableOf ls) ≡ 1 + length (stream before)
 last-here ls before y fit e =
@@ -90,7 +90,7 @@ without-last ls pre x fit e =
     let last : lastAt t ≡ o = last-here ls pre x fit e in
     let end : nextAt t o ≡ n = end-here ls pre [] [] x fit e in
     let m : max n o ≡ n + 0 = omega arith in
-    ap₂ (λ (i j : ℕ). set (closed (swapped t i (max i j - i) (nextAt t j - max i j)) o (i - o)) 0 (used t - 1)) end last
+    ap₂ (λ (i j : ℕ). set (closedTo (swapped t i (max i j - i) (nextAt t j - max i j)) o (i - o) (nextAt t j)) 0 (used t - 1)) end last
     ∙ gone-here ls pre [] [] x fit e (max n o) (nextAt t o) m (end ∙ omega arith) ∙ ap tableOf (append-nil pre)
 
 -- another is gone
@@ -111,7 +111,7 @@ without-other ls pre mid x y fit e =
     let after : nextAt t (n + length (stream mid)) ≡ n + length (stream mid) + 1 + length y =
     next-here t (length ls ∷ stream before) (zeros (left ls)) y [] (n + length (stream mid)) (cut ls before (y ∷ []) cuts) from in
     let z : nextAt t (n + length (stream mid)) ≡ max n (n + length (stream mid)) + length (stream (y ∷ [])) = after ∙ more (n + length (stream mid)) (length y) (max n (n + length (stream mid))) (length (stream (y ∷ []))) m (ap (length {A = ℕ}) (stream-one y)) in
-    ap₂ (λ (i j : ℕ). set (closed (swapped t i (max i j - i) (nextAt t j - max i j)) o (i - o)) 0 (used t - 1)) end last
+    ap₂ (λ (i j : ℕ). set (closedTo (swapped t i (max i j - i) (nextAt t j - max i j)) o (i - o) (nextAt t j)) 0 (used t - 1)) end last
     ∙ gone-here ls pre mid (y ∷ []) x fit e (max n (n + length (stream mid))) (nextAt t (n + length (stream mid))) m z
   where
     there : (p x m k : ℕ) → 0 + k ≡ 0 + 1 + x + m → 1 + (p + k) ≡ 1 + p + 1 + x + m

@@ -7,7 +7,7 @@ use lib.ListN.{getD, set, length}
 use lib.Seq.{sets}
 use Rattle.pages.specs.Pages.{among}
 use Rattle.pages.specs.Runs.{part}
-use Rattle.words.specs.Words.{padded, closed, swapped}
+use Rattle.words.specs.Words.{padded, closedTo, swapped}
 
 -- ---- lists
 
@@ -105,16 +105,20 @@ unfoldable pub placeFrom : List ℕ → ℕ → ℕ → List ℕ → ℕ
 placeFrom t zero o l = 0
 placeFrom t (suc k) o l = cond (same (listAt t o) l) o (placeFrom t k (nextAt t o) l)
 
+-- where the last list starts, and the place after it
 abbrev pub lastAt : List ℕ → ℕ
 lastAt t = endFrom t (used t - 1) 1
 
+abbrev pub endAt : List ℕ → ℕ
+endAt t = nextAt t (lastAt t)
+
 -- of what stands from place e on, the last list comes first
 abbrev pub lastTo : List ℕ → ℕ → List ℕ
-lastTo t e = swapped t e (max e (lastAt t) - e) (nextAt t (lastAt t) - max e (lastAt t))
+lastTo t e = swapped t e (max e (lastAt t) - e) (endAt t - max e (lastAt t))
 
 -- the list at place o is gone, and the last stands in its place
 unfoldable pub without : List ℕ → ℕ → List ℕ
-without t o = set (closed (lastTo t (nextAt t o)) o (nextAt t o - o)) 0 (used t - 1)
+without t o = set (closedTo (lastTo t (nextAt t o)) o (nextAt t o - o) (endAt t)) 0 (used t - 1)
 
 abbrev pub unlockCode : List ℕ → List ℕ → ℕ
 unlockCode t l = cond (kept (listsOf t) l) 0 18

@@ -1,10 +1,11 @@
 // The locked page lists of one VTL in a lent run of words: how many, then each list's length and its pages.
 ghost use mathlib.Core.Path.{_≡_};
 ghost use mathlib.Core.Bool.{_&&_};
-ghost use Prim.Native.Nat.{_+_, _-_, _≤_};
+ghost use Prim.Native.Nat.{_+_, _-_, _≤_, max};
 ghost use lib.Dec.{ltb, leb};
 ghost use lib.ListN.{length};
 ghost use lib.Seq.{sets};
+ghost use Rattle.words.specs.Words.{swapped};
 ghost use Rattle.pages.specs.Pages.{among, pagesOf};
 ghost use Rattle.pages.specs.Runs.{part};
 ghost use Rattle.locks.specs.Locks.{held, total, same, used, nextAt, listsFrom, endFrom, listsOf, lockCode, lockWords, placeFrom, unlockCode, unlockWords};
@@ -31,12 +32,12 @@ fn next(t: &[u64], place: u64) -> u64
     place + 1 + n
 }
 
-// The place after the first n lists.
-fn end_of(t: &[u64], n: u64) -> u64
-    ensures { λ r. ⌜ r ≡ endFrom (now (t .entry)) n 1 ⌝ }
+// The place after n lists from a place on.
+fn end_of(t: &[u64], n: u64, from: u64) -> u64
+    ensures { λ r. ⌜ r ≡ endFrom (now (t .entry)) n from ⌝ }
 {
     let mut left = n;
-    let mut place: u64 = 1;
+    let mut place = from;
     while 0 < left {
         place = next(t, place);
         left -= 1;
@@ -173,21 +174,42 @@ fn is_same(t: &[u64], place: u64, to: u64, list: &[u8]) -> bool
     true
 }
 
-// Where the first of n lists with the same pages starts: 0 where there is none.
-fn find(t: &[u64], n: u64, list: &[u8]) -> u64
-    ensures { λ r. ⌜ r ≡ placeFrom (now (t .entry)) n 1 (pagesOf (now (list .entry))) ⌝ }
+// Where a list starts, 0 where there is none, and how many lists stand behind it.
+struct Found {
+    place: u64,
+    behind: u64,
+}
+
+// The first of n lists with the same pages.
+fn find(t: &[u64], n: u64, list: &[u8]) -> Found
+    ensures { λ r. ⌜ (r .place ≡ placeFrom (now (t .entry)) n 1 (pagesOf (now (list .entry)))) × ((r .place ≡ 0 → ⊥) → endFrom (now (t .entry)) (r .behind) (r .place) ≡ endFrom (now (t .entry)) (n - 1) 1) ⌝ }
 {
     let mut left = n;
     let mut place: u64 = 1;
     while 0 < left {
         let end = next(t, place);
         if is_same(t, place, end, list) {
-            return place;
+            return Found {
+                place: place,
+                behind: left - 1,
+            };
         }
         place = end;
         left -= 1;
     }
-    0
+    Found {
+        place: 0,
+        behind: 0,
+    }
+}
+
+// Of what stands from `end` on, the last list, from `last` to before `to`, comes first.
+fn bring_last(t: &mut [u64], end: u64, last: u64, to: u64)
+    ensures { λ _. ⌜ now (t .exit) ≡ swapped (now (t .entry)) end (max end last - end) (to - max end last) ⌝ }
+{
+    if end < last {
+        words::swap_runs(t, end, last - end, numbers::minus(to, last));
+    }
 }
 
 // The first list with the same pages goes, and the last takes its place: 0, or 18 where there is none.
@@ -195,22 +217,17 @@ pub fn unlock(t: &mut [u64], list: &[u8]) -> u64
     ensures { λ r. ⌜ (r ≡ unlockCode (now (t .entry)) (pagesOf (now (list .entry)))) × (now (t .exit) ≡ unlockWords (now (t .entry)) (pagesOf (now (list .entry)))) ⌝ }
 {
     let c = count(t);
-    let place = find(t, c, list);
+    let found = find(t, c, list);
+    let place = found.place;
     if place == 0 {
         return 18;
     }
     let less = numbers::minus(c, 1);
     let end = next(t, place);
-    let last = end_of(t, less);
-    let middle = numbers::greatest(end, last);
+    let last = end_of(t, found.behind, place);
     let to = next(t, last);
-    words::swap_runs(
-        t,
-        end,
-        numbers::minus(middle, end),
-        numbers::minus(to, middle),
-    );
-    words::close_gap(t, place, numbers::minus(end, place));
+    bring_last(t, end, last, to);
+    words::close_gap(t, place, numbers::minus(end, place), to);
     words::put(t, 0, less);
     0
 }

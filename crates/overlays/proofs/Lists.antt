@@ -9,7 +9,7 @@ use lib.ListN.{length, getD, set, length-append}
 use lib.Seq.{getD-at, getD-append-add, sets}
 use borrow.Author.Tests.{eq-eqb, ne-eqb, eqb-true, ltb-true}
 use Rattle.laws.specs.Bools.{false≢true, or-false}
-use Rattle.words.specs.Words.{zeros, padded, closed}
+use Rattle.words.specs.Words.{zeros, padded, closedTo}
 use Rattle.words.proofs.Laws.{set-append-add}
 use Rattle.words.proofs.Padded.{length-padded, set-padded, sets-padded, closed-padded}
 use Rattle.overlays.specs.declared.OverlayPage.{OverlayPage}
@@ -179,10 +179,10 @@ module _ (pre : List OverlayPage) (e : OverlayPage) (post : List OverlayPage) (f
   pub remove-here : removeWords (tableOf all) at ≡ tableOf (pre ++ post)
   remove-here =
       let s : List ℕ = wordsOf e ++ flat post in
-      let short : length (head ++ s) ≤ 641 = omega (arith, length-append head s, head-length, length-flat post, length-append pre (e ∷ post)) in
+      let long : length (head ++ s) ≡ 1 + 5 * used (tableOf all) = omega (arith, length-append head s, head-length, length-flat post, length-append pre (e ∷ post), table-used all fits) in
       let count : used (tableOf all) - 1 ≡ length (pre ++ post) = omega (arith, table-used all fits, length-append pre (e ∷ post), length-append pre post) in
-      ap (λ (r : List ℕ). set (closed r at 5) 0 (used (tableOf all) - 1)) at-entry
-      ∙ ap (λ (r : List ℕ). set r 0 (used (tableOf all) - 1)) (closed-padded 641 head (wordsOf e) (flat post) at 5 head-length refl short)
+      ap (λ (r : List ℕ). set (closedTo r at 5 (1 + 5 * used (tableOf all))) 0 (used (tableOf all) - 1)) at-entry
+      ∙ ap (λ (r : List ℕ). set r 0 (used (tableOf all) - 1)) (closed-padded 641 head (wordsOf e) (flat post) at 5 (1 + 5 * used (tableOf all)) head-length refl long (omega arith))
       ∙ form (pre ++ post) (used (tableOf all) - 1) (flat pre ++ flat post) count (sym (flat-append pre post))
 
 -- ---- the first entry of a page, read, changed or gone

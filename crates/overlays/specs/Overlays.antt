@@ -5,7 +5,7 @@ use Prim.Native.Nat.{ℕ, zero, suc, _+_, _-_, _*_, min}
 use lib.Dec.{eqb, ltb}
 use lib.ListN.{length, getD, set}
 use lib.Seq.{sets}
-use Rattle.words.specs.Words.{padded, closed}
+use Rattle.words.specs.Words.{padded, closedTo}
 use Rattle.overlays.specs.declared.OverlayPage.{OverlayPage}
 
 -- ---- entries, in order of registration
@@ -81,6 +81,6 @@ previousWords t o v = set t (o + 1) v
 abbrev pub countWords : List ℕ → ℕ → ℕ → List ℕ
 countWords t o n = set t (o + 3) n
 
--- the gap closes
+-- the entries after it close the gap
 abbrev pub removeWords : List ℕ → ℕ → List ℕ
-removeWords t o = set (closed t o 5) 0 (used t - 1)
+removeWords t o = set (closedTo t o 5 (1 + 5 * used t)) 0 (used t - 1)

@@ -92,6 +92,6 @@ pub fn remove(t: &mut [u64], place: u64)
     ensures { λ _. ⌜ now (t .exit) ≡ removeWords (now (t .entry)) place ⌝ }
 {
     let n = entry_count(t);
-    words::close_gap(t, place, 5);
+    words::close_gap(t, place, 5, 1 + 5 * n);
     words::put(t, 0, numbers::minus(n, 1));
 }

@@ -8,7 +8,7 @@ use native.Mathlib.Nat.{zero-add, suc-add}
 use lib.ListN.{length, getD, set, take, drop, length-append, length-take, length-drop, length-replicate, length-reverse, take-append-drop, replicate-append-replicate, drop-of-length-le, List·getD-eq-default}
 use lib.Seq.{length-take-le, set-split, take-at, drop-at, set-at, getD-at, set-out, take-all, take-append-add, drop-append-add, drop-append-le, getD-append-add, split-at, drop-cons}
 use Rattle.laws.specs.Bools.{lt-or-le}
-use Rattle.words.specs.Words.{zeros, padded, closed, swapped, turned}
+use Rattle.words.specs.Words.{zeros, padded, closed, closedTo, swapped, turned}
 
 -- ---- past the end
 
@@ -106,6 +106,21 @@ gap-end t i n h =
     ap₂ (λ (p q : List ℕ). padded (length t) (p ++ q)) (take-all i t h) (drop-of-length-le (drop i t) {i = n} (omega (arith, length-drop i t)))
     ∙ ap (padded (length t)) (append-nil t) ∙ ap (λ (k : ℕ). t ++ zeros k) d ∙ append-nil t
 
+parted : (t : List ℕ) (e : ℕ) → (take (min (length t) e) t ≡ take e t) × (drop (min (length t) e) t ≡ drop e t)
+parted t e =
+    ⊎-elim (λ (h : e < length t). let d : min (length t) e ≡ e = omega arith in (ap (λ (k : ℕ). take k t) d, ap (λ (k : ℕ). drop k t) d))
+    (λ (h : length t ≤ e).
+    let d : length t ≤ min (length t) e = omega arith in
+    (take-all (min (length t) e) t d ∙ sym (take-all e t h), drop-of-length-le t d ∙ sym (drop-of-length-le t h))) (lt-or-le e (length t))
+
+-- the words before a place, lent as a part
+pub part-closed : (t : List ℕ) (a n e k : ℕ) (t′ : List ℕ) → k ≡ min (length t) (e + 0) → t′ ≡ closed (take (k - 0) (drop 0 t)) a n → t′ ++ drop (k - 0) (drop 0 t) ≡ closedTo t a n e
+unfolding closedTo
+part-closed t a n e k t′ f g =
+    let d : k - 0 ≡ min (length t) e = omega arith in
+    ap (λ (r : List ℕ). r ++ drop (k - 0) t) g ∙ ap (λ (i : ℕ). closed (take i t) a n ++ drop i t) d
+    ∙ ap₂ (λ (x y : List ℕ). closed x a n ++ y) (parted t e .0) (parted t e .1)
+
 -- ---- words turned
 
 turned-parts : (a x z : List ℕ) (i j : ℕ) → length a ≡ i → i + length x ≡ j → turned (a ++ (x ++ z)) i j ≡ a ++ (reverse x ++ z)
@@ -184,6 +199,11 @@ swapped-parts a b c z o n m e f g =
     ap₂ (λ (p s : List ℕ). p ++ (take m (drop n s) ++ (take n s ++ drop m (drop n s)))) (take-at a (b ++ (c ++ z)) o e) rest
     ∙ ap₂ (λ (x r : List ℕ). a ++ (take m r ++ (x ++ drop m r))) (take-at b (c ++ z) n f) (drop-at b (c ++ z) n f)
     ∙ ap₂ (λ (x r : List ℕ). a ++ (x ++ (b ++ r))) (take-at c z m g) (drop-at c z m g)
+
+-- no words before them
+pub swapped-none : (t : List ℕ) (a m : ℕ) → swapped t a 0 m ≡ t
+unfolding swapped
+swapped-none t a m = ap (λ (r : List ℕ). take a t ++ r) (take-append-drop m (drop a t)) ∙ take-append-drop a t
 
 -- each turned, then both as one
 turned-thrice : (a b c z : List ℕ) (i j k : ℕ) → length a ≡ i → i + length b ≡ j → j + length c ≡ k → turned (turned (turned (a ++ (b ++ (c ++ z))) i j) j k) i k ≡ a ++ (c ++ (b ++ z))

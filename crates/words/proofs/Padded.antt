@@ -3,10 +3,10 @@ use mathlib.Core.List.{List, _++_, append-assoc}
 use mathlib.Core.Path.{_≡_, sym, ap, ap₂, _∙_}
 use Prim.Native.Nat.{ℕ, zero, suc, _+_, _-_, _≤_, _<_}
 use native.Mathlib.Omega.{arith}
-use lib.ListN.{length, set, drop, length-append, length-replicate, length-set}
-use lib.Seq.{set-append-left, sets, sets-eq, take-at, drop-append-add}
-use Rattle.words.specs.Words.{zeros, padded, closed, swapped}
-use Rattle.words.proofs.Laws.{padded-zeros, closed-parts, swapped-parts}
+use lib.ListN.{length, set, take, drop, length-append, length-take, length-drop, length-replicate, length-set, replicate-append-replicate}
+use lib.Seq.{set-append-left, sets, sets-eq, take-at, drop-at, drop-append-add}
+use Rattle.words.specs.Words.{zeros, padded, closed, closedTo, swapped}
+use Rattle.words.proofs.Laws.{closed-parts, swapped-parts}
 
 drop-zeros : (n k : ℕ) → drop n (zeros k) ≡ zeros (k - n)
 drop-zeros zero k = let d : k ≡ k - 0 = omega arith in ap zeros d
@@ -30,16 +30,19 @@ module _ (m : ℕ) where
       ap (λ (n : ℕ). drop n t) d ∙ drop-append-add ws (zeros (m - length ws)) (length vs) ∙ drop-zeros (length vs) (m - length ws) ∙ ap zeros k in
       sets-eq vs t o (omega arith) ∙ ap₂ (λ (x y : List ℕ). (x ++ vs) ++ y) (take-at ws (zeros (m - length ws)) o e) back
 
-  pub closed-padded : (a x z : List ℕ) (o n : ℕ) → length a ≡ o → length x ≡ n → length (a ++ (x ++ z)) ≤ m → closed (padded m (a ++ (x ++ z))) o n ≡ padded m (a ++ z)
-  closed-padded a x z o n e f h =
-      let k : ℕ = m - length (a ++ (x ++ z)) in
-      let w : List ℕ = zeros k in
-      let is : padded m (a ++ (x ++ z)) ≡ a ++ (x ++ (z ++ w)) = append-assoc a (x ++ z) w ∙ ap (λ (r : List ℕ). a ++ r) (append-assoc x z w) in
-      let len : length (a ++ (x ++ (z ++ w))) ≡ m = ap (length {A = ℕ}) (sym is) ∙ length-padded (a ++ (x ++ z)) h in
-      let lx : length (a ++ (x ++ z)) ≡ length a + (length x + length z) = length-append a (x ++ z) ∙ ap (λ (i : ℕ). length a + i) (length-append x z) in
-      let lz : length (a ++ z) ≡ length a + length z = length-append a z in
-      ap (λ (r : List ℕ). closed r o n) is ∙ closed-parts a x (z ++ w) o n e f
-      ∙ ap₂ (λ (i : ℕ) (r : List ℕ). padded i r) len (sym (append-assoc a z w)) ∙ padded-zeros m (a ++ z) k (omega arith)
+  -- behind the words that zeros follow
+  pub closed-padded : (a x z : List ℕ) (o n e : ℕ) → length a ≡ o → length x ≡ n → length (a ++ (x ++ z)) ≡ e → e ≤ m → closedTo (padded m (a ++ (x ++ z))) o n e ≡ padded m (a ++ z)
+  unfolding closedTo
+  closed-padded a x z o n e f g l h =
+      let ws : List ℕ = a ++ (x ++ z) in
+      let u : List ℕ = a ++ z in
+      let w : List ℕ = zeros (m - length ws) in
+      let lx : length ws ≡ length a + (length x + length z) = length-append a (x ++ z) ∙ ap (λ (i : ℕ). length a + i) (length-append x z) in
+      let lz : length u ≡ length a + length z = length-append a z in
+      let k : length ws - length u + (m - length ws) ≡ m - length u = omega arith in
+      ap₂ (λ (p q : List ℕ). closed p o n ++ q) (take-at ws w e l) (drop-at ws w e l)
+      ∙ ap (λ (r : List ℕ). r ++ w) (closed-parts a x z o n f g) ∙ append-assoc u (zeros (length ws - length u)) w
+      ∙ ap (λ (r : List ℕ). u ++ r) (replicate-append-replicate (length ws - length u) (m - length ws) 0 ∙ ap zeros k)
 
   pub swapped-padded : (a b c : List ℕ) (o i j : ℕ) → length a ≡ o → length b ≡ i → length c ≡ j → swapped (padded m (a ++ (b ++ c))) o i j ≡ padded m (a ++ (c ++ b))
   swapped-padded a b c o i j e f g =
@@ -50,3 +53,14 @@ module _ (m : ℕ) where
       ap (λ (r : List ℕ). swapped r o i j) (append-assoc a (b ++ c) w ∙ ap (λ (r : List ℕ). a ++ r) (append-assoc b c w))
       ∙ swapped-parts a b c w o i j e f g
       ∙ ap (λ (r : List ℕ). a ++ r) (sym (append-assoc c b w)) ∙ sym (append-assoc a (c ++ b) w) ∙ ap (λ (k : ℕ). (a ++ (c ++ b)) ++ zeros k) d
+
+closed-long : (t : List ℕ) (a n : ℕ) → length (closed t a n) ≡ length t
+unfolding closed
+closed-long t a n =
+    length-padded (length t) (take a t ++ drop n (drop a t))
+    (omega (arith, length-append (take a t) (drop n (drop a t)), length-take a t, length-drop n (drop a t), length-drop a t))
+
+pub length-closed : (t : List ℕ) (a n e : ℕ) → length (closedTo t a n e) ≡ length t
+unfolding closedTo
+length-closed t a n e =
+    omega (arith, length-append (closed (take e t) a n) (drop e t), closed-long (take e t) a n, length-take e t, length-drop e t)

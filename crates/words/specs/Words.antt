@@ -14,6 +14,10 @@ padded n ws = ws ++ zeros (n - length ws)
 unfoldable pub closed : List ℕ → ℕ → ℕ → List ℕ
 closed t a n = padded (length t) (take a t ++ drop n (drop a t))
 
+-- the same of the words before place e: what stands from e on is kept
+unfoldable pub closedTo : List ℕ → ℕ → ℕ → ℕ → List ℕ
+closedTo t a n e = closed (take e t) a n ++ drop e t
+
 -- n words from place a on and the m words behind them have changed places
 unfoldable pub swapped : List ℕ → ℕ → ℕ → ℕ → List ℕ
 swapped t a n m = take a t ++ (take m (drop n (drop a t)) ++ (take n (drop a t) ++ drop m (drop n (drop a t))))

@@ -2,7 +2,7 @@
 ghost use mathlib.Core.Path.{_≡_};
 ghost use Prim.Native.Nat.{_+_, _≤_, min};
 ghost use lib.ListN.{length, getD, set, replicate};
-ghost use Rattle.words.specs.Words.{closed, swapped, turned};
+ghost use Rattle.words.specs.Words.{closed, closedTo, swapped, turned};
 
 pub fn put(t: &mut [u64], i: u64, v: u64)
     ensures { λ _. ⌜ now (t .exit) ≡ set (now (t .entry)) i v ⌝ }
@@ -52,7 +52,7 @@ pub fn put_after(t: &mut [u64], place: u64, n: u64, v: u64)
 }
 
 // n words at a place go: what follows closes the gap, and the freed words are zero.
-pub fn close_gap(t: &mut [u64], place: u64, n: u64)
+fn close(t: &mut [u64], place: u64, n: u64)
     ensures { λ _. ⌜ now (t .exit) ≡ closed (now (t .entry)) place n ⌝ }
 {
     let len = t.len() as u64;
@@ -70,6 +70,14 @@ pub fn close_gap(t: &mut [u64], place: u64, n: u64)
         t[to] = 0;
         i += 1;
     }
+}
+
+// The same of the words before `end`: what stands from there on is kept.
+pub fn close_gap(t: &mut [u64], place: u64, n: u64, end: u64)
+    ensures { λ _. ⌜ now (t .exit) ≡ closedTo (now (t .entry)) place n end ⌝ }
+{
+    let to = place_after(t, end, 0) as usize;
+    close(&mut t[0..to], place, n);
 }
 
 fn swap(t: &mut [u64], i: u64, j: u64)

@@ -3,17 +3,23 @@ use native.Mathlib.Omega.{arith}
 use borrow.Author.Needs.{needs}
 use mathlib.Core.Path.{_≡_, refl, sym, _∙_}
 use Prim.Native.Nat.{_-_}
-use lib.ListN.{set}
 use Rattle.chunks.specs.Chunks.{firstNot, alike}
+use Rattle.chunks.specs.Laws as laws
 use Rattle.chunks.specs.Scan as scan
 use Rattle.chunks.proofs.run_end.Statement.{statement}
 use Rattle.chunks.proofs.run_end.Tie as tie
 
 abbrev Inv-loop : tie.InvT-loop
-Inv-loop registered failed set from to c₀ c = firstNot (alike registered failed set) c to ≡ firstNot (alike registered failed set) from to
+Inv-loop registered failed set from to len stop c₀ c = firstNot (alike registered failed set) c to ≡ firstNot (alike registered failed set) from to
 
 abbrev μ-loop : tie.MeasureT-loop
-μ-loop registered failed set from to c₀ c = to - c
+μ-loop registered failed set from to len stop c₀ c = stop - c
+
+greatest-requires : tie.Need-greatest-requires Inv-loop μ-loop
+greatest-requires c κs = search needs
+
+stop-at-requires : tie.Need-stop-at-requires Inv-loop μ-loop
+stop-at-requires c κs = search needs
 
 loop-holds : tie.Need-loop-holds Inv-loop μ-loop
 loop-holds c = refl
@@ -22,7 +28,10 @@ alike-here-requires : tie.Need-alike-here-requires Inv-loop μ-loop
 alike-here-requires c κs = search needs
 
 returns : tie.Need-returns Inv-loop μ-loop
-returns c = sym (scan.first-stop (alike (c .before .before .before .before .before .before .args .registered .now) (c .before .before .before .before .before .before .args .failed .now) (c .before .before .before .before .before .before .args .set)) (c .before .before .before .loop .c) (c .before .before .before .before .before .before .args .to) (omega arith) (c .before .alike-here .ensures .stops (c .if1 .taken))) ∙ c .before .before .before .loop .inv
+returns c =
+    let a = c .before .before .before .before .before .before .before .before .args in
+    let h = c .before .before .before .loop in
+    sym (scan.first-stop (alike (a .registered .now) (a .failed .now) (a .set)) (h .c) (a .to) (omega (arith, c .before .before .before .before .stop-at .ensures)) (c .before .alike-here .ensures .stops (c .if1 .taken))) ∙ h .inv
 
 add-c : tie.Need-add-c Inv-loop μ-loop
 add-c c = omega (arith, c .before .alike-here .ensures .within)
@@ -32,11 +41,19 @@ loop-less c = omega (arith, c .before .alike-here .ensures .within)
 
 loop-again : tie.Need-loop-again Inv-loop μ-loop
 loop-again c =
+    let a = c .before .before .before .before .before .before .before .before .args in
+    let h = c .before .before .before .loop in
     let here = c .before .alike-here in
-    sym (scan.first-skip (alike (c .before .before .before .before .before .before .args .registered .now) (c .before .before .before .before .before .before .args .failed .now) (c .before .before .before .before .before .before .args .set)) (here .result) (c .before .before .before .loop .c) (c .before .before .before .before .before .before .args .to) (here .ensures .within) (here .ensures .holds)) ∙ c .before .before .before .loop .inv
+    sym (scan.first-skip (alike (a .registered .now) (a .failed .now) (a .set)) (here .result) (h .c) (a .to) (omega (arith, here .ensures .within, c .before .before .before .before .stop-at .ensures)) (here .ensures .holds)) ∙ h .inv
+
+alike-past-requires : tie.Need-alike-past-requires Inv-loop μ-loop
+alike-past-requires c κs = search needs
 
 returns-2 : tie.Need-returns-2 Inv-loop μ-loop
-returns-2 c = sym (scan.first-end (alike (c .before .before .before .before .args .registered .now) (c .before .before .before .before .args .failed .now) (c .before .before .before .before .args .set)) (c .before .loop .c) (c .before .before .before .before .args .to) (omega arith)) ∙ c .before .loop .inv
+returns-2 c =
+    let a = c .before .before .before .before .before .before .before .args in
+    let h = c .before .before .loop in
+    c .alike-past .ensures ∙ sym (laws.run-past (a .registered .now) (a .failed .now) (a .set) (h .c) (a .to) _ _ (c .before .before .before .before .greatest .ensures) (c .before .before .before .stop-at .ensures) (omega arith)) ∙ h .inv
 
 pub run-end-spec : {M : Type 1} → statement M
 run-end-spec =
@@ -44,10 +61,13 @@ run-end-spec =
     (tie.spec
     Inv-loop
     μ-loop
+    greatest-requires
+    stop-at-requires
     loop-holds
     alike-here-requires
     returns
     add-c
     loop-less
     loop-again
+    alike-past-requires
     returns-2)

@@ -12,12 +12,16 @@ use Rattle.defaults.proofs.step.Reads as reads
 use Rattle.defaults.proofs.step.Lts as lts
 use Rattle.defaults.proofs.is_state.Reads as is-state-reads
 use Rattle.defaults.proofs.is_whole.Reads as is-whole-reads
+use Rattle.defaults.proofs.whole_step.Reads as whole-step-reads
 
 is-whole-requires : tie.Need-is-whole-requires
 is-whole-requires c κs = search needs
 
+whole-step-requires : tie.Need-whole-step-requires
+whole-step-requires c κs = search needs
+
 returns : tie.Need-returns
-returns c = let h = c .before .is-whole .ensures (c .if1 .taken) in (h .0, h .1, λ e. absurd (omega (arith, e)))
+returns c = let a = c .before .before .before .before .args in let h = c .before .before .is-whole .ensures (c .before .if1 .taken) in laws.whole-step (a .state) (a .map .now) (a .p) (a .end) (c .whole-step .result) (h .0) (h .1) (c .whole-step .ensures)
 
 is-state-requires : tie.Need-is-state-requires
 is-state-requires c κs = search needs
@@ -29,4 +33,6 @@ returns-3 : tie.Need-returns-3
 returns-3 c = let a = c .before .before .before .before .before .args in (omega (arith, c .before .before .before .before .before .pre), laws.no-span (is (a .state) (a .map .now)) (a .p), λ e. sym (c .before .is-state .ensures) ∙ c .if2 .left)
 
 pub step-spec : {M : Type 1} → statement M
-step-spec = tie.close (tie.spec is-whole-requires returns is-state-requires returns-2 returns-3)
+step-spec =
+    tie.close
+    (tie.spec is-whole-requires whole-step-requires returns is-state-requires returns-2 returns-3)

@@ -9,10 +9,10 @@ use Rattle.locks.proofs.end_of.Statement.{statement}
 use Rattle.locks.proofs.end_of.Tie as tie
 
 abbrev Inv-loop : tie.InvT-loop
-Inv-loop t n left₀ place₀ left place = endFrom t left place ≡ endFrom t n 1
+Inv-loop t n from left₀ place₀ left place = endFrom t left place ≡ endFrom t n from
 
 abbrev μ-loop : tie.MeasureT-loop
-μ-loop t n left₀ place₀ left place = left
+μ-loop t n from left₀ place₀ left place = left
 
 loop-holds : tie.Need-loop-holds Inv-loop μ-loop
 loop-holds c = refl

@@ -18,7 +18,7 @@ same-length c = search needs
 returns : tie.Need-returns
 returns c =
     let a = c .before .before .before .before .before .before .before .args in
-    laws.unlock-none (a .t .now) (pagesOf (a .list .now)) _ _ (c .before .before .before .count .ensures) (c .before .find .ensures) (c .if1 .taken)
+    laws.unlock-none (a .t .now) (pagesOf (a .list .now)) _ _ (c .before .before .before .count .ensures) (c .before .find .ensures .0) (c .if1 .taken)
 
 minus-requires : tie.Need-minus-requires
 minus-requires c κs = search needs
@@ -29,23 +29,14 @@ next-requires c κs = search needs
 end-of-requires : tie.Need-end-of-requires
 end-of-requires c κs = search needs
 
-greatest-requires : tie.Need-greatest-requires
-greatest-requires c κs = search needs
-
 next-requires-2 : tie.Need-next-requires-2
 next-requires-2 c κs = search needs
 
+bring-last-requires : tie.Need-bring-last-requires
+bring-last-requires c κs = search needs
+
 minus-requires-2 : tie.Need-minus-requires-2
 minus-requires-2 c κs = search needs
-
-minus-requires-3 : tie.Need-minus-requires-3
-minus-requires-3 c κs = search needs
-
-swap-runs-requires : tie.Need-swap-runs-requires
-swap-runs-requires c κs = search needs
-
-minus-requires-4 : tie.Need-minus-requires-4
-minus-requires-4 c κs = search needs
 
 close-gap-requires : tie.Need-close-gap-requires
 close-gap-requires c κs = search needs
@@ -58,10 +49,12 @@ same-length-2 c = search needs
 
 returns-2 : tie.Need-returns-2
 returns-2 c =
-    let a = c .before .before .before .before .before .before .before .before .before .before .before .before .before .before .before .before .before .before .before .before .before .before .before .before .before .before .before .before .before .before .args in
-    laws.unlock-made (a .t .now) (pagesOf (a .list .now)) _ _ (c .before .before .before .before .before .before .before .before .before .before .before .before .before .before .before .before .before .before .before .before .before .before .before .before .before .before .count .ensures) (c .before .before .before .before .before .before .before .before .before .before .before .before .before .before .before .before .before .before .before .before .before .before .before .before .find .ensures) (c .before .before .before .before .before .before .before .before .before .before .before .before .before .before .before .before .before .before .before .before .before .before .before .if1 .left) _ _ _ _ _ _ _ _ (c .before .before .before .before .before .before .before .before .before .before .before .before .before .before .before .before .before .before .before .before .before .before .minus .ensures)
-    (c .before .before .before .before .before .before .before .before .before .before .before .before .before .before .before .before .before .before .before .before .next .ensures) (c .before .before .before .before .before .before .before .before .before .before .before .before .before .before .before .before .before .before .end-of .ensures) (c .before .before .before .before .before .before .before .before .before .before .before .before .before .before .before .before .before .greatest .ensures) (c .before .before .before .before .before .before .before .before .before .before .before .before .before .before .before .next2 .ensures) (c .before .before .before .before .before .before .before .before .before .before .before .before .before .minus2 .ensures) (c .before .before .before .before .before .before .before .before .before .before .before .before .minus3 .ensures) (c .before .before .before .before .before .before .before .minus4 .ensures)
-    _ _ _ (c .before .before .before .before .before .before .before .before .before .before .before .swap-runs .ensures) (c .before .before .before .before .before .before .close-gap .ensures) (c .before .before .put .ensures)
+    let a = c .before .before .before .before .before .before .before .before .before .before .before .before .before .before .before .before .before .before .before .before .before .before .before .before .before .before .before .args in
+    let start = c .before .before .before .before .before .before .before .before .before .before .before .before .before .before .before .before .before .before .before .before in
+    let found = start .before .find .ensures in
+    laws.unlock-made (a .t .now) (pagesOf (a .list .now)) _ _ (start .before .before .before .count .ensures) (found .0) (start .if1 .left) _ _ _ _ _ _ (found .1 (start .if1 .left))
+    (c .before .before .before .before .before .before .before .before .before .before .before .before .before .before .before .before .before .before .before .minus .ensures) (c .before .before .before .before .before .before .before .before .before .before .before .before .before .before .before .before .before .next .ensures) (c .before .before .before .before .before .before .before .before .before .before .before .before .before .before .before .end-of .ensures) (c .before .before .before .before .before .before .before .before .before .before .before .before .before .next2 .ensures) (c .before .before .before .before .before .before .before .minus2 .ensures)
+    _ _ _ (c .before .before .before .before .before .before .before .before .before .before .before .bring-last .ensures) (c .before .before .before .before .before .before .close-gap .ensures) (c .before .before .put .ensures)
 
 pub unlock-spec : {M : Type 1} → statement M
 unlock-spec =
@@ -74,12 +67,9 @@ unlock-spec =
     minus-requires
     next-requires
     end-of-requires
-    greatest-requires
     next-requires-2
+    bring-last-requires
     minus-requires-2
-    minus-requires-3
-    swap-runs-requires
-    minus-requires-4
     close-gap-requires
     put-requires
     same-length-2
