@@ -1,6 +1,6 @@
 //! `differential --calls N --seed S [--part P] [--case I]`: runs the port and the original on N
-//! generated calls and compares. `--part registrar|protector|raw` takes the cases of one part
-//! alone; `--case` runs one case of that seed alone and prints it.
+//! generated calls and compares. `--part registrar|registrar-raw|protector|raw` takes the
+//! cases of one part alone; `--case` runs one case of that seed alone and prints it.
 
 use differential::coverage::Coverage;
 use differential::part::Case;
@@ -23,7 +23,7 @@ fn main() -> ExitCode {
         Err(text) => {
             eprintln!("differential: {text}");
             eprintln!(
-                "usage: differential --calls N --seed S [--part registrar|protector|raw] [--case I]"
+                "usage: differential --calls N --seed S [--part registrar|registrar-raw|protector|raw] [--case I]"
             );
             return ExitCode::from(2);
         }

@@ -11,6 +11,12 @@ use super::predict::TABLES;
 use super::predict::UNTOUCHED;
 use super::predict::World;
 use crate::coverage::Coverage;
+use crate::guard::GUARD_BYTE;
+use crate::guard::GUARD_WORD;
+use crate::guard::first_unlike;
+use crate::guard::guarded;
+use crate::guard::inner;
+use crate::guard::unguarded;
 use crate::random::Random;
 use crate::run::Difference;
 use crate::shrink::Simpler;
@@ -23,11 +29,6 @@ use underhill_mem_port::raw::protector::Reply;
 const BUFFERS: [&str; 9] = [
     "private", "shared", "read", "write", "kx", "ux", "state", "pages", "tables",
 ];
-
-/// Kept on both sides of every buffer.
-const GUARD: usize = 8;
-const GUARD_BYTE: u8 = 0x5A;
-const GUARD_WORD: u64 = 0x5A0F_F012_3443_215A;
 
 #[derive(Debug, Clone, PartialEq, Eq)]
 pub enum Act {
@@ -85,23 +86,6 @@ impl Act {
             },
         }
     }
-}
-
-fn guarded<T: Copy>(inner: &[T], guard: T) -> Vec<T> {
-    [&[guard; GUARD], inner, &[guard; GUARD]].concat()
-}
-
-/// The buffer between its guards, if they are whole.
-fn unguarded<T: Copy + PartialEq>(buffer: &[T], guard: T) -> Option<Vec<T>> {
-    let (front, rest) = buffer.split_at(GUARD);
-    let (inner, back) = rest.split_at(rest.len() - GUARD);
-    let whole = front.iter().chain(back).all(|item| *item == guard);
-    whole.then(|| inner.to_vec())
-}
-
-fn inner<T>(buffer: &mut [T]) -> &mut [T] {
-    let end = buffer.len() - GUARD;
-    &mut buffer[GUARD..end]
 }
 
 /// Makes the call by the library's entry; none if it wrote beside a buffer.
@@ -195,13 +179,6 @@ fn unlike(one: &World, other: &World) -> String {
     let all = BUFFERS.iter().zip(maps.chain(words));
     let shown = all.filter_map(|(name, unlike)| unlike.map(|text| format!(" {name}{text}")));
     shown.collect()
-}
-
-fn first_unlike<T: PartialEq + std::fmt::Debug>(a: &[T], b: &[T]) -> String {
-    match a.iter().zip(b).position(|(a, b)| a != b) {
-        Some(place) => format!("[{place}]={:?}", a[place]),
-        None => format!(" has {}", a.len()),
-    }
 }
 
 /// Runs a case and gives the first difference.
