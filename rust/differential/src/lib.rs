@@ -9,6 +9,7 @@ pub mod case;
 pub mod coverage;
 pub mod generate;
 pub mod guard;
+pub mod layouts;
 pub mod part;
 pub mod predict;
 pub mod protector;

@@ -1,10 +1,13 @@
 //! Puts a case to the port, the original and the predictor.
 
 use crate::case::Act;
+use crate::case::Build;
 use crate::case::Lend;
 use crate::case::Request;
 use crate::case::What;
 use crate::coverage::Coverage;
+use crate::layouts::EDGE;
+use crate::layouts::is_across;
 use crate::predict::Asked;
 use crate::predict::Awaited;
 use crate::predict::End;
@@ -33,6 +36,8 @@ struct Run<'a> {
     original: oracle::Session,
     predictor: Predictor,
     open: Option<Open>,
+    /// 128 MiB with the offset added, where what is built has RAM on both sides of it.
+    edge: Option<u128>,
     coverage: &'a mut Coverage,
 }
 
@@ -43,6 +48,7 @@ pub fn run(acts: &[Act], coverage: &mut Coverage) -> Option<Difference> {
         original: oracle::Session::new(2),
         predictor: Predictor::default(),
         open: None,
+        edge: None,
         coverage,
     };
     let mut acts = acts.iter().enumerate();
@@ -217,14 +223,10 @@ impl Run<'_> {
         let given = counted(&act.what, awaited);
         self.coverage.meet(format!("{name}{stepped}: {given}"));
         if let (What::Build(build), Awaited::Ended(..)) = (&act.what, awaited) {
-            let end = build.ram.last().map_or(0, |entry| entry.end);
-            let place = match end.checked_sub(1).map_or(0, u64::ilog2) {
-                ..40 => "below 2^40",
-                40..51 => "from 2^40 to 2^51",
-                _ if end < 1 << 52 => "from 2^51 to before 2^52",
-                _ => "2^52",
-            };
-            self.coverage.meet(format!("registrar: an end {place}"));
+            self.count_layout(build);
+        }
+        if let Awaited::Ended(_, asked) = awaited {
+            self.count_edge(name, asked);
         }
         match with_original {
             true => self.coverage.with_original += 1,
@@ -232,6 +234,35 @@ impl Run<'_> {
         }
         if let (Awaited::Ended(_, asked), true) = (awaited, with_original) {
             self.coverage.operations += asked.len() as u64;
+        }
+    }
+
+    /// Where a layout ends, and whether it reaches over 128 MiB.
+    fn count_layout(&mut self, build: &Build) {
+        let end = build.ram.last().map_or(0, |entry| entry.end);
+        let place = match end.checked_sub(1).map_or(0, u64::ilog2) {
+            ..40 => "below 2^40",
+            40..51 => "from 2^40 to 2^51",
+            _ if end < 1 << 52 => "from 2^51 to before 2^52",
+            _ => "2^52",
+        };
+        self.coverage.meet(format!("registrar: an end {place}"));
+        let edge = u128::from(build.offset) + u128::from(EDGE);
+        self.edge = is_across(&build.ram).then_some(edge);
+        if self.edge.is_some() {
+            self.coverage
+                .meet("registrar: RAM across 128 MiB".to_string());
+        }
+    }
+
+    /// Whether operations of a call reach, together, over 128 MiB.
+    fn count_edge(&mut self, call: &str, asked: &[Asked]) {
+        let Some(edge) = self.edge else { return };
+        let before = asked.iter().any(|range| range.0 < edge);
+        let behind = asked.iter().any(|range| range.1 > edge);
+        if before && behind {
+            let what = format!("{call}: chunks on both sides of 128 MiB");
+            self.coverage.meet(what);
         }
     }
 

@@ -17,6 +17,8 @@ use super::predict::layout_refusal;
 use super::predict::numbers;
 use crate::case::Entry;
 use crate::coverage::Coverage;
+use crate::layouts::is_across;
+use crate::layouts::on_both_sides;
 use crate::run::Difference;
 use crate::shrink::Simpler;
 use std::collections::BTreeMap;
@@ -629,8 +631,12 @@ impl Run<'_> {
         let given = counted(awaited, isolation);
         self.coverage.meet(format!("{label}{stepped}: {given}"));
         self.coverage.predicted_alone += 1;
-        if let What::Call { change, .. } | What::Start(change) = &act.what {
-            self.coverage.meet_sizes(change);
+        match &act.what {
+            What::Call { change, .. } | What::Start(change) => self.coverage.meet_sizes(change),
+            What::Build(build) if awaited.kind == Kind::Ended && is_across(&build.ram) => {
+                self.coverage.meet("build: RAM across 128 MiB".to_string());
+            }
+            _ => (),
         }
     }
 
@@ -687,9 +693,12 @@ impl Coverage {
             (number, _) => format!("number {number}"),
         };
         self.meet(format!("{name}: {kind}"));
-        if let Query::Overlay { gpn, .. } | Query::Lower { gpn, .. } | Query::Access { gpn } = query
-        {
-            self.meet_page(name, *gpn);
+        match query {
+            Query::Overlay { gpn, .. } | Query::Lower { gpn, .. } | Query::Access { gpn } => {
+                self.meet_page(name, *gpn);
+            }
+            Query::Visibility { list, .. } => self.meet_edge(name, &numbers(list)),
+            _ => (),
         }
     }
 
@@ -703,12 +712,20 @@ impl Coverage {
             };
             let name = label(change);
             self.meet(format!("{name}: a list of {size} pages"));
-            if let Some(&highest) = numbers(&list.bytes()).iter().max() {
+            let pages = numbers(&list.bytes());
+            if let Some(&highest) = pages.iter().max() {
                 self.meet_page(name, highest);
             }
+            self.meet_edge(name, &pages);
         }
         if let Change::Register { gpn, .. } | Change::Unregister { gpn, .. } = change {
             self.meet_page(change.name(), *gpn);
+        }
+    }
+
+    fn meet_edge(&mut self, call: &str, pages: &[u64]) {
+        if on_both_sides(pages) {
+            self.meet(format!("{call}: pages on both sides of 128 MiB"));
         }
     }
 

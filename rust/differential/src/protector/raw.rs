@@ -10,6 +10,7 @@ use super::predict::STATE;
 use super::predict::TABLES;
 use super::predict::UNTOUCHED;
 use super::predict::World;
+use crate::case::Entry;
 use crate::coverage::Coverage;
 use crate::guard::GUARD_BYTE;
 use crate::guard::GUARD_WORD;
@@ -17,6 +18,9 @@ use crate::guard::first_unlike;
 use crate::guard::guarded;
 use crate::guard::inner;
 use crate::guard::unguarded;
+use crate::layouts::UNIT;
+use crate::layouts::across_edge;
+use crate::layouts::pages_of;
 use crate::random::Random;
 use crate::run::Difference;
 use crate::shrink::Simpler;
@@ -410,8 +414,9 @@ fn count(call: &Call, world: &World, awaited: &Given, coverage: &mut Coverage) {
 /// Small layouts, forged words and calls.
 pub fn case(random: &mut Random) -> Vec<Act> {
     let mut acts = Vec::new();
-    let ram = ram(random);
-    let bytes = ram.chunks_exact(3).last().map_or(0, |e| e[1] / 32_768) as usize;
+    let layout = ram(random);
+    let ram = words_of(&layout);
+    let bytes = layout.last().map_or(0, |e| e.end / UNIT) as usize;
     let tracked = random.below(2);
     let permissions = if tracked == 1 { bytes } else { 0 };
     let lens = [
@@ -441,7 +446,7 @@ pub fn case(random: &mut Random) -> Vec<Act> {
     }
     acts.push(Act::Call(build(random, &ram, tracked)));
     let forges = random.chance(70);
-    let pages = pages_of(&ram);
+    let pages = pages_of(&layout);
     for _ in 0..random.within(1, 12) {
         if forges && random.chance(60) {
             for _ in 0..random.within(1, 6) {
@@ -466,21 +471,25 @@ pub fn case(random: &mut Random) -> Vec<Act> {
     acts
 }
 
-fn ram(random: &mut Random) -> Vec<u64> {
-    let mut words = Vec::new();
-    let mut at = random.below(3) * 32_768;
+fn ram(random: &mut Random) -> Vec<Entry> {
+    if random.chance(2) {
+        return across_edge(random);
+    }
+    let mut ram = Vec::new();
+    let mut start = random.below(3) * UNIT;
     let most = random.pick(&[1, 3, 8, 32]);
     for _ in 0..random.within(1, most) {
-        let end = at + 32_768 * random.within(1, 4);
-        words.extend([at, end, random.below(4)]);
-        at = end + 32_768 * random.below(3);
+        let end = start + UNIT * random.within(1, 4);
+        let node = random.below(4);
+        ram.push(Entry { start, end, node });
+        start = end + UNIT * random.below(3);
     }
-    words
+    ram
 }
 
-fn pages_of(ram: &[u64]) -> Vec<u64> {
-    let entries = ram.chunks_exact(3);
-    entries.flat_map(|e| e[0] / 4096..e[1] / 4096).collect()
+fn words_of(ram: &[Entry]) -> Vec<u64> {
+    let entries = ram.iter();
+    entries.flat_map(|e| [e.start, e.end, e.node]).collect()
 }
 
 /// A word: any, or a telling one.
@@ -528,6 +537,7 @@ fn forge(random: &mut Random, pages: &[u64], bytes: usize) -> Act {
         12 => {
             let buffer = random.below(6) as usize;
             let at = random.below(bytes as u64 + 1);
+            let at = random.pick(&[at, at, at.min(4090)]);
             let words = (0..random.within(1, 20)).map(|_| random.bits()).collect();
             put(buffer, at, words)
         }
