@@ -194,3 +194,18 @@ fn lower(number: u64) -> Vec<u64> {
     numbers.dedup();
     numbers
 }
+
+/// Fewer words, or one of them 0.
+pub fn simpler_words(words: &[u64]) -> Vec<Vec<u64>> {
+    let count = words.len();
+    let mut simpler = Vec::new();
+    if count > 1 {
+        simpler.extend([words[..count / 2].to_vec(), words[..count - 1].to_vec()]);
+    }
+    for place in (0..count.min(64)).filter(|&place| words[place] != 0) {
+        let mut words = words.to_vec();
+        words[place] = 0;
+        simpler.push(words);
+    }
+    simpler
+}

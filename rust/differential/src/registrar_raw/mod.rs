@@ -11,6 +11,7 @@ use crate::guard::inner;
 use crate::guard::unguarded;
 use crate::run::Difference;
 use crate::shrink::Simpler;
+use crate::shrink::simpler_words;
 use predict::Call;
 use predict::Given;
 use predict::STATE;
@@ -231,21 +232,6 @@ impl Simpler for Act {
             Act::Call(call) => simpler_calls(call).into_iter().map(Act::Call).collect(),
         }
     }
-}
-
-/// Fewer words, or one of them 0.
-pub fn simpler_words(words: &[u64]) -> Vec<Vec<u64>> {
-    let count = words.len();
-    let mut simpler = Vec::new();
-    if count > 1 {
-        simpler.extend([words[..count / 2].to_vec(), words[..count - 1].to_vec()]);
-    }
-    for place in (0..count.min(64)).filter(|&place| words[place] != 0) {
-        let mut words = words.to_vec();
-        words[place] = 0;
-        simpler.push(words);
-    }
-    simpler
 }
 
 /// The same with a number that is 0.
