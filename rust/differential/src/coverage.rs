@@ -112,6 +112,9 @@ pub const PLACES: [&str; 8] = [
     "register: chunks on both sides of 128 MiB",
 ];
 
+/// A run of so many calls of all parts fails if something that can arise wasn't met.
+pub const ENOUGH: u64 = 1_000_000;
+
 #[derive(Debug, Default)]
 pub struct Coverage {
     met: BTreeMap<String, u64>,
@@ -182,6 +185,11 @@ impl Coverage {
         let places = PLACES.iter().filter(|what| !self.met.contains_key(**what));
         missing.extend(places.map(|what| what.to_string()));
         missing
+    }
+
+    /// Whether a run of so many calls should have met more.
+    pub fn falls_short(&self, calls: u64) -> bool {
+        calls >= ENOUGH && !self.missing().is_empty()
     }
 
     pub fn calls(&self) -> u64 {
