@@ -73,40 +73,37 @@ impl Run<'_> {
             self.expect(place, "step 1", "ok | ops=0")?;
         }
         let lend = self.lend(place, &act.lend)?;
+        self.call(place, act, &lend)?;
+        if stepped {
+            self.expect(place, "step 0", "ok | ops=0")?;
+        }
+        self.compare_words(place)
+    }
+
+    fn call(&mut self, place: usize, act: &Act, lend: &Lend) -> Same {
         let line = act.line();
         let given = self.send(&line);
         let awaited = match &act.what {
-            What::Build(build) => self.predictor.build(build, &lend),
-            What::Call { request, fail } => self.predictor.call(*request, *fail, &lend),
-            What::Start(request) => self.predictor.start(*request, &lend),
-            What::Answer { done } => self.predictor.answer(*done, &lend),
+            What::Build(build) => self.predictor.build(build, lend),
+            What::Call { request, fail } => self.predictor.call(*request, *fail, lend),
+            What::Start(request) => self.predictor.start(*request, lend),
+            What::Answer { done } => self.predictor.answer(*done, lend),
         };
         let is_answer = matches!(act.what, What::Answer { .. });
         let predicted = shown(&awaited, is_answer);
         let original = self.original_of(act, &awaited, &given);
         self.count(act, &awaited, original.is_some());
-        self.count_length(act, &awaited, &lend);
+        self.count_length(act, &awaited, lend);
         let same_as_predicted = match awaited {
             Awaited::Bad => given.starts_with("bad "),
             _ => given == predicted,
         };
-        let same_as_original = match &original {
-            Some((from_port, answer)) => from_port == answer,
-            None => true,
-        };
+        let same_as_original = original.as_ref().is_none_or(|(port, other)| port == other);
         if !same_as_predicted || !same_as_original {
-            return differ(
-                place,
-                line,
-                given,
-                original.map(|(_, answer)| answer),
-                predicted,
-            );
+            let original = original.map(|(_, answer)| answer);
+            return differ(place, line, given, original, predicted);
         }
-        if stepped {
-            self.expect(place, "step 0", "ok | ops=0")?;
-        }
-        self.compare_words(place)
+        Ok(())
     }
 
     fn expect(&mut self, place: usize, line: &str, awaited: &str) -> Same {
@@ -142,45 +139,51 @@ impl Run<'_> {
         given: &str,
     ) -> Option<(String, String)> {
         match awaited {
-            Awaited::Bad | Awaited::Refused(_) => {
-                let rebuilt = matches!(act.what, What::Build(_)) && *awaited != Awaited::Bad;
-                if rebuilt {
+            Awaited::Bad => None,
+            Awaited::Refused(_) => {
+                if matches!(act.what, What::Build(_)) {
                     self.open = None;
                 }
                 None
             }
             Awaited::Asks(_) => {
-                let operation = given.rsplit(" | ").next().unwrap_or(given).to_string();
-                match (&act.what, &mut self.open) {
-                    (What::Start(request), open) => {
-                        *open = Some(Open {
-                            request: *request,
-                            asked: vec![operation],
-                        });
-                    }
-                    (_, Some(open)) => open.asked.push(operation),
-                    (_, None) => (),
-                }
+                self.note_asked(act, given);
                 None
             }
             Awaited::Ended(..) => {
-                let (line, from_port) = match &act.what {
-                    What::Answer { done } => {
-                        let open = self.open.take()?;
-                        let count = open.asked.len();
-                        let line = open.request.line_failing((!done).then_some(count as u64));
-                        let result = plain_result(given);
-                        let asked = open.asked.join("; ");
-                        (line, format!("{result} | ops={count} | {asked}"))
-                    }
-                    _ => {
-                        self.open = None;
-                        (act.line(), without_numbers(given))
-                    }
-                };
+                let (line, from_port) = self.ended(act, given)?;
                 Some((from_port, self.ask_original(&line)))
             }
         }
+    }
+
+    /// What a stepped call asked for.
+    fn note_asked(&mut self, act: &Act, given: &str) {
+        let operation = given.rsplit(" | ").next().unwrap_or(given).to_string();
+        match (&act.what, &mut self.open) {
+            (What::Start(request), open) => {
+                *open = Some(Open {
+                    request: *request,
+                    asked: vec![operation],
+                });
+            }
+            (_, Some(open)) => open.asked.push(operation),
+            (_, None) => (),
+        }
+    }
+
+    /// The line of a call that has ended, and what the port gave for all of it.
+    fn ended(&mut self, act: &Act, given: &str) -> Option<(String, String)> {
+        let open = self.open.take();
+        let What::Answer { done } = act.what else {
+            return Some((act.line(), without_numbers(given)));
+        };
+        let open = open?;
+        let count = open.asked.len();
+        let line = open.request.line_failing((!done).then_some(count as u64));
+        let result = plain_result(given);
+        let asked = open.asked.join("; ");
+        Some((line, format!("{result} | ops={count} | {asked}")))
     }
 
     /// The words of both bitmaps; the original's too, unless a call is half way.
