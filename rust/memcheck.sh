@@ -5,7 +5,7 @@
 #   ./memcheck.sh [CALLS [SEED]]
 #
 # 1. CALLS calls of the protector's entries on forged state, tables and maps (differential's raw part);
-# 2. the registrar's entries on any words in any lengths (its raw test);
+# 2. CALLS calls of the registrar's entries on forged state and bitmaps (registrar-raw), and its raw test;
 # 3. CALLS lines of garbage and of spoilt commands put to `port`.
 set -euo pipefail
 cd "$(dirname "${BASH_SOURCE[0]}")"
@@ -21,7 +21,8 @@ release -p differential --bin differential -p port
 echo "== the protector's entries, $calls calls"
 "${memcheck[@]}" "$built"/differential --part raw --calls "$calls" --seed "$seed" | tail -n 2
 
-echo "== the registrar's entries"
+echo "== the registrar's entries, $calls calls, and any words in any lengths"
+"${memcheck[@]}" "$built"/differential --part registrar-raw --calls "$calls" --seed "$seed" | tail -n 2
 made=$(cargo test --offline --release --no-run -p underhill_mem_port --test raw --message-format=json 2>/dev/null)
 raw=$(grep -o '"executable":"[^"]*/raw-[^"]*"' <<<"$made" | cut -d'"' -f4)
 "${memcheck[@]}" "$raw" --quiet --test-threads=1 any_words | grep 'test result'

@@ -100,6 +100,21 @@ pub const LENT: [(&str, &[&str]); 23] = [
     ("ranswer failed", REGISTRAR),
 ];
 
+/// What the run must have met besides, by its name in the list of what was met.
+pub const PLACES: [&str; 8] = [
+    "build: RAM across 128 MiB",
+    "to shared: pages on both sides of 128 MiB",
+    "to private: pages on both sides of 128 MiB",
+    "change_vtl_protections: pages on both sides of 128 MiB",
+    "lock_gpns: pages on both sides of 128 MiB",
+    "query_host_visibility: pages on both sides of 128 MiB",
+    "registrar: RAM across 128 MiB",
+    "register: chunks on both sides of 128 MiB",
+];
+
+/// A run of so many calls of all parts fails if something that can arise wasn't met.
+pub const ENOUGH: u64 = 1_000_000;
+
 #[derive(Debug, Default)]
 pub struct Coverage {
     met: BTreeMap<String, u64>,
@@ -144,7 +159,7 @@ impl Coverage {
         *lengths.entry(buffer).or_default() += 1;
     }
 
-    /// What was never met: numbers, operations, halts and wrong lengths.
+    /// What was never met: numbers, operations, halts, wrong lengths and places.
     pub fn missing(&self) -> Vec<String> {
         let mut missing = Vec::new();
         for (call, numbers) in NUMBERS {
@@ -167,7 +182,14 @@ impl Coverage {
             let buffers = buffers.filter(|name| met.is_none_or(|met| !met.contains_key(*name)));
             missing.extend(buffers.map(|name| format!("a wrong length of {name} at {call}")));
         }
+        let places = PLACES.iter().filter(|what| !self.met.contains_key(**what));
+        missing.extend(places.map(|what| what.to_string()));
         missing
+    }
+
+    /// Whether a run of so many calls should have met more.
+    pub fn falls_short(&self, calls: u64) -> bool {
+        calls >= ENOUGH && !self.missing().is_empty()
     }
 
     pub fn calls(&self) -> u64 {

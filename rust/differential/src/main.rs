@@ -1,6 +1,7 @@
 //! `differential --calls N --seed S [--part P] [--case I]`: runs the port and the original on N
-//! generated calls and compares. `--part registrar|protector|raw` takes the cases of one part
-//! alone; `--case` runs one case of that seed alone and prints it.
+//! generated calls and compares. `--part registrar|registrar-raw|protector|raw` takes the
+//! cases of one part alone; `--case` runs one case of that seed alone and prints it. It
+//! fails at a difference, and at a million calls or more also where something wasn't met.
 
 use differential::coverage::Coverage;
 use differential::part::Case;
@@ -23,7 +24,7 @@ fn main() -> ExitCode {
         Err(text) => {
             eprintln!("differential: {text}");
             eprintln!(
-                "usage: differential --calls N --seed S [--part registrar|protector|raw] [--case I]"
+                "usage: differential --calls N --seed S [--part registrar|registrar-raw|protector|raw] [--case I]"
             );
             return ExitCode::from(2);
         }
@@ -85,6 +86,11 @@ fn all(options: &Options, coverage: &mut Coverage) -> ExitCode {
     }
     println!("{coverage}");
     println!("differential: {number} cases of seed {seed}, no difference");
+    // One part alone can't meet everything.
+    if options.part.is_none() && coverage.falls_short(calls) {
+        println!("differential: failed, since something that can arise was not met");
+        return ExitCode::FAILURE;
+    }
     ExitCode::SUCCESS
 }
 

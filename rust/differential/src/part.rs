@@ -7,6 +7,7 @@ use crate::protector::generate as protector_cases;
 use crate::protector::lines;
 use crate::protector::raw;
 use crate::random::Random;
+use crate::registrar_raw;
 use crate::run;
 use crate::run::Difference;
 use crate::shrink::shrink;
@@ -15,11 +16,23 @@ use crate::shrink::shrink;
 pub enum Part {
     /// The registrar's lines.
     Registrar,
+    /// The registrar's entries, on any words.
+    RegistrarRaw,
     /// The protector's lines.
     Protector,
     /// The protector's entries, on any words.
     Raw,
 }
+
+/// The parts by the number of a case.
+const IN_TURN: [Part; 6] = [
+    Part::Registrar,
+    Part::Protector,
+    Part::Raw,
+    Part::Protector,
+    Part::RegistrarRaw,
+    Part::Protector,
+];
 
 impl Part {
     pub fn named(name: &str) -> Option<Self> {
@@ -27,6 +40,7 @@ impl Part {
             "registrar" => Some(Self::Registrar),
             "protector" => Some(Self::Protector),
             "raw" => Some(Self::Raw),
+            "registrar-raw" => Some(Self::RegistrarRaw),
             _ => None,
         }
     }
@@ -36,18 +50,19 @@ pub enum Case {
     Registrar(Vec<case::Act>),
     Protector(Vec<lines::Act>),
     Raw(Vec<raw::Act>),
+    RegistrarRaw(Vec<registrar_raw::Act>),
 }
 
 impl Case {
     /// The case of a seed and a number: of one part, or of all in turn.
     pub fn new(seed: u64, number: u64, part: Option<Part>) -> Self {
-        let in_turn = [Part::Registrar, Part::Protector, Part::Raw, Part::Protector];
-        let part = part.unwrap_or(in_turn[(number % 4) as usize]);
+        let part = part.unwrap_or(IN_TURN[(number % IN_TURN.len() as u64) as usize]);
         let random = &mut Random::new(seed, number);
         match part {
             Part::Registrar => Self::Registrar(generate::case(random)),
             Part::Protector => Self::Protector(protector_cases::case(random)),
             Part::Raw => Self::Raw(raw::case(random)),
+            Part::RegistrarRaw => Self::RegistrarRaw(registrar_raw::generate::case(random)),
         }
     }
 
@@ -57,6 +72,7 @@ impl Case {
             Self::Registrar(acts) => run::run(acts, coverage),
             Self::Protector(acts) => lines::run(acts, coverage),
             Self::Raw(acts) => raw::run(acts, coverage),
+            Self::RegistrarRaw(acts) => registrar_raw::run(acts, coverage),
         }
     }
 
@@ -73,13 +89,16 @@ impl Case {
             Self::Raw(acts) => Self::Raw(shrink(acts, |acts| {
                 raw::run(acts, &mut none()).map(|d| d.place)
             })),
+            Self::RegistrarRaw(acts) => Self::RegistrarRaw(shrink(acts, |acts| {
+                registrar_raw::run(acts, &mut none()).map(|d| d.place)
+            })),
         }
     }
 
     /// Who reads its lines besides people.
     pub fn readers(&self) -> &'static str {
         match self {
-            Self::Raw(_) => "",
+            Self::Raw(_) | Self::RegistrarRaw(_) => "",
             _ => ", which port and oracle read too",
         }
     }
@@ -89,6 +108,7 @@ impl Case {
             Self::Registrar(acts) => acts.iter().flat_map(case::Act::lines).collect(),
             Self::Protector(acts) => acts.iter().flat_map(lines::Act::lines).collect(),
             Self::Raw(acts) => acts.iter().map(raw::Act::line).collect(),
+            Self::RegistrarRaw(acts) => acts.iter().map(registrar_raw::Act::line).collect(),
         }
     }
 }

@@ -1,10 +1,13 @@
 //! Puts a case to the port, the original and the predictor.
 
 use crate::case::Act;
+use crate::case::Build;
 use crate::case::Lend;
 use crate::case::Request;
 use crate::case::What;
 use crate::coverage::Coverage;
+use crate::layouts::EDGE;
+use crate::layouts::is_across;
 use crate::predict::Asked;
 use crate::predict::Awaited;
 use crate::predict::End;
@@ -33,6 +36,8 @@ struct Run<'a> {
     original: oracle::Session,
     predictor: Predictor,
     open: Option<Open>,
+    /// 128 MiB with the offset added, where what is built has RAM on both sides of it.
+    edge: Option<u128>,
     coverage: &'a mut Coverage,
 }
 
@@ -43,6 +48,7 @@ pub fn run(acts: &[Act], coverage: &mut Coverage) -> Option<Difference> {
         original: oracle::Session::new(2),
         predictor: Predictor::default(),
         open: None,
+        edge: None,
         coverage,
     };
     let mut acts = acts.iter().enumerate();
@@ -67,40 +73,37 @@ impl Run<'_> {
             self.expect(place, "step 1", "ok | ops=0")?;
         }
         let lend = self.lend(place, &act.lend)?;
+        self.call(place, act, &lend)?;
+        if stepped {
+            self.expect(place, "step 0", "ok | ops=0")?;
+        }
+        self.compare_words(place)
+    }
+
+    fn call(&mut self, place: usize, act: &Act, lend: &Lend) -> Same {
         let line = act.line();
         let given = self.send(&line);
         let awaited = match &act.what {
-            What::Build(build) => self.predictor.build(build, &lend),
-            What::Call { request, fail } => self.predictor.call(*request, *fail, &lend),
-            What::Start(request) => self.predictor.start(*request, &lend),
-            What::Answer { done } => self.predictor.answer(*done, &lend),
+            What::Build(build) => self.predictor.build(build, lend),
+            What::Call { request, fail } => self.predictor.call(*request, *fail, lend),
+            What::Start(request) => self.predictor.start(*request, lend),
+            What::Answer { done } => self.predictor.answer(*done, lend),
         };
         let is_answer = matches!(act.what, What::Answer { .. });
         let predicted = shown(&awaited, is_answer);
         let original = self.original_of(act, &awaited, &given);
         self.count(act, &awaited, original.is_some());
-        self.count_length(act, &awaited, &lend);
+        self.count_length(act, &awaited, lend);
         let same_as_predicted = match awaited {
             Awaited::Bad => given.starts_with("bad "),
             _ => given == predicted,
         };
-        let same_as_original = match &original {
-            Some((from_port, answer)) => from_port == answer,
-            None => true,
-        };
+        let same_as_original = original.as_ref().is_none_or(|(port, other)| port == other);
         if !same_as_predicted || !same_as_original {
-            return differ(
-                place,
-                line,
-                given,
-                original.map(|(_, answer)| answer),
-                predicted,
-            );
+            let original = original.map(|(_, answer)| answer);
+            return differ(place, line, given, original, predicted);
         }
-        if stepped {
-            self.expect(place, "step 0", "ok | ops=0")?;
-        }
-        self.compare_words(place)
+        Ok(())
     }
 
     fn expect(&mut self, place: usize, line: &str, awaited: &str) -> Same {
@@ -136,45 +139,51 @@ impl Run<'_> {
         given: &str,
     ) -> Option<(String, String)> {
         match awaited {
-            Awaited::Bad | Awaited::Refused(_) => {
-                let rebuilt = matches!(act.what, What::Build(_)) && *awaited != Awaited::Bad;
-                if rebuilt {
+            Awaited::Bad => None,
+            Awaited::Refused(_) => {
+                if matches!(act.what, What::Build(_)) {
                     self.open = None;
                 }
                 None
             }
             Awaited::Asks(_) => {
-                let operation = given.rsplit(" | ").next().unwrap_or(given).to_string();
-                match (&act.what, &mut self.open) {
-                    (What::Start(request), open) => {
-                        *open = Some(Open {
-                            request: *request,
-                            asked: vec![operation],
-                        });
-                    }
-                    (_, Some(open)) => open.asked.push(operation),
-                    (_, None) => (),
-                }
+                self.note_asked(act, given);
                 None
             }
             Awaited::Ended(..) => {
-                let (line, from_port) = match &act.what {
-                    What::Answer { done } => {
-                        let open = self.open.take()?;
-                        let count = open.asked.len();
-                        let line = open.request.line_failing((!done).then_some(count as u64));
-                        let result = plain_result(given);
-                        let asked = open.asked.join("; ");
-                        (line, format!("{result} | ops={count} | {asked}"))
-                    }
-                    _ => {
-                        self.open = None;
-                        (act.line(), without_numbers(given))
-                    }
-                };
+                let (line, from_port) = self.ended(act, given)?;
                 Some((from_port, self.ask_original(&line)))
             }
         }
+    }
+
+    /// What a stepped call asked for.
+    fn note_asked(&mut self, act: &Act, given: &str) {
+        let operation = given.rsplit(" | ").next().unwrap_or(given).to_string();
+        match (&act.what, &mut self.open) {
+            (What::Start(request), open) => {
+                *open = Some(Open {
+                    request: *request,
+                    asked: vec![operation],
+                });
+            }
+            (_, Some(open)) => open.asked.push(operation),
+            (_, None) => (),
+        }
+    }
+
+    /// The line of a call that has ended, and what the port gave for all of it.
+    fn ended(&mut self, act: &Act, given: &str) -> Option<(String, String)> {
+        let open = self.open.take();
+        let What::Answer { done } = act.what else {
+            return Some((act.line(), without_numbers(given)));
+        };
+        let open = open?;
+        let count = open.asked.len();
+        let line = open.request.line_failing((!done).then_some(count as u64));
+        let result = plain_result(given);
+        let asked = open.asked.join("; ");
+        Some((line, format!("{result} | ops={count} | {asked}")))
     }
 
     /// The words of both bitmaps; the original's too, unless a call is half way.
@@ -217,14 +226,10 @@ impl Run<'_> {
         let given = counted(&act.what, awaited);
         self.coverage.meet(format!("{name}{stepped}: {given}"));
         if let (What::Build(build), Awaited::Ended(..)) = (&act.what, awaited) {
-            let end = build.ram.last().map_or(0, |entry| entry.end);
-            let place = match end.checked_sub(1).map_or(0, u64::ilog2) {
-                ..40 => "below 2^40",
-                40..51 => "from 2^40 to 2^51",
-                _ if end < 1 << 52 => "from 2^51 to before 2^52",
-                _ => "2^52",
-            };
-            self.coverage.meet(format!("registrar: an end {place}"));
+            self.count_layout(build);
+        }
+        if let Awaited::Ended(_, asked) = awaited {
+            self.count_edge(name, asked);
         }
         match with_original {
             true => self.coverage.with_original += 1,
@@ -232,6 +237,35 @@ impl Run<'_> {
         }
         if let (Awaited::Ended(_, asked), true) = (awaited, with_original) {
             self.coverage.operations += asked.len() as u64;
+        }
+    }
+
+    /// Where a layout ends, and whether it reaches over 128 MiB.
+    fn count_layout(&mut self, build: &Build) {
+        let end = build.ram.last().map_or(0, |entry| entry.end);
+        let place = match end.checked_sub(1).map_or(0, u64::ilog2) {
+            ..40 => "below 2^40",
+            40..51 => "from 2^40 to 2^51",
+            _ if end < 1 << 52 => "from 2^51 to before 2^52",
+            _ => "2^52",
+        };
+        self.coverage.meet(format!("registrar: an end {place}"));
+        let edge = u128::from(build.offset) + u128::from(EDGE);
+        self.edge = is_across(&build.ram).then_some(edge);
+        if self.edge.is_some() {
+            self.coverage
+                .meet("registrar: RAM across 128 MiB".to_string());
+        }
+    }
+
+    /// Whether operations of a call reach, together, over 128 MiB.
+    fn count_edge(&mut self, call: &str, asked: &[Asked]) {
+        let Some(edge) = self.edge else { return };
+        let before = asked.iter().any(|range| range.0 < edge);
+        let behind = asked.iter().any(|range| range.1 > edge);
+        if before && behind {
+            let what = format!("{call}: chunks on both sides of 128 MiB");
+            self.coverage.meet(what);
         }
     }
 

@@ -65,40 +65,9 @@ impl Simpler for Act {
 }
 
 fn simpler_acts(act: &Act) -> Vec<Act> {
-    let mut acts = Vec::new();
     let lend = act.lend;
-    let mut with = |what: What| acts.push(Act { what, lend });
-    match &act.what {
-        What::Build(build) => simpler_builds(build)
-            .into_iter()
-            .for_each(|build| with(What::Build(build))),
-        What::Call { request, fail } => {
-            if let Some(place) = *fail {
-                let request = *request;
-                with(What::Call {
-                    request,
-                    fail: None,
-                });
-                for fail in lower(place).into_iter().filter(|&place| place > 0) {
-                    let fail = Some(fail);
-                    with(What::Call { request, fail });
-                }
-            }
-            for request in simpler_requests(request) {
-                let fail = *fail;
-                with(What::Call { request, fail });
-            }
-        }
-        What::Start(request) => {
-            let (request, fail) = (*request, None);
-            with(What::Call { request, fail });
-            simpler_requests(&request)
-                .into_iter()
-                .for_each(|request| with(What::Start(request)));
-        }
-        What::Answer { done: false } => with(What::Answer { done: true }),
-        What::Answer { done: true } => (),
-    }
+    let simpler = simpler_whats(&act.what).into_iter();
+    let mut acts: Vec<_> = simpler.map(|what| Act { what, lend }).collect();
     if lend != Lend::default() {
         acts.push(Act {
             what: act.what.clone(),
@@ -108,6 +77,38 @@ fn simpler_acts(act: &Act) -> Vec<Act> {
     acts
 }
 
+fn simpler_whats(what: &What) -> Vec<What> {
+    match *what {
+        What::Build(ref build) => {
+            let builds = simpler_builds(build).into_iter();
+            builds.map(What::Build).collect()
+        }
+        What::Call { request, fail } => simpler_calls(request, fail),
+        What::Start(request) => {
+            let call = What::Call {
+                request,
+                fail: None,
+            };
+            let simpler = simpler_requests(&request).into_iter().map(What::Start);
+            [call].into_iter().chain(simpler).collect()
+        }
+        What::Answer { done: false } => vec![What::Answer { done: true }],
+        What::Answer { done: true } => Vec::new(),
+    }
+}
+
+fn simpler_calls(request: Request, fail: Option<u64>) -> Vec<What> {
+    let places = fail.map_or(Vec::new(), lower);
+    let earlier = places.into_iter().filter(|&place| place > 0).map(Some);
+    let none = fail.map(|_| None);
+    let fails = none.into_iter().chain(earlier);
+    let fails = fails.map(|fail| What::Call { request, fail });
+    let requests = simpler_requests(&request).into_iter();
+    fails
+        .chain(requests.map(|request| What::Call { request, fail }))
+        .collect()
+}
+
 fn simpler_builds(build: &Build) -> Vec<Build> {
     let mut builds = Vec::new();
     for place in 0..build.ram.len() {
@@ -115,21 +116,7 @@ fn simpler_builds(build: &Build) -> Vec<Build> {
         fewer.ram.remove(place);
         builds.push(fewer);
     }
-    let with_ram = |shrunk: &dyn Fn(u64) -> u64| {
-        let mut smaller = build.clone();
-        for entry in &mut smaller.ram {
-            entry.start = shrunk(entry.start);
-            entry.end = shrunk(entry.end);
-        }
-        smaller
-    };
-    // All of it lower, by whole pieces of many sizes, so that what is aligned stays so.
-    let lowest = build.ram.iter().map(|e| e.start.min(e.end)).min();
-    for shift in (15..52).rev() {
-        let by = lowest.unwrap_or(0) >> shift << shift;
-        builds.push(with_ram(&|address| address - by));
-    }
-    builds.push(with_ram(&|address| address / 65_536 * 32_768));
+    builds.extend(lower_builds(build));
     for place in 0..build.ram.len() {
         let entry = build.ram[place];
         let mut smaller = build.clone();
@@ -139,7 +126,8 @@ fn simpler_builds(build: &Build) -> Vec<Build> {
         plain.ram[place].node = place as u64;
         builds.push(plain);
     }
-    builds.extend(lower(build.offset).into_iter().map(|offset| Build {
+    let offsets = lower(build.offset).into_iter();
+    builds.extend(offsets.map(|offset| Build {
         offset,
         ..build.clone()
     }));
@@ -151,6 +139,26 @@ fn simpler_builds(build: &Build) -> Vec<Build> {
     }
     builds.retain(|simpler| weight(simpler) < weight(build));
     builds
+}
+
+/// The same with all of its RAM lower, by whole pieces of many sizes, so that what is aligned stays
+/// so; or at half the addresses.
+fn lower_builds(build: &Build) -> Vec<Build> {
+    let with_ram = |shrunk: &dyn Fn(u64) -> u64| {
+        let mut smaller = build.clone();
+        for entry in &mut smaller.ram {
+            entry.start = shrunk(entry.start);
+            entry.end = shrunk(entry.end);
+        }
+        smaller
+    };
+    let lowest = build.ram.iter().map(|e| e.start.min(e.end)).min();
+    let shifts = (15..52).rev().map(|shift| {
+        let by = lowest.unwrap_or(0) >> shift << shift;
+        with_ram(&|address| address - by)
+    });
+    let half = with_ram(&|address| address / 65_536 * 32_768);
+    shifts.chain([half]).collect()
 }
 
 /// Falls with each simpler build, so that shrinking ends.
@@ -193,4 +201,19 @@ fn lower(number: u64) -> Vec<u64> {
     numbers.retain(|&lower| lower < number);
     numbers.dedup();
     numbers
+}
+
+/// Fewer words, or one of them 0.
+pub fn simpler_words(words: &[u64]) -> Vec<Vec<u64>> {
+    let count = words.len();
+    let mut simpler = Vec::new();
+    if count > 1 {
+        simpler.extend([words[..count / 2].to_vec(), words[..count - 1].to_vec()]);
+    }
+    for place in (0..count.min(64)).filter(|&place| words[place] != 0) {
+        let mut words = words.to_vec();
+        words[place] = 0;
+        simpler.push(words);
+    }
+    simpler
 }

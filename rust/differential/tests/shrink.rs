@@ -23,47 +23,51 @@ fn register(address: u64, len: u64) -> Act {
     }
 }
 
-/// As if a request past 100,000 on a layout of two entries differed.
-#[test]
-fn a_difference_is_shortened() {
+fn build() -> Act {
     let entry = |start, end| Entry {
         start,
         end,
         node: 9,
     };
-    let build = Build {
-        ram: vec![
-            entry(0, 65_536),
-            entry(98_304, 1 << 30),
-            entry(1 << 31, 1 << 32),
-        ],
-        offset: 1 << 40,
-        granularity: 65_536,
-    };
-    let build = Act {
-        what: What::Build(build),
+    let ram = vec![
+        entry(0, 65_536),
+        entry(98_304, 1 << 30),
+        entry(1 << 31, 1 << 32),
+    ];
+    Act {
+        what: What::Build(Build {
+            ram,
+            offset: 1 << 40,
+            granularity: 65_536,
+        }),
         lend: Lend::default(),
-    };
+    }
+}
+
+/// As if a request past 100,000 on a layout of two entries differed.
+fn differs_high(acts: &[Act]) -> Option<usize> {
+    let entries = acts.iter().find_map(|act| match &act.what {
+        What::Build(build) => Some(build.ram.len()),
+        _ => None,
+    });
+    acts.iter().position(|act| match act.what {
+        What::Call {
+            request: Request::Register { address, .. },
+            ..
+        } => entries >= Some(2) && address > 100_000,
+        _ => false,
+    })
+}
+
+#[test]
+fn a_difference_is_shortened() {
     let case = [
-        build,
+        build(),
         register(5, 5),
         register(7 << 20, 1 << 20),
         register(3, 3),
     ];
-    let differs = |acts: &[Act]| {
-        let entries = acts.iter().find_map(|act| match &act.what {
-            What::Build(build) => Some(build.ram.len()),
-            _ => None,
-        });
-        acts.iter().position(|act| match act.what {
-            What::Call {
-                request: Request::Register { address, .. },
-                ..
-            } => entries >= Some(2) && address > 100_000,
-            _ => false,
-        })
-    };
-    let short = shrink(&case, differs);
+    let short = shrink(&case, differs_high);
     let lines: Vec<_> = short.iter().map(Act::line).collect();
     assert_eq!(lines[1..], ["register 100001 0"]);
     assert!(
@@ -84,49 +88,50 @@ fn called(change: Change) -> lines::Act {
     }
 }
 
+fn locked(pages: Vec<u64>) -> lines::Act {
+    let list = List::Pages(pages);
+    called(Change::Lock { vtl: 1, list })
+}
+
+fn overlay(gpn: u64) -> lines::Act {
+    called(Change::Register {
+        vtl: 0,
+        gpn,
+        source: 0,
+        checked: 9,
+        new: 3,
+    })
+}
+
 /// As if an overlay of page 7 behind a lock of page 9 differed.
+fn differs_behind_a_lock(acts: &[lines::Act]) -> Option<usize> {
+    let locks = acts.iter().position(|act| match &act.what {
+        lines::What::Call {
+            change: Change::Lock { list, .. },
+            ..
+        } => matches!(list, List::Pages(pages) if pages.contains(&9)),
+        _ => false,
+    })?;
+    let mut behind = acts[locks..].iter();
+    let place = behind.position(|act| {
+        let line = act.line();
+        line.starts_with("register_overlay_page 0 7 ")
+    })?;
+    Some(locks + place)
+}
+
 #[test]
 fn overlays_and_locks_are_shortened() {
-    let lock = |pages: Vec<u64>| {
-        called(Change::Lock {
-            vtl: 1,
-            list: List::Pages(pages),
-        })
-    };
-    let register = |gpn: u64| {
-        called(Change::Register {
-            vtl: 0,
-            gpn,
-            source: 0,
-            checked: 9,
-            new: 3,
-        })
-    };
     let default = called(Change::Default { vtl: 0, flags: 3 });
     let case = [
-        lock((0..40).collect()),
+        locked((0..40).collect()),
         default,
-        register(8),
-        lock(vec![3]),
-        register(7),
-        register(9),
+        overlay(8),
+        locked(vec![3]),
+        overlay(7),
+        overlay(9),
     ];
-    let differs = |acts: &[lines::Act]| {
-        let locks = acts.iter().position(|act| match &act.what {
-            lines::What::Call {
-                change: Change::Lock { list, .. },
-                ..
-            } => matches!(list, List::Pages(pages) if pages.contains(&9)),
-            _ => false,
-        })?;
-        let mut behind = acts[locks..].iter();
-        let place = behind.position(|act| {
-            let line = act.line();
-            line.starts_with("register_overlay_page 0 7 ")
-        })?;
-        Some(locks + place)
-    };
-    let short = shrink(&case, differs);
+    let short = shrink(&case, differs_behind_a_lock);
     let lines: Vec<_> = short.iter().map(lines::Act::line).collect();
     assert_eq!(
         lines,

@@ -10,6 +10,7 @@ use protocol::Parsed;
 use protocol::bad;
 use protocol::op::Pages;
 use protocol::parse;
+use protocol::parse::Failure;
 use protocol::parse::Options;
 use protocol::parse::exactly;
 use protocol::show;
@@ -57,6 +58,14 @@ enum Kind {
     Answer,
 }
 
+/// A call run to its end, or to its first operation.
+struct Driven {
+    reply: Reply,
+    ops: Vec<String>,
+    /// The operations whose failure 21 refused.
+    refused: Vec<u64>,
+}
+
 impl Built {
     fn new(bytes: [usize; 6]) -> Self {
         Self {
@@ -66,6 +75,45 @@ impl Built {
             tables: vec![0; TABLES_WORDS],
             kind: Kind::Indexed,
         }
+    }
+
+    /// Answers a call to its end; one that is stepped as far as its first operation.
+    fn drive(&mut self, mut reply: Reply, run: &mut Run) -> Driven {
+        let mut ops = Vec::new();
+        let mut refused = Vec::new();
+        while reply.operation != 0 {
+            let op = self.op(&reply);
+            ops.push(match run.trace {
+                true => format!("{op} {{{}}}", self.show()),
+                false => op.to_string(),
+            });
+            if run.step {
+                break;
+            }
+            let place = ops.len() as u64;
+            let (answer, taken) = self.answer(run.failures.get(&place), &mut run.lends);
+            if !taken {
+                refused.push(place);
+            }
+            reply = answer;
+        }
+        Driven {
+            reply,
+            ops,
+            refused,
+        }
+    }
+
+    /// An answer as it is scripted, and whether it is taken: a failure that 21 refuses is answered
+    /// done instead.
+    fn answer(&mut self, failed: Option<&Failure>, lends: &mut Lends) -> (Reply, bool) {
+        if let Some(failure) = failed {
+            let reply = raw::answer_failed(self.lent(lends), failure.code, failure.processed);
+            if reply.number != 21 {
+                return (reply, true);
+            }
+        }
+        (raw::answer_done(self.lent(lends)), failed.is_none())
     }
 
     /// Its own buffers, but for those of a line.
@@ -231,50 +279,29 @@ impl Protector {
     /// Makes a call and, unless stepped, answers it to its end.
     fn call(
         &mut self,
-        run: Run,
+        mut run: Run,
         kind: Kind,
         entry: impl FnOnce(Lent<'_>) -> Reply,
     ) -> Parsed<String> {
         let built = self.built()?;
-        let mut lends = run.lends;
-        let mut reply = entry(built.lent(&mut lends));
+        let first = entry(built.lent(&mut run.lends));
         let kind = match kind {
             Kind::Answer => built.kind,
             kind => kind,
         };
-        if reply.operation != 0 {
+        if first.operation != 0 {
             built.kind = kind;
         }
-        let mut ops = Vec::new();
-        let mut refused = Vec::new();
-        while reply.operation != 0 {
-            let op = built.op(&reply);
-            ops.push(match run.trace {
-                true => format!("{op} {{{}}}", built.show()),
-                false => op.to_string(),
-            });
-            if run.step {
-                break;
-            }
-            let place = ops.len() as u64;
-            let failed = run.failures.get(&place);
-            let answer = failed.map(|failure| {
-                let lent = built.lent(&mut lends);
-                raw::answer_failed(lent, failure.code, failure.processed)
-            });
-            reply = match answer {
-                Some(answer) if answer.number != 21 => answer,
-                other => {
-                    refused.extend(other.map(|_| place));
-                    raw::answer_done(built.lent(&mut lends))
-                }
-            };
-        }
+        let Driven {
+            reply,
+            ops,
+            refused,
+        } = built.drive(first, &mut run);
         let count =
             (reply.operation == 0 && reply.count != 0).then(|| format!("count={}", reply.count));
         let refused =
             (!refused.is_empty()).then(|| format!("refused21={}", show::joined(refused, ",")));
-        let more = count.into_iter().chain(refused).chain(lends.written());
+        let more = count.into_iter().chain(refused).chain(run.lends.written());
         Ok(show::answer(
             &result(&reply, kind),
             &ops,

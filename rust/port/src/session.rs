@@ -59,30 +59,6 @@ impl Session {
             lends,
         };
         match name {
-            "build" => self.protector.build(args, run),
-            "change_host_visibility" => self.protector.change_host_visibility(args, run),
-            "change_vtl_protections" => self.protector.change_vtl_protections(args, run),
-            "change_default_vtl_protections" => {
-                self.protector.change_default_vtl_protections(args, run)
-            }
-            "register_overlay_page" => self.protector.register_overlay_page(args, run),
-            "unregister_overlay_page" => self.protector.unregister_overlay_page(args, run),
-            "is_overlay_page" => self.protector.is_overlay_page(args, run),
-            "lock_gpns" => self.protector.lock_gpns(args, run),
-            "unlock_gpns" => self.protector.unlock_gpns(args, run),
-            "set_vtl1_protections_enabled" => {
-                self.protector.set_vtl1_protections_enabled(args, run)
-            }
-            "vtl1_protections_enabled" => self.protector.vtl1_protections_enabled(args, run),
-            "default_vtl0_protections" => self.protector.default_vtl0_protections(args, run),
-            "permissions" => protector::permissions(args),
-            "query_host_visibility" => self.protector.query_host_visibility(args, run),
-            "query_lower_vtl_permissions" => self.protector.query_lower_vtl_permissions(args, run),
-            "query_access_permission" => self.protector.query_access_permission(args, run),
-            "page_fault" => self.protector.page_fault(args, run),
-            "answer" => self.protector.answer(args, run),
-            "dump" => self.protector.dump(args),
-            "tables" => self.protector.tables(args),
             "registrar" => self.registrar.build(args, run),
             "register" => self.registrar.register(args, run),
             "register_all_aligned" => self.registrar.register_all_aligned(args, run),
@@ -91,6 +67,33 @@ impl Session {
             "lend" => self.lend(args),
             "step" => self.set_step(args),
             "trace" => self.set_trace(args),
+            _ => self.of_protector(name, args, run),
+        }
+    }
+
+    fn of_protector(&mut self, name: &str, args: &[&str], run: Run) -> Parsed<String> {
+        let protector = &mut self.protector;
+        match name {
+            "build" => protector.build(args, run),
+            "change_host_visibility" => protector.change_host_visibility(args, run),
+            "change_vtl_protections" => protector.change_vtl_protections(args, run),
+            "change_default_vtl_protections" => protector.change_default_vtl_protections(args, run),
+            "register_overlay_page" => protector.register_overlay_page(args, run),
+            "unregister_overlay_page" => protector.unregister_overlay_page(args, run),
+            "is_overlay_page" => protector.is_overlay_page(args, run),
+            "lock_gpns" => protector.lock_gpns(args, run),
+            "unlock_gpns" => protector.unlock_gpns(args, run),
+            "set_vtl1_protections_enabled" => protector.set_vtl1_protections_enabled(args, run),
+            "vtl1_protections_enabled" => protector.vtl1_protections_enabled(args, run),
+            "default_vtl0_protections" => protector.default_vtl0_protections(args, run),
+            "permissions" => protector::permissions(args),
+            "query_host_visibility" => protector.query_host_visibility(args, run),
+            "query_lower_vtl_permissions" => protector.query_lower_vtl_permissions(args, run),
+            "query_access_permission" => protector.query_access_permission(args, run),
+            "page_fault" => protector.page_fault(args, run),
+            "answer" => protector.answer(args, run),
+            "dump" => protector.dump(args),
+            "tables" => protector.tables(args),
             _ => bad("unknown command"),
         }
     }

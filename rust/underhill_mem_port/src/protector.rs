@@ -20,15 +20,21 @@ use std::fmt;
 #[derive(Debug, Clone, Copy, PartialEq, Eq, Hash)]
 #[repr(u8)]
 pub enum IsolationType {
+    /// SEV-SNP, of AMD.
     Snp = 2,
+    /// TDX, of Intel.
     Tdx = 3,
+    /// CCA, of Arm.
     Cca = 4,
 }
 
+/// A virtual trust level of the guest.
 #[derive(Debug, Clone, Copy, PartialEq, Eq, Hash, PartialOrd, Ord)]
 #[repr(u8)]
 pub enum GuestVtl {
+    /// The lower one, where the guest runs.
     Vtl0 = 0,
+    /// The one that guards it.
     Vtl1 = 1,
 }
 
@@ -36,7 +42,9 @@ pub enum GuestVtl {
 #[derive(Debug, Clone, Copy, PartialEq, Eq, Hash)]
 #[repr(u8)]
 pub enum Visibility {
+    /// It is encrypted, and the host does not.
     Private = 0,
+    /// It does.
     Shared = 1,
 }
 
@@ -45,11 +53,17 @@ pub enum Visibility {
 pub struct Flags(u8);
 
 impl Flags {
+    /// No permission.
     pub const NONE: Self = Self(0);
+    /// It may be read.
     pub const READABLE: Self = Self(1);
+    /// It may be written.
     pub const WRITABLE: Self = Self(2);
+    /// It may be executed in kernel mode.
     pub const KERNEL_EXECUTABLE: Self = Self(4);
+    /// It may be executed in user mode.
     pub const USER_EXECUTABLE: Self = Self(8);
+    /// All four.
     pub const ALL: Self = Self(15);
 
     /// The flags of those bits; none if there are others.
@@ -58,6 +72,7 @@ impl Flags {
         u8::try_from(bits).ok().filter(|&b| b < 16).map(Self)
     }
 
+    /// Their bits, below 16.
     pub fn bits(self) -> u8 {
         self.0
     }
@@ -79,17 +94,22 @@ impl std::ops::BitOr for Flags {
 /// Pages that follow each other: a page is 4,096 bytes, its number the address / 4,096.
 #[derive(Debug, Clone, Copy, PartialEq, Eq, Hash)]
 pub struct PageRun {
+    /// The number of the first.
     pub first: u64,
+    /// How many there are.
     pub count: u64,
 }
 
 /// A change of a VTL's permissions in hardware.
 #[derive(Debug, Clone, Copy, PartialEq, Eq, Hash)]
 pub struct Protect {
+    /// Whose permissions.
     pub vtl: GuestVtl,
+    /// What they are to be.
     pub flags: Flags,
     /// The RMPADJUST operand, on SNP. On TDX and CCA the backend encodes VTL and flags.
     pub operand: Option<u64>,
+    /// Of which pages.
     pub pages: PageRun,
 }
 
@@ -104,6 +124,7 @@ pub enum Operation<'a> {
     Flush(GuestVtl),
     /// Wait until no processor holds a TLB lock of a VTL.
     TlbWait(GuestVtl),
+    /// Change a VTL's permissions in hardware.
     Protect(Protect),
     /// Unaccept pages on SNP (PVALIDATE).
     Invalidate(PageRun),
@@ -111,7 +132,9 @@ pub enum Operation<'a> {
     Release(PageRun),
     /// Ask the hypervisor to change the pages' visibility, in that order. There may be none.
     Modify {
+        /// What it is to be.
         to: Visibility,
+        /// Their numbers.
         pages: &'a [u64],
     },
     /// Accept pages that came back.
@@ -135,6 +158,7 @@ pub struct ModifyError {
 /// protector, as the original panics there: log it before it is returned. A failed
 /// [`protect`](Self::protect) of an overlay call halts nothing; the call fails.
 pub trait Backend {
+    /// Why an operation failed: the backend's own, the protector does not read it.
     type Error;
 
     /// Waits until no thread accesses guest memory by what the maps said before.
@@ -163,7 +187,10 @@ pub trait Backend {
 #[derive(Debug, Clone, Copy, PartialEq, Eq)]
 pub enum Progress<'a> {
     /// It is finished, well, and asked for so many operations.
-    Done { count: u64 },
+    Done {
+        /// How many.
+        count: u64,
+    },
     /// It asks for an operation, and waits for an answer.
     Asked(Operation<'a>),
 }
@@ -177,13 +204,28 @@ pub enum ChangeError {
     Refused(Refusal),
     /// 15: VTL0 may not read and write the page at that place of the list. Those before it are
     /// changed.
-    AccessDenied { index: u64, count: u64 },
+    AccessDenied {
+        /// The place.
+        index: u64,
+        /// The operations asked for.
+        count: u64,
+    },
     /// 16: the hypervisor gave that code for the page at that place of the list. Those before it
     /// are changed. Of an overlay call: Protect failed, the code is 8 and the place 0.
-    Failed { code: u16, index: u64, count: u64 },
+    Failed {
+        /// The hypervisor's status.
+        code: u16,
+        /// The place.
+        index: u64,
+        /// The operations asked for.
+        count: u64,
+    },
     /// 20: an operation failed that can't be taken back. Marks stay as they were then, and every
     /// further call is refused by [`Refusal::Halted`].
-    Halted { count: u64 },
+    Halted {
+        /// The operations asked for, the failed one among them.
+        count: u64,
+    },
 }
 
 impl ChangeError {
@@ -558,7 +600,9 @@ mod queries {
     #[derive(Debug, Clone, Copy, PartialEq, Eq, Hash)]
     #[repr(u8)]
     pub enum Mapping {
+        /// That of private pages.
         Encrypted = 0,
+        /// That of shared pages.
         Shared = 1,
     }
 
@@ -566,24 +610,33 @@ mod queries {
     #[derive(Debug, Clone, Copy, PartialEq, Eq, Hash)]
     #[repr(u8)]
     pub enum View {
+        /// Data, read and written.
         Read = 0,
+        /// Instructions in kernel mode.
         KernelExecute = 1,
+        /// Instructions in user mode.
         UserExecute = 2,
     }
 
     /// What a fault is answered.
     #[derive(Debug, Clone, Copy, PartialEq, Eq, Hash)]
     pub enum Fault {
+        /// The bitmaps permit it by now: access it again.
         Retry,
+        /// No bitmap barred it, so nothing is mapped there.
         NotMapped,
+        /// The page isn't shared, and the fault is on the shared mapping.
         NotShared,
+        /// The page isn't private, and the fault is on the encrypted mapping.
         NotPrivate,
+        /// VTL1 has barred it.
         VtlProtected,
     }
 
     /// A query of a list that is refused.
     #[derive(Debug, Clone, Copy, PartialEq, Eq)]
     pub struct QueryError {
+        /// What refuses it.
         pub refusal: Refusal,
         /// The place in the list that the refusal is about.
         pub index: u64,

@@ -12,7 +12,9 @@ use std::fmt;
 /// A range of bytes, the end exclusive.
 #[derive(Debug, Clone, Copy, PartialEq, Eq, Hash, Default)]
 pub struct MemoryRange {
+    /// Its first byte.
     pub start: u64,
+    /// The byte after its last.
     pub end: u64,
 }
 
@@ -25,7 +27,9 @@ impl fmt::Display for MemoryRange {
 /// A stretch of RAM and its virtual NUMA node.
 #[derive(Debug, Clone, Copy, PartialEq, Eq, Hash)]
 pub struct MemoryRangeWithNode {
+    /// Where it is.
     pub range: MemoryRange,
+    /// The node.
     pub vnode: u32,
 }
 
@@ -33,6 +37,7 @@ pub struct MemoryRangeWithNode {
 ///
 /// Any `FnMut(MemoryRange) -> Result<(), E>` is one.
 pub trait RegisterMemory {
+    /// Why a registration failed: the backend's own, the registrar does not read it.
     type Error;
 
     /// Registers a range, the registrar's offset added. A failure is remembered: its chunks are
@@ -52,9 +57,11 @@ impl<F: FnMut(MemoryRange) -> Result<(), E>, E> RegisterMemory for F {
 /// Why no registrar or protector was made.
 #[derive(Debug, Clone, Copy, PartialEq, Eq)]
 pub enum BuildError {
+    /// What it is to be built from is unfit.
     Refused(Refusal),
     /// The bitmaps, of so many words each, can't be allocated.
     OutOfMemory {
+        /// How many.
         words: u64,
     },
 }
@@ -80,7 +87,10 @@ impl From<Refusal> for BuildError {
 #[derive(Debug, Clone, Copy, PartialEq, Eq)]
 pub enum Step {
     /// It is finished, well, and asked for so many operations.
-    Done { count: u64 },
+    Done {
+        /// How many.
+        count: u64,
+    },
     /// It asks that a range be registered, and waits for an answer.
     Asked(MemoryRange),
 }
@@ -97,6 +107,7 @@ pub struct UnalignedMemory {
     pub vnode: u32,
     /// and that entry's range.
     pub node_range: MemoryRange,
+    /// What was asked for.
     pub alignment: u64,
 }
 
@@ -108,9 +119,19 @@ pub enum RegisterError {
     Refused(Refusal),
     /// 23: a registration failed, now (then the address is the range's start without offset) or
     /// in an earlier call (then it is the chunk's start).
-    Failed { address: u64, count: u64 },
+    Failed {
+        /// That address.
+        address: u64,
+        /// The operations asked for.
+        count: u64,
+    },
     /// 22: a span isn't aligned; the spans before it are registered.
-    Unaligned { memory: UnalignedMemory, count: u64 },
+    Unaligned {
+        /// Where.
+        memory: UnalignedMemory,
+        /// The operations asked for.
+        count: u64,
+    },
 }
 
 impl RegisterError {

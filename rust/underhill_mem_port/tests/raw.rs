@@ -49,46 +49,74 @@ fn is_whole(buffer: &[u64]) -> bool {
     buffer.first() == Some(&GUARD) && buffer.last() == Some(&GUARD)
 }
 
+/// What is lent to a call, guarded.
+#[derive(Clone, PartialEq)]
+struct Buffers {
+    state: Vec<u64>,
+    registered: Vec<u64>,
+    failed: Vec<u64>,
+}
+
+impl Buffers {
+    fn any(random: &mut Random) -> Self {
+        let words = match random.below(8) {
+            0 => random.below(120),
+            _ => STATE_WORDS as u64,
+        };
+        let mut state = guarded((0..words).map(|_| random.word()));
+        if words == STATE_WORDS as u64 {
+            bound(random, inner(&mut state));
+        }
+        let len = random.below(4);
+        let registered = guarded((0..len).map(|_| random.word()));
+        let failed_len = match random.below(8) {
+            0 => random.below(4),
+            _ => len,
+        };
+        Self {
+            state,
+            registered,
+            failed: guarded((0..failed_len).map(|_| random.word())),
+        }
+    }
+
+    fn lent(&mut self) -> Lent<'_> {
+        Lent {
+            state: inner(&mut self.state),
+            registered: inner(&mut self.registered),
+            failed: inner(&mut self.failed),
+        }
+    }
+
+    fn are_whole(&self) -> bool {
+        is_whole(&self.state) && is_whole(&self.registered) && is_whole(&self.failed)
+    }
+}
+
+/// Chunks under way and entries that no build leaves, yet not so many that walking them takes
+/// years: the entries walk all chunks that a state names, bitmaps or not.
+fn bound(random: &mut Random, state: &mut [u64]) {
+    state[2] = random.below(300);
+    state[3] = random.below(300);
+    for word in &mut state[12..] {
+        *word = random.below(40) * 32_768;
+    }
+    if random.below(2) == 0 {
+        // What fits small bitmaps, so that more than 4 is met.
+        state[10] = 1 << (12 + random.below(8));
+        state[11] = random.below(4);
+    }
+}
+
 #[test]
 fn any_words_in_any_lengths_are_answered() {
     let mut random = Random(7);
     for round in 0..50_000 {
-        let state_words = match random.below(8) {
-            0 => random.below(120),
-            _ => STATE_WORDS as u64,
-        };
-        let mut state = guarded((0..state_words).map(|_| random.word()));
-        if state_words == STATE_WORDS as u64 {
-            // Chunks under way and entries that no build leaves, yet not so many that walking them
-            // takes years: the entries walk all chunks that a state names, bitmaps or not.
-            let state = inner(&mut state);
-            state[2] = random.below(300);
-            state[3] = random.below(300);
-            for word in &mut state[12..] {
-                *word = random.below(40) * 32_768;
-            }
-            if random.below(2) == 0 {
-                // What fits small bitmaps, so that more than 4 is met.
-                state[10] = 1 << (12 + random.below(8));
-                state[11] = random.below(4);
-            }
-        }
-        let len = random.below(4);
-        let mut registered = guarded((0..len).map(|_| random.word()));
-        let failed_len = if random.below(8) == 0 {
-            random.below(4)
-        } else {
-            len
-        };
-        let mut failed = guarded((0..failed_len).map(|_| random.word()));
-        let before = (state.clone(), registered.clone(), failed.clone());
+        let mut buffers = Buffers::any(&mut random);
+        let before = buffers.clone();
         let (a, b) = (random.word(), random.word());
         let ram: Vec<u64> = (0..random.below(100)).map(|_| random.word()).collect();
-        let lent = Lent {
-            state: inner(&mut state),
-            registered: inner(&mut registered),
-            failed: inner(&mut failed),
-        };
+        let lent = buffers.lent();
         let reply = match round % 5 {
             0 => raw::build(&ram, a, b, lent),
             1 => raw::register(lent, a, b),
@@ -96,21 +124,16 @@ fn any_words_in_any_lengths_are_answered() {
             3 => raw::answer_done(lent),
             _ => raw::answer_failed(lent),
         };
-        assert!(is_whole(&state) && is_whole(&registered) && is_whole(&failed));
+        assert!(buffers.are_whole());
         let known = [0, 1, 2, 4, 8, 9, 19, 21, 22, 23];
         assert!(known.contains(&reply.number), "{reply:?}");
         if !matches!(reply.number, 0 | 22 | 23) {
-            assert_eq!(
-                reply,
-                Reply {
-                    number: reply.number,
-                    ..Reply::default()
-                }
-            );
-            assert!(
-                (state, registered, failed) == before,
-                "a refusal changes nothing"
-            );
+            let plain = Reply {
+                number: reply.number,
+                ..Reply::default()
+            };
+            assert_eq!(reply, plain);
+            assert!(buffers == before, "a refusal changes nothing");
         }
     }
 }

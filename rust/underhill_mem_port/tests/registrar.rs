@@ -142,7 +142,7 @@ fn a_backend_that_panics_leaves_its_operation_asked() {
 }
 
 #[test]
-fn refusals() {
+fn unfit_builds_are_refused() {
     let ram = [entry(0, 65_536, 0)];
     let built = |ram: &[_], offset, granularity| {
         MemoryRegistrar::new(ram, offset, granularity).map(|r| r.registered().len())
@@ -164,7 +164,10 @@ fn refusals() {
     // Nothing is allocated for what is refused, whatever its end.
     let past = [entry(0, u64::MAX, 0)];
     assert_eq!(built(&past, 0, 4096), refused(Refusal::UnfitLayout));
+}
 
+#[test]
+fn unfit_requests_are_refused() {
     let mut registrar = worked(65_536);
     let mut kernel = Kernel::default();
     let refused = |refusal: Refusal| Err(RegisterError::Refused(refusal));

@@ -225,23 +225,18 @@ impl Change {
     }
 
     pub(super) fn call(&self) -> Call {
-        match self {
+        let list = self.list().map_or(Vec::new(), List::bytes);
+        match *self {
             Change::Visibility {
+                vtl, visibility, ..
+            } => Call::Change {
                 vtl,
                 visibility,
                 list,
-            } => Call::Change {
-                vtl: *vtl,
-                visibility: *visibility,
-                list: list.bytes(),
             },
-            Change::Protections { vtl, flags, list } => Call::Protections {
-                vtl: *vtl,
-                flags: *flags,
-                list: list.bytes(),
-            },
-            &Change::Default { vtl, flags } => Call::Default { vtl, flags },
-            &Change::Register {
+            Change::Protections { vtl, flags, .. } => Call::Protections { vtl, flags, list },
+            Change::Default { vtl, flags } => Call::Default { vtl, flags },
+            Change::Register {
                 vtl,
                 gpn,
                 source,
@@ -254,15 +249,9 @@ impl Change {
                 checked,
                 new,
             },
-            &Change::Unregister { vtl, gpn } => Call::Unregister { vtl, gpn },
-            Change::Lock { vtl, list } => Call::Lock {
-                vtl: *vtl,
-                list: list.bytes(),
-            },
-            Change::Unlock { vtl, list } => Call::Unlock {
-                vtl: *vtl,
-                list: list.bytes(),
-            },
+            Change::Unregister { vtl, gpn } => Call::Unregister { vtl, gpn },
+            Change::Lock { vtl, .. } => Call::Lock { vtl, list },
+            Change::Unlock { vtl, .. } => Call::Unlock { vtl, list },
             Change::Enable => Call::Enable,
         }
     }

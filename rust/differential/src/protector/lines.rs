@@ -17,6 +17,8 @@ use super::predict::layout_refusal;
 use super::predict::numbers;
 use crate::case::Entry;
 use crate::coverage::Coverage;
+use crate::layouts::is_across;
+use crate::layouts::on_both_sides;
 use crate::run::Difference;
 use crate::shrink::Simpler;
 use std::collections::BTreeMap;
@@ -84,6 +86,11 @@ impl Build {
         };
         let (tracked, release) = (self.tracked, self.release);
         format!("build iso={isolation} tracked={tracked} release={release} ram={ram}")
+    }
+
+    pub(super) fn words(&self) -> Vec<u64> {
+        let entries = self.ram.iter();
+        entries.flat_map(|e| [e.start, e.end, e.node]).collect()
     }
 
     /// Whether it has numbers that the original can't be handed.
@@ -169,6 +176,14 @@ struct Run<'a> {
     /// Whether the port went where the original can't go.
     apart: bool,
     coverage: &'a mut Coverage,
+}
+
+/// A call that has ended.
+struct Ended {
+    change: Option<Change>,
+    failures: Failures,
+    /// What the port gave for all of it, as the original writes it.
+    from_port: String,
 }
 
 /// Boxed: it is seldom.
@@ -427,35 +442,14 @@ impl Run<'_> {
     }
 
     fn await_build(&mut self, build: &Build, lent: &Lend) -> Awaited {
-        let ram: Vec<u64> = build
-            .ram
-            .iter()
-            .flat_map(|e| [e.start, e.end, e.node])
-            .collect();
-        let mut world = World {
-            state: vec![0; STATE],
-            pages: vec![0; PAGES],
-            tables: vec![0; TABLES],
-            ..World::default()
+        let Some(mut world) = buffers_for(build, lent) else {
+            return awaited_bad();
         };
-        if layout_refusal(&ram).is_none() {
-            let marks = (ram[ram.len() - 2] / 32_768) as usize;
-            let permissions = if build.tracked == 1 { marks } else { 0 };
-            for (i, map) in world.maps.iter_mut().enumerate() {
-                let len = if i < 2 { marks } else { permissions };
-                map.resize(len, 0);
-                // Where tracked is unfit no length of a permission map is right.
-                let right = i < 2 || build.tracked < 2;
-                if right && lent[i] == Some(len as u64) {
-                    return awaited_bad();
-                }
-            }
-        }
         if lent.iter().any(|len| len.is_some()) {
             world = lent_world(&world, lent);
         }
         let last = world.call(&Call::Build {
-            ram,
+            ram: build.words(),
             isolation: build.isolation,
             tracked: build.tracked,
             release: build.release,
@@ -518,31 +512,11 @@ impl Run<'_> {
         awaited: &Awaited,
         given: &str,
     ) -> Option<(String, String)> {
-        let answer = matches!(act.what, What::Done | What::Failed { .. });
-        let open = self.open.take().filter(|_| answer);
-        let none = Failures::new();
-        let (change, failures, from_port) = match (&act.what, &open) {
-            (_, Some(open)) => {
-                let (count, asked) = (open.asked.len(), open.asked.join("; "));
-                let from_port = format!("{} | ops={count} | {asked}", plain_result(given));
-                (Some(&open.change), &open.with(&act.what), from_port)
-            }
-            (What::Call { change, failures }, _) => (Some(change), failures, plain(given)),
-            (What::Start(change), _) => (Some(change), &none, plain(given)),
-            _ => (None, &none, plain(given)),
-        };
+        let ended = self.ended(act, given);
+        let change = ended.change.as_ref();
         let is_default = matches!(change, Some(Change::Default { .. }));
-        let number = awaited.last.number;
         if let Some(change) = change {
-            // Cuts differ, so no failure of a default change is scripted.
-            let halts = is_default && number == 20;
-            if halts || change.is_high() && matches!(number, 0 | 16) {
-                self.apart = true;
-                self.lives = false;
-                let name = change.name();
-                self.coverage
-                    .meet(format!("parted from the original by {name}"));
-            }
+            self.part_at(change, awaited.last.number);
         }
         let strange = match &act.what {
             What::Build(build) => build.is_strange(),
@@ -553,23 +527,58 @@ impl Run<'_> {
         }
         let line = match change {
             Some(change) if is_default => change.line(),
-            Some(change) => change.by_numbers().line_failing(failures),
+            Some(change) => change.by_numbers().line_failing(&ended.failures),
             None => act.line(),
         };
         let answer = without_more(&self.ask_original(&line));
-        if answer.starts_with("panic") {
-            self.lives = false;
-        }
+        self.lives &= !answer.starts_with("panic");
         self.coverage.with_original += 1;
         self.coverage.predicted_alone -= 1;
         self.coverage.operations += awaited.last.count;
         let from_port = match answer.contains("flags=?") {
-            true => without_flags(&from_port),
-            false => from_port,
+            true => without_flags(&ended.from_port),
+            false => ended.from_port,
         };
         match is_default {
             true => Some((by_pages(&from_port), by_pages(&answer))),
             false => Some((from_port, answer)),
+        }
+    }
+
+    /// The call that an act ended, and what the port gave for all of it.
+    fn ended(&mut self, act: &Act, given: &str) -> Ended {
+        let answer = matches!(act.what, What::Done | What::Failed { .. });
+        let open = self.open.take().filter(|_| answer);
+        if let Some(open) = open {
+            let (count, asked) = (open.asked.len(), open.asked.join("; "));
+            return Ended {
+                failures: open.with(&act.what),
+                change: Some(open.change),
+                from_port: format!("{} | ops={count} | {asked}", plain_result(given)),
+            };
+        }
+        let (change, failures) = match &act.what {
+            What::Call { change, failures } => (Some(change.clone()), failures.clone()),
+            What::Start(change) => (Some(change.clone()), Failures::new()),
+            _ => (None, Failures::new()),
+        };
+        Ended {
+            change,
+            failures,
+            from_port: plain(given),
+        }
+    }
+
+    /// Where the port goes and the original can't: a failed default change, whose cuts differ, so
+    /// that no failure of it is scripted, and pages that the original takes for others.
+    fn part_at(&mut self, change: &Change, number: u64) {
+        let halts = matches!(change, Change::Default { .. }) && number == 20;
+        if halts || change.is_high() && matches!(number, 0 | 16) {
+            self.apart = true;
+            self.lives = false;
+            let name = change.name();
+            let what = format!("parted from the original by {name}");
+            self.coverage.meet(what);
         }
     }
 
@@ -629,8 +638,12 @@ impl Run<'_> {
         let given = counted(awaited, isolation);
         self.coverage.meet(format!("{label}{stepped}: {given}"));
         self.coverage.predicted_alone += 1;
-        if let What::Call { change, .. } | What::Start(change) = &act.what {
-            self.coverage.meet_sizes(change);
+        match &act.what {
+            What::Call { change, .. } | What::Start(change) => self.coverage.meet_sizes(change),
+            What::Build(build) if awaited.kind == Kind::Ended && is_across(&build.ram) => {
+                self.coverage.meet("build: RAM across 128 MiB".to_string());
+            }
+            _ => (),
         }
     }
 
@@ -687,9 +700,12 @@ impl Coverage {
             (number, _) => format!("number {number}"),
         };
         self.meet(format!("{name}: {kind}"));
-        if let Query::Overlay { gpn, .. } | Query::Lower { gpn, .. } | Query::Access { gpn } = query
-        {
-            self.meet_page(name, *gpn);
+        match query {
+            Query::Overlay { gpn, .. } | Query::Lower { gpn, .. } | Query::Access { gpn } => {
+                self.meet_page(name, *gpn);
+            }
+            Query::Visibility { list, .. } => self.meet_edge(name, &numbers(list)),
+            _ => (),
         }
     }
 
@@ -703,12 +719,20 @@ impl Coverage {
             };
             let name = label(change);
             self.meet(format!("{name}: a list of {size} pages"));
-            if let Some(&highest) = numbers(&list.bytes()).iter().max() {
+            let pages = numbers(&list.bytes());
+            if let Some(&highest) = pages.iter().max() {
                 self.meet_page(name, highest);
             }
+            self.meet_edge(name, &pages);
         }
         if let Change::Register { gpn, .. } | Change::Unregister { gpn, .. } = change {
             self.meet_page(change.name(), *gpn);
+        }
+    }
+
+    fn meet_edge(&mut self, call: &str, pages: &[u64]) {
+        if on_both_sides(pages) {
+            self.meet(format!("{call}: pages on both sides of 128 MiB"));
         }
     }
 
@@ -836,6 +860,32 @@ impl Open {
         }
         failures
     }
+}
+
+/// What a build has of its own; none if a buffer lent in its place has just the right length.
+fn buffers_for(build: &Build, lent: &Lend) -> Option<World> {
+    let ram = build.words();
+    let mut world = World {
+        state: vec![0; STATE],
+        pages: vec![0; PAGES],
+        tables: vec![0; TABLES],
+        ..World::default()
+    };
+    if layout_refusal(&ram).is_some() {
+        return Some(world);
+    }
+    let marks = (ram[ram.len() - 2] / 32_768) as usize;
+    let permissions = if build.tracked == 1 { marks } else { 0 };
+    for (i, map) in world.maps.iter_mut().enumerate() {
+        let len = if i < 2 { marks } else { permissions };
+        map.resize(len, 0);
+        // Where tracked is unfit no length of a permission map is right.
+        let right = i < 2 || build.tracked < 2;
+        if right && lent[i] == Some(len as u64) {
+            return None;
+        }
+    }
+    Some(world)
 }
 
 fn awaited_bad() -> Awaited {

@@ -14,14 +14,7 @@ pub fn line(call: &Call) -> String {
         ),
         file::PROTECTIONS => format!("change_vtl_protections {a} {b} {list}"),
         file::DEFAULT => format!("change_default_vtl_protections {a} {b}"),
-        file::REGISTER_OVERLAY => {
-            let source = ["guest", "dma"][c as usize];
-            let new = match e {
-                16 => ".".to_string(),
-                flags => flags.to_string(),
-            };
-            format!("register_overlay_page {a} {b} {source} {d} {new}")
-        }
+        file::REGISTER_OVERLAY => register_overlay(call),
         file::UNREGISTER_OVERLAY => format!("unregister_overlay_page {a} {b}"),
         file::LOCK => format!("lock_gpns {a} {list}"),
         file::UNLOCK => format!("unlock_gpns {a} {list}"),
@@ -43,6 +36,16 @@ pub fn line(call: &Call) -> String {
         [0, ..] => text,
         [place, code, processed] => format!("{text} fail={place}:{code}:{processed}"),
     }
+}
+
+fn register_overlay(call: &Call) -> String {
+    let [vtl, gpn, source, checked, new] = call.arguments;
+    let source = ["guest", "dma"][source as usize];
+    let new = match new {
+        16 => ".".to_string(),
+        flags => flags.to_string(),
+    };
+    format!("register_overlay_page {vtl} {gpn} {source} {checked} {new}")
 }
 
 fn build(call: &Call) -> String {

@@ -6,6 +6,7 @@ use super::*;
 #[derive(Debug, Clone, Copy, PartialEq, Eq, Hash)]
 #[repr(u8)]
 pub enum GpnSource {
+    /// The guest's RAM.
     GuestMemory = 0,
     /// Device memory: no page of it is RAM, and no permission map has it.
     Dma = 1,
@@ -14,7 +15,9 @@ pub enum GpnSource {
 /// An overlay page to register.
 #[derive(Debug, Clone, Copy, PartialEq, Eq, Hash)]
 pub struct Overlay {
+    /// Its number.
     pub gpn: u64,
+    /// Where its memory is.
     pub source: GpnSource,
     /// What the VTL must be permitted now; of a Dma page not looked at.
     pub checked: Flags,

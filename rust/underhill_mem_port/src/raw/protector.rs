@@ -17,7 +17,9 @@ pub struct Reply {
     pub operation: u64,
     /// Of Flush and TlbWait, and of Protect, with `flags` and, on SNP, the RMPADJUST `operand`.
     pub vtl: u64,
+    /// Of Protect: its flags.
     pub flags: u64,
+    /// Of Protect on SNP; 0 elsewhere.
     pub operand: u64,
     /// The first page of the operation's run,
     pub first: u64,
@@ -39,15 +41,25 @@ pub struct Value {
 
 /// The numbers of operations.
 pub mod operation {
+    /// No thread accesses guest memory by what the maps said before.
     pub const WAIT: u64 = 1;
+    /// The whole TLB is flushed.
     pub const FLUSH_ALL: u64 = 2;
+    /// Permissions of a VTL in hardware.
     pub const PROTECT: u64 = 3;
+    /// Pages are unaccepted, on SNP.
     pub const INVALIDATE: u64 = 4;
+    /// Pages are released, on TDX.
     pub const RELEASE: u64 = 5;
+    /// The hypervisor changes the visibility of pages.
     pub const MODIFY: u64 = 6;
+    /// Pages that came back are accepted.
     pub const ACCEPT: u64 = 7;
+    /// Pages that came back are zeroed, on SNP.
     pub const ZERO: u64 = 8;
+    /// A VTL's TLB is flushed.
     pub const FLUSH: u64 = 9;
+    /// No processor holds a TLB lock of a VTL.
     pub const TLB_WAIT: u64 = 10;
 }
 
@@ -60,6 +72,7 @@ pub const TABLES_WORDS: usize = 3460;
 
 /// Places in the state block.
 pub mod place {
+    /// SNP 2, TDX 3, CCA 4.
     pub const ISOLATION: usize = 16;
     /// 1 if permissions are tracked.
     pub const TRACKED: usize = 17;
@@ -83,11 +96,17 @@ pub mod table {
 /// The bitmaps: page p is bit p % 8 of byte p / 8. The last four are empty if untracked.
 #[derive(Debug)]
 pub struct Maps<'a> {
+    /// The marks of private pages.
     pub private: &'a mut [u8],
+    /// The marks of shared pages.
     pub shared: &'a mut [u8],
+    /// What VTL0 may read,
     pub read: &'a mut [u8],
+    /// write,
     pub write: &'a mut [u8],
+    /// execute in kernel mode
     pub kernel: &'a mut [u8],
+    /// and execute in user mode.
     pub user: &'a mut [u8],
 }
 
@@ -289,12 +308,19 @@ pub fn answer_failed(lent: Lent<'_>, code: u16, processed: u64) -> Reply {
 /// What a query that writes nothing is lent.
 #[derive(Debug, Clone, Copy)]
 pub struct Seen<'a> {
+    /// The marks of private pages.
     pub private: &'a [u8],
+    /// The marks of shared pages.
     pub shared: &'a [u8],
+    /// What VTL0 may read,
     pub read: &'a [u8],
+    /// write,
     pub write: &'a [u8],
+    /// execute in kernel mode
     pub kernel: &'a [u8],
+    /// and execute in user mode.
     pub user: &'a [u8],
+    /// [`STATE_WORDS`] words.
     pub state: &'a [u64],
 }
 

@@ -10,18 +10,27 @@ pub struct Reply {
     pub asked: u64,
     /// Of a finished call, how many operations it asked for.
     pub count: u64,
+    /// Where the range that is asked for starts, the offset added,
     pub start: u64,
+    /// and where it ends.
     pub end: u64,
     /// Of 23.
     pub address: u64,
-    /// Of 22, with what follows.
+    /// Of 22, with what follows: the span,
     pub span_start: u64,
+    /// its end,
     pub span_end: u64,
+    /// what of it isn't aligned,
     pub edge_start: u64,
+    /// its end,
     pub edge_end: u64,
+    /// the node of the first entry that has a byte of the edge,
     pub vnode: u64,
+    /// that entry,
     pub node_start: u64,
+    /// its end,
     pub node_end: u64,
+    /// and the alignment asked for.
     pub alignment: u64,
 }
 
@@ -150,12 +159,13 @@ pub fn build(ram: &[u64], offset: u64, granularity: u64, lent: Lent<'_>) -> Repl
     )
 }
 
+/// Registers the chunks that a range of bytes touches.
 #[inline]
 pub fn register(lent: Lent<'_>, address: u64, len: u64) -> Reply {
     call!(registrar_register, [], lent, [address, len])
 }
 
-/// `ignore_unaligned_ranges` is 0 or 1.
+/// Registers the aligned part of every span; `ignore_unaligned_ranges` is 0 or 1.
 #[inline]
 pub fn register_all_aligned(lent: Lent<'_>, alignment: u64, ignore_unaligned_ranges: u64) -> Reply {
     call!(
