@@ -76,9 +76,6 @@ pub fn run(acts: &[Act], coverage: &mut Coverage) -> Option<Difference> {
     for (place, act) in acts.iter().enumerate() {
         act.apply(&mut world);
         let Act::Call(call) = act else { continue };
-        if world.walks_far(call) {
-            continue;
-        }
         let mut predicted = world.clone();
         let awaited = predicted.call(call);
         count(call, &world, &predicted, &awaited, coverage);

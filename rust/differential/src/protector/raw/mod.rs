@@ -109,9 +109,7 @@ pub fn run(acts: &[Act], coverage: &mut Coverage) -> Option<Difference> {
         act.apply(&mut world);
         odd.note(act);
         let (port, predicted) = match act {
-            Act::Call(call) if !world.walks_far(call) => {
-                run_call(&mut world, call, &odd, coverage)?
-            }
+            Act::Call(call) => run_call(&mut world, call, &odd, coverage)?,
             Act::Query(query) => run_query(&world, query, &odd, coverage)?,
             _ => return None,
         };
