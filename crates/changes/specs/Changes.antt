@@ -2,7 +2,7 @@
 -- locks"; 16, 20 and 21 of "From the state").
 use Prim.Native.Nat.{ℕ, _+_, _%_, _^_}
 use mathlib.Core.List.{List}
-use mathlib.Core.Bool.{Bool, cond, _&&_}
+use mathlib.Core.Bool.{Bool, true, false, cond, _&&_}
 use lib.Dec.{eqb, ltb}
 use Rattle.permissions.specs.declared.GuestVtl.{GuestVtl}
 use Rattle.permissions.specs.declared.GuestVtl.the-variants.{Vtl0}
@@ -88,6 +88,51 @@ doneOf tracked at.ProtectOld q t next = wait q Remove
 doneOf tracked at.Wait q t next = ask at.Flush q (Flush (q .flush)) Keep
 doneOf tracked at.Flush q t next = ask at.TlbWait q (TlbWait (q .vtl)) Keep
 doneOf tracked at.TlbWait q t next = finish (Done (q .count))
+
+-- Wait, Flush and TlbWait: they follow each other, then the call ends; no map and no entry is written (law `flush-done`)
+abbrev pub isFlushing : Stage → Bool
+isFlushing at.Idle = false
+isFlushing at.Halted = false
+isFlushing at.ProtectPages = false
+isFlushing at.ProtectRam = false
+isFlushing at.ProtectNew = false
+isFlushing at.ProtectOld = false
+isFlushing at.Wait = true
+isFlushing at.Flush = true
+isFlushing at.TlbWait = true
+
+abbrev pub flushStage : Stage → Stage
+flushStage at.Idle = at.Idle
+flushStage at.Halted = at.Idle
+flushStage at.ProtectPages = at.Idle
+flushStage at.ProtectRam = at.Idle
+flushStage at.ProtectNew = at.Idle
+flushStage at.ProtectOld = at.Idle
+flushStage at.Wait = at.Flush
+flushStage at.Flush = at.TlbWait
+flushStage at.TlbWait = at.Idle
+
+abbrev pub flushChange : Stage → Change → Change
+flushChange at.Idle q = noChange
+flushChange at.Halted q = noChange
+flushChange at.ProtectPages q = noChange
+flushChange at.ProtectRam q = noChange
+flushChange at.ProtectNew q = noChange
+flushChange at.ProtectOld q = noChange
+flushChange at.Wait q = noChange
+flushChange at.Flush q = counted q (q .at)
+flushChange at.TlbWait q = counted q (q .at)
+
+abbrev pub flushAnswer : Stage → Change → Answer
+flushAnswer at.Idle q = Done (q .count)
+flushAnswer at.Halted q = Done (q .count)
+flushAnswer at.ProtectPages q = Done (q .count)
+flushAnswer at.ProtectRam q = Done (q .count)
+flushAnswer at.ProtectNew q = Done (q .count)
+flushAnswer at.ProtectOld q = Done (q .count)
+flushAnswer at.Wait q = Done (q .count)
+flushAnswer at.Flush q = Ask (Flush (q .flush))
+flushAnswer at.TlbWait q = Ask (TlbWait (q .vtl))
 
 abbrev pub operationDenied : ℕ
 operationDenied = 8

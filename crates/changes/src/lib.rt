@@ -6,7 +6,7 @@ ghost use lib.Dec.{eqb};
 ghost use Prim.Native.Nat.{_+_, _<_, _^_};
 ghost use Rattle.acceptor.specs.declared.Answer.the-variants.{Failed};
 ghost use Rattle.acceptor.specs.Steps.{isVtl0};
-ghost use Rattle.changes.specs.Changes.{noRun, noChange, writtenBy, counted, protect, ask, wait, finish, halt, keep, protectPages, protectRam, operationDenied, doneOf, failedOf, changeOf, overlayOf, startPages, startRam, startNew, startOld};
+ghost use Rattle.changes.specs.Changes.{noRun, noChange, writtenBy, counted, protect, ask, wait, finish, halt, keep, protectPages, protectRam, isFlushing, flushStage, flushChange, operationDenied, doneOf, failedOf, changeOf, overlayOf, startPages, startRam, startNew, startOld};
 use acceptor::Answer;
 use acceptor::Operation;
 use pages::PageRun;
@@ -251,6 +251,57 @@ pub fn done(tracked: bool, stage: Stage, q: Change, t: &[u64], next: PageRun) ->
         Stage::Wait => ask(Stage::Flush, q, Operation::Flush(flush), Entry::Keep),
         Stage::Flush => ask(Stage::TlbWait, q, Operation::TlbWait(vtl), Entry::Keep),
         Stage::TlbWait => finish(Answer::Done(q.count)),
+    }
+}
+
+// Whether Wait, Flush or TlbWait is outstanding, which write nothing.
+pub fn is_flushing(stage: Stage) -> bool
+    ensures { λ r. ⌜ r ≡ isFlushing stage ⌝ }
+{
+    match stage {
+        Stage::Idle => false,
+        Stage::Halted => false,
+        Stage::ProtectPages => false,
+        Stage::ProtectRam => false,
+        Stage::ProtectNew => false,
+        Stage::ProtectOld => false,
+        Stage::Wait => true,
+        Stage::Flush => true,
+        Stage::TlbWait => true,
+    }
+}
+
+// The one of them that follows: Idle behind the last.
+pub fn flush_stage(stage: Stage) -> Stage
+    ensures { λ r. ⌜ r ≡ flushStage stage ⌝ }
+{
+    match stage {
+        Stage::Idle => Stage::Idle,
+        Stage::Halted => Stage::Idle,
+        Stage::ProtectPages => Stage::Idle,
+        Stage::ProtectRam => Stage::Idle,
+        Stage::ProtectNew => Stage::Idle,
+        Stage::ProtectOld => Stage::Idle,
+        Stage::Wait => Stage::Flush,
+        Stage::Flush => Stage::TlbWait,
+        Stage::TlbWait => Stage::Idle,
+    }
+}
+
+// The change that is left at the stage that follows.
+pub fn flush_change(stage: Stage, q: Change) -> Change
+    ensures { λ r. ⌜ r ≡ flushChange stage q ⌝ }
+{
+    match stage {
+        Stage::Idle => no_change(),
+        Stage::Halted => no_change(),
+        Stage::ProtectPages => no_change(),
+        Stage::ProtectRam => no_change(),
+        Stage::ProtectNew => no_change(),
+        Stage::ProtectOld => no_change(),
+        Stage::Wait => no_change(),
+        Stage::Flush => counted(q, q.at),
+        Stage::TlbWait => counted(q, q.at),
     }
 }
 

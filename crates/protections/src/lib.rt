@@ -10,7 +10,9 @@ ghost use Rattle.mapping.specs.Maps.{perms};
 ghost use Rattle.overlays.specs.Overlays.{entry, addWords};
 ghost use Rattle.protector_state.specs.State.{stateLen, settingsOf};
 ghost use Rattle.protector_state.specs.Reply.{flatOf};
-ghost use Rattle.change_state.specs.State.{withChange};
+ghost use Rattle.changes.specs.Changes.{flushStage, flushChange};
+ghost use Rattle.change_state.specs.State.{stageIn, changeIn, withChange};
+ghost use Rattle.protections.specs.Flush.{flushReply};
 ghost use Rattle.protector.specs.World.{tablesLen, overlaysOf, withOverlays, permittedRun, withoutPage, entered};
 ghost use Rattle.protector.specs.Calls.{pieceAfter, nextIn, afterDone, afterFailed};
 use changes::Change;
@@ -195,6 +197,37 @@ fn after_failed(state: &[u64]) -> ChangeStep
     changes::failed(stage, q)
 }
 
+// What crosses for the stage that follows Wait, Flush or TlbWait.
+fn flush_reply(stage: Stage, q: Change) -> Reply
+    ensures { λ r. ⌜ r ≡ flushReply stage q ⌝ }
+{
+    let vtl = q.vtl;
+    let flush = q.flush;
+    match stage {
+        Stage::Idle => protector_state::finished(0, 0, 0, q.count),
+        Stage::Halted => protector_state::finished(0, 0, 0, q.count),
+        Stage::ProtectPages => protector_state::finished(0, 0, 0, q.count),
+        Stage::ProtectRam => protector_state::finished(0, 0, 0, q.count),
+        Stage::ProtectNew => protector_state::finished(0, 0, 0, q.count),
+        Stage::ProtectOld => protector_state::finished(0, 0, 0, q.count),
+        Stage::Wait => protector_state::finished(0, 0, 0, q.count),
+        Stage::Flush => protector_state::on_vtl(9, flush),
+        Stage::TlbWait => protector_state::on_vtl(10, vtl),
+    }
+}
+
+// Wait, Flush or TlbWait is done: no map and no entry is written.
+fn flush_done(state: &mut [u64]) -> Reply
+    requires { ⌜ length (now state) ≡ stateLen ⌝ }
+    ensures { λ _. ⌜ now (state .exit) ≡ withChange (flushStage (stageIn (now (state .entry)))) (flushChange (flushStage (stageIn (now (state .entry)))) (changeIn (now (state .entry)))) (now (state .entry)) ⌝ }
+    ensures { λ r. ⌜ r ≡ flushReply (flushStage (stageIn (now (state .entry)))) (changeIn (now (state .entry))) ⌝ }
+{
+    let q = change_state::load(state);
+    let next = changes::flush_stage(change_state::stage(state));
+    change_state::save(state, next, changes::flush_change(next, q));
+    flush_reply(next, q)
+}
+
 // The operation asked for is done.
 pub fn answer_done(
     private: &[u8],
@@ -212,6 +245,9 @@ pub fn answer_done(
     ensures { λ _. ⌜ now (tables .exit) ≡ entered (afterDone (now (private .entry)) (now (state .entry)) (now (pages .entry)) (now (tables .entry)) .entry) (afterDone (now (private .entry)) (now (state .entry)) (now (pages .entry)) (now (tables .entry)) .change) (now (tables .entry)) ⌝ }
     ensures { λ r. ⌜ r ≡ flatOf (settingsOf (now (state .entry)) .isolation) (afterDone (now (private .entry)) (now (state .entry)) (now (pages .entry)) (now (tables .entry)) .answer) ⌝ }
 {
+    if changes::is_flushing(change_state::stage(state)) {
+        return flush_done(state);
+    }
     let set = protector_state::settings(state);
     let isolation = set.isolation;
     let x = after_done(private, state, pages, tables);

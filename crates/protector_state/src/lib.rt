@@ -82,7 +82,7 @@ pub fn plain(operation: u64) -> Reply
     }
 }
 
-fn on_vtl(operation: u64, vtl: GuestVtl) -> Reply
+pub fn on_vtl(operation: u64, vtl: GuestVtl) -> Reply
     ensures { λ r. ⌜ r ≡ onVtl operation vtl ⌝ }
 {
     Reply {

@@ -1,0 +1,17 @@
+-- What crosses for Flush, TlbWait and the end that follows them: `flushAnswer` of `changes`, whatever the isolation.
+use Rattle.changes.specs.declared.Stage.{Stage}
+use Rattle.changes.specs.declared.Stage.the-variants as at
+use Rattle.changes.specs.declared.Change.{Change}
+use Rattle.protector_state.specs.declared.Reply.{Reply}
+use Rattle.protector_state.specs.Reply.{finished, onVtl}
+
+abbrev pub flushReply : Stage → Change → Reply
+flushReply at.Idle q = finished 0 0 0 (q .count)
+flushReply at.Halted q = finished 0 0 0 (q .count)
+flushReply at.ProtectPages q = finished 0 0 0 (q .count)
+flushReply at.ProtectRam q = finished 0 0 0 (q .count)
+flushReply at.ProtectNew q = finished 0 0 0 (q .count)
+flushReply at.ProtectOld q = finished 0 0 0 (q .count)
+flushReply at.Wait q = finished 0 0 0 (q .count)
+flushReply at.Flush q = onVtl 9 (q .flush)
+flushReply at.TlbWait q = onVtl 10 (q .vtl)
