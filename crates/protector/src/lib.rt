@@ -1,4 +1,4 @@
-// The protector's tests of a call, and the one function that writes marks.
+// The protector's tests of a call, and what a visibility change writes at each step.
 ghost use mathlib.Core.Path.{_≡_};
 ghost use mathlib.Core.Bool.{true, _&&_};
 ghost use Prim.Native.Nat.{_≤_};
