@@ -352,6 +352,8 @@ fn keeps(phase: Phase) -> Next
     }
 }
 
+// From here on the table is what the contracts speak of; only the end of a run is read from it.
+
 // Sharing, from the run at a place on.
 fn share_run(set: Settings, q: Request, t: &[u64], at: u64) -> Next
     ensures { λ r. ⌜ nextStep set q (now (t .entry)) r ≡ shareRun set q (now (t .entry)) at ⌝ }

@@ -225,3 +225,18 @@ module _ (P : ℕ → Bool) (ps : List ℕ) (i k p : ℕ) (b : Bool) (h : i < le
           rw (u, f) (ap (set (set (tableOf P (take i ps) t₀) (length (pick P (take i ps))) p) (512 + length (pick P (take i ps)))) (sym was)
           ∙ stored P (take i ps) t₀ p n (omega (arith, was)) (sym d))
       go false d = u ∙ skipped P (take i ps) t₀ p (sym d)
+
+-- ---- all pages of a list
+pick-each : (ps : List ℕ) → pick (λ p. true) ps ≡ ps
+unfolding pick
+pick-each [] = refl
+pick-each (p ∷ ps) = ap (λ (qs : List ℕ). p ∷ qs) (pick-each ps)
+
+pub all-more : (ps : List ℕ) (i p : ℕ) (t t₀ t′ : List ℕ) → i < length ps → p ≡ getD ps i 0 → length t₀ ≡ 1024 → i < 512 → t ≡ tableOf (λ p. true) (take i ps) t₀
+    → t′ ≡ set (set t i p) (512 + i) i → t′ ≡ tableOf (λ p. true) (take (i + 1) ps) t₀
+all-more ps i p t t₀ t′ h e n s u g =
+    let k : i ≡ length (pick (λ p. true) (take i ps)) = sym (ap (length {A = ℕ}) (pick-each (take i ps)) ∙ length-take i ps ∙ omega arith) in
+    table-more (λ p. true) ps i i p true h e refl k t t₀ t′ n s u g
+
+pub all-long : (ps t : List ℕ) (i : ℕ) → length t ≡ 1024 → length ps ≤ 512 → length (tableOf (λ p. true) (take i ps) t) ≡ 1024
+all-long ps t i n h = length-table (λ p. true) (take i ps) t n (omega (arith, length-take i ps))

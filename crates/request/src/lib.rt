@@ -1,7 +1,7 @@
 // The pages of the request under way, in a table of 1,024 words: pages in the first 512, then their places in the list
 // as sent.
 ghost use mathlib.Core.Path.{_≡_};
-ghost use mathlib.Core.Bool.{cond, _&&_};
+ghost use mathlib.Core.Bool.{true, cond, _&&_};
 ghost use Prim.Native.Nat.{_+_, _<_, _≤_};
 ghost use lib.ListN.{length, getD, set, take};
 ghost use Rattle.laws.specs.Ranges.{between};
@@ -75,6 +75,20 @@ pub fn store(t: &mut [u64], shared: &[u8], share: bool, list: &[u8], stop: u64) 
         i += 1;
     }
     k
+}
+
+// All pages of a list, with their places.
+pub fn store_all(t: &mut [u64], list: &[u8])
+    requires { ⌜ (length (now t) ≡ 1024) × (length (now list) ≤ 4096) ⌝ }
+    ensures { λ _. ⌜ now (t .exit) ≡ tableOf (λ p. true) (pagesOf (now (list .entry))) (now (t .entry)) ⌝ }
+{
+    let n = pages::page_count(list);
+    let mut i: u64 = 0;
+    while i < n {
+        let p = pages::page_at(list, i);
+        let _ = store_one(t, i, p, i, true);
+        i += 1;
+    }
 }
 
 // The place in the list as sent of the page at place i of the table.

@@ -7,20 +7,18 @@ use Prim.Native.Nat.{ℕ, zero, suc, _+_, _≤_, _<_, _^_}
 use lib.Dec.{eqb, ltb}
 use native.Mathlib.Numerals.{add-one}
 use lib.ListN.{length, getD, take, drop, length-set, drop-of-length-le}
-use lib.Seq.{drop-cons, take-all}
+use lib.Seq.{drop-cons}
 use borrow.Author.Tests.{eqb-true, ltb-false}
-use Rattle.laws.specs.Bools.{false≢true, or-false}
+use Rattle.laws.specs.Bools.{false≢true}
 use Rattle.laws.specs.Refusal.{unless, passed, refused, answered}
-use Rattle.bitmap.specs.Pages.{bitAt}
 use Rattle.layout.specs.Layout.{entriesOf}
 use Rattle.permissions.specs.declared.GuestVtl.{GuestVtl}
 use Rattle.permissions.specs.declared.GuestVtl.the-variants.{Vtl0, Vtl1}
-use Rattle.permissions.specs.Flags.{fitVtl, vtlOf, vtlNumber, fitFlags, flagsOf}
+use Rattle.permissions.specs.Flags.{vtlNumber, flagsOf}
 use Rattle.permissions.specs.HvError.{codeOf}
 use Rattle.pages.specs.declared.PageRun.{PageRun}
-use Rattle.pages.specs.Pages.{pagesOf, isLong, isRagged}
+use Rattle.pages.specs.Pages.{pagesOf, isLong}
 use Rattle.pages.specs.Runs.{run, part, neighbours, runAt}
-use Rattle.request.specs.Request.{pick, pickPlaces, over, tableOf, wanted}
 use Rattle.mapping.specs.Maps.{Permissions}
 use Rattle.defaults.specs.Pieces.{nextPiece}
 use Rattle.defaults.specs.Barred as barring
@@ -39,7 +37,7 @@ use Rattle.change_state.specs.State.{withChange}
 use Rattle.protector.proofs.Laws as lengths
 use Rattle.protector.specs.World.{World, Outcome, world, outcome, pagesLen, tablesLen, fits, statusIn, overlaysOf, locksOf, permittedRun, entered}
 use Rattle.protector.specs.Calls.{decided, refusedBy, withPermissions, carriedChange}
-use Rattle.vtl_protections.specs.Calls.{defaultRefusal, storedDefault, stored, barred, renewedTables, renewedIn, firstPiece, defaultStep, defaultStarted, defaultTaken, anyShared, eachRefusal, protectionRefusal, allListed, protectionStep, protectionTaken}
+use Rattle.vtl_protections.specs.Calls.{defaultRefusal, storedDefault, stored, barred, renewedTables, renewedIn, firstPiece, defaultStep, defaultStarted, defaultTaken, protectionRefusal, allListed, protectionStep, protectionTaken}
 
 pub vtl-le : (v : GuestVtl) → vtlNumber v ≤ 1
 vtl-le Vtl0 = omega arith
@@ -231,35 +229,6 @@ module _ (tracked : Bool) (v : GuestVtl) (flags n : ℕ) (t : List ℕ) where
       go true = refl
       go false = refl
 
--- ---- where no page is shared, all are stored
-
-module _ (shared : List ℕ) where
-  picks-all : (ps : List ℕ) → anyShared shared ps ≡ false → pick (wanted shared true) ps ≡ ps
-  unfolding pick barring.anyOf
-  picks-all [] h = refl
-  picks-all (p ∷ ps) h =
-      let d = or-false (bitAt 8 shared p) (anyShared shared ps) h in
-      ap (λ (b : Bool). cond (cond b false true) (p ∷ pick (wanted shared true) ps) (pick (wanted shared true) ps)) (d .0)
-      ∙ ap (λ (qs : List ℕ). p ∷ qs) (picks-all ps (d .1))
-
-  places-all : (ps : List ℕ) (i : ℕ) → anyShared shared ps ≡ false → pickPlaces (wanted shared true) i ps ≡ pickPlaces (λ p. true) i ps
-  unfolding pickPlaces barring.anyOf
-  places-all [] i h = refl
-  places-all (p ∷ ps) i h =
-      let d = or-false (bitAt 8 shared p) (anyShared shared ps) h in
-      ap (λ (b : Bool). cond (cond b false true) (i ∷ pickPlaces (wanted shared true) (suc i) ps) (pickPlaces (wanted shared true) (suc i) ps)) (d .0)
-      ∙ ap (λ (qs : List ℕ). i ∷ qs) (places-all ps (suc i) (d .1))
-
-picks-each : (ps : List ℕ) → pick (λ p. true) ps ≡ ps
-unfolding pick
-picks-each [] = refl
-picks-each (p ∷ ps) = ap (λ (qs : List ℕ). p ∷ qs) (picks-each ps)
-
-stores-all : (shared ps t : List ℕ) → anyShared shared ps ≡ false → tableOf (wanted shared true) ps t ≡ tableOf (λ p. true) ps t
-unfolding tableOf
-stores-all shared ps t h =
-    ap₂ (λ (a b : List ℕ). over a (take 512 t) ++ over b (drop 512 t)) (picks-all shared ps h ∙ sym (picks-each ps)) (places-all shared ps 0 h)
-
 -- ---- a protection change that isn't refused
 
 off : (b : Bool) → not b ≡ true → b ≡ false
@@ -270,36 +239,26 @@ long-le : (l : List ℕ) → not (isLong l) ≡ true → length l ≤ 4096
 long-le l h = ltb-false 4096 (length l) (off (isLong l) h)
 
 module _ (w : World) (vtl flags : ℕ) (l : List ℕ) (n : ℕ) (e : n ≡ protectionRefusal (w .state) (fits w) (w .maps .shared) (w .tables) vtl flags l) (z : n ≡ 0) where
-  pub protection-passed : (length (w .state) ≡ stateLen) × (fits w ≡ true) × (length l ≤ 4096) × (anyShared (w .maps .shared) (pagesOf l) ≡ false)
+  pub protection-passed : (length (w .state) ≡ stateLen) × (fits w ≡ true) × (length l ≤ 4096)
   unfolding protectionRefusal
   protection-passed =
       let a = passed (eqb (length (w .state)) stateLen) 3 _ (sym e ∙ z) in
       let b = passed (fits w) 3 _ (not-busy (statusIn (w .state)) _ (a .1)) in
       let d = passed (not (isLong l)) 4 _ (b .1) in
-      let f = passed (fitVtl vtl) 7 _ (d .1) in
-      let g = passed (fitFlags flags) 7 _ (f .1) in
-      let h = passed (not (isRagged l)) 7 _ (g .1) in
-      let k = passed (not (anyShared (w .maps .shared) (pagesOf l))) 11 0 (not-busy (eachRefusal (w .state) (w .tables) (vtlOf vtl) l) _ (h .1)) in
-      (eqb-true (length (w .state)) stateLen (a .0), b .0, long-le l (d .0), off (anyShared (w .maps .shared) (pagesOf l)) (k .0))
+      (eqb-true (length (w .state)) stateLen (a .0), b .0, long-le l (d .0))
 
   pub table-fits : length (w .pages) ≡ pagesLen
   table-fits =
       lengths.pages-fit (w .state) (length (w .maps .private)) (length (w .maps .shared)) (length (w .maps .permissions .read)) (length (w .maps .permissions .write))
       (length (w .maps .permissions .kernel)) (length (w .maps .permissions .user)) (length (w .pages)) (length (w .tables)) (protection-passed .1)
 
-pub protection-made : (w : World) (v x : GuestVtl) (flags : ℕ) (l : List ℕ) (pc count : ℕ) (table : List ℕ) (y : ChangeStep) (p : Permissions) (s : List ℕ) (r : Reply)
-    → anyShared (w .maps .shared) (pagesOf l) ≡ false → v ≡ x → pc ≡ length (pagesOf l) → count ≡ length (pick (wanted (w .maps .shared) true) (take pc (pagesOf l)))
-    → table ≡ tableOf (wanted (w .maps .shared) true) (take pc (pagesOf l)) (w .pages) → y ≡ protectionStep (w .state) table v flags count
+pub protection-made : (w : World) (v x : GuestVtl) (flags : ℕ) (l : List ℕ) (count : ℕ) (table : List ℕ) (y : ChangeStep) (p : Permissions) (s : List ℕ) (r : Reply)
+    → v ≡ x → count ≡ length (pagesOf l) → table ≡ allListed l (w .pages) → y ≡ protectionStep (w .state) table v flags count
     → p ≡ permittedRun (y .written) (flagsOf (y .change .flags)) (w .maps .permissions) → s ≡ withChange (y .stage) (y .change) (w .state)
     → r ≡ flatOf (settingsOf (w .state) .isolation) (y .answer)
     → outcome (record { private = w .maps .private; shared = w .maps .shared; permissions = p }) s table (w .tables) r ≡ protectionTaken w x flags l
 unfolding protectionTaken
-protection-made w v x flags l pc count table y p s r h d e1 e2 e3 e4 a b c =
-    let ps : List ℕ = pagesOf l in
-    let m : List ℕ = w .maps .shared in
-    let k : take pc ps ≡ ps = take-all pc ps (omega (arith, e1)) in
-    let n : count ≡ length ps = e2 ∙ ap (λ (qs : List ℕ). length (pick (wanted m true) qs)) k ∙ ap (length {A = ℕ}) (picks-all m ps h) in
-    let t : table ≡ allListed l (w .pages) = e3 ∙ ap (λ (qs : List ℕ). tableOf (wanted m true) qs (w .pages)) k ∙ stores-all m ps (w .pages) h in
-    carried-change w table y (protectionStep (w .state) table v flags count) p s r e4 (pages-keep (settingsOf (w .state) .tracked) v flags count table) a b c
+protection-made w v x flags l count table y p s r d n t e a b c =
+    carried-change w table y (protectionStep (w .state) table v flags count) p s r e (pages-keep (settingsOf (w .state) .tracked) v flags count table) a b c
     ∙ ap₂ (λ (u : List ℕ) (j : ℕ). carriedChange w u (protectionStep (w .state) u v flags j)) t n
-    ∙ ap (λ (q : GuestVtl). carriedChange w (allListed l (w .pages)) (protectionStep (w .state) (allListed l (w .pages)) q flags (length ps))) d
+    ∙ ap (λ (q : GuestVtl). carriedChange w (allListed l (w .pages)) (protectionStep (w .state) (allListed l (w .pages)) q flags (length (pagesOf l)))) d

@@ -322,8 +322,8 @@ pub extern "C" fn protector_change_vtl_protections(
         return protector_state::refused(n);
     }
     let v = permissions::vtl_of(vtl);
-    let stop = pages::page_count(list);
-    let count = request::store(pages, shared, true, list, stop);
+    let count = pages::page_count(list);
+    request::store_all(pages, list);
     let x = protection_step(state, pages, v, flags, count);
     carry_out(read, write, kernel, user, state, x)
 }

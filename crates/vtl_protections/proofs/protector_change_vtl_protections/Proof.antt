@@ -19,7 +19,10 @@ same-length c = search needs
 
 returns : tie.Need-returns
 unfolding protectionOf
-returns c = let a = c .before .before .before .before .before .before .before .before .before .before .before .before .before .before .args in laws.call-refused (world (maps (a .private .now) (a .shared .now) (a .read .now) (a .write .now) (a .kernel .now) (a .user .now)) (a .state .now) (a .pages .now) (a .tables .now)) _ _ (c .before .before .protection-refusal .ensures) (protectionTaken (world (maps (a .private .now) (a .shared .now) (a .read .now) (a .write .now) (a .kernel .now) (a .user .now)) (a .state .now) (a .pages .now) (a .tables .now)) (vtlOf (a .vtl)) (a .flags) (a .list .now)) (c .refused .result) (c .before .if1 .taken) (c .refused .ensures)
+returns c =
+    let a = c .before .before .before .before .before .before .before .before .before .before .before .before .before .before .args in
+    let w = world (maps (a .private .now) (a .shared .now) (a .read .now) (a .write .now) (a .kernel .now) (a .user .now)) (a .state .now) (a .pages .now) (a .tables .now) in
+    laws.call-refused w _ _ (c .before .before .protection-refusal .ensures) (protectionTaken w (vtlOf (a .vtl)) (a .flags) (a .list .now)) (c .refused .result) (c .before .if1 .taken) (c .refused .ensures)
 
 vtl-of-requires : tie.Need-vtl-of-requires
 vtl-of-requires c κs = search needs
@@ -27,14 +30,23 @@ vtl-of-requires c κs = search needs
 page-count-requires : tie.Need-page-count-requires
 page-count-requires c κs = search needs
 
-store-requires : tie.Need-store-requires
-store-requires c κs = let a = c .before .before .before .before .before .before .before .before .before .before .before .before .before .before .before .before .args in (laws.table-fits (world (maps (a .private .now) (a .shared .now) (a .read .now) (a .write .now) (a .kernel .now) (a .user .now)) (a .state .now) (a .pages .now) (a .tables .now)) (a .vtl) (a .flags) (a .list .now) _ (c .before .before .before .before .protection-refusal .ensures) (c .before .before .before .if1 .left), laws.protection-passed (world (maps (a .private .now) (a .shared .now) (a .read .now) (a .write .now) (a .kernel .now) (a .user .now)) (a .state .now) (a .pages .now) (a .tables .now)) (a .vtl) (a .flags) (a .list .now) _ (c .before .before .before .before .protection-refusal .ensures) (c .before .before .before .if1 .left) .2)
+store-all-requires : tie.Need-store-all-requires
+store-all-requires c κs =
+    let a = c .before .before .before .before .before .before .before .before .before .before .before .before .before .before .before .before .args in
+    let w = world (maps (a .private .now) (a .shared .now) (a .read .now) (a .write .now) (a .kernel .now) (a .user .now)) (a .state .now) (a .pages .now) (a .tables .now) in
+    (laws.table-fits w (a .vtl) (a .flags) (a .list .now) _ (c .before .before .before .before .protection-refusal .ensures) (c .before .before .before .if1 .left), laws.protection-passed w (a .vtl) (a .flags) (a .list .now) _ (c .before .before .before .before .protection-refusal .ensures) (c .before .before .before .if1 .left) .2)
 
 protection-step-requires : tie.Need-protection-step-requires
-protection-step-requires c κs = let a = c .before .before .before .before .before .before .before .before .before .before .before .before .before .before .before .before .before .before .before .before .before .args in laws.protection-passed (world (maps (a .private .now) (a .shared .now) (a .read .now) (a .write .now) (a .kernel .now) (a .user .now)) (a .state .now) (a .pages .now) (a .tables .now)) (a .vtl) (a .flags) (a .list .now) _ (c .before .before .before .before .before .before .before .before .before .protection-refusal .ensures) (c .before .before .before .before .before .before .before .before .if1 .left) .0
+protection-step-requires c κs =
+    let a = c .before .before .before .before .before .before .before .before .before .before .before .before .before .before .before .before .before .before .before .before .before .args in
+    let w = world (maps (a .private .now) (a .shared .now) (a .read .now) (a .write .now) (a .kernel .now) (a .user .now)) (a .state .now) (a .pages .now) (a .tables .now) in
+    laws.protection-passed w (a .vtl) (a .flags) (a .list .now) _ (c .before .before .before .before .before .before .before .before .before .protection-refusal .ensures) (c .before .before .before .before .before .before .before .before .if1 .left) .0
 
 carry-out-requires : tie.Need-carry-out-requires
-carry-out-requires c κs = let a = c .before .before .before .before .before .before .before .before .before .before .before .before .before .before .before .before .before .before .before .before .before .before .before .before .before .before .before .args in (laws.protection-passed (world (maps (a .private .now) (a .shared .now) (a .read .now) (a .write .now) (a .kernel .now) (a .user .now)) (a .state .now) (a .pages .now) (a .tables .now)) (a .vtl) (a .flags) (a .list .now) _ (c .before .before .before .before .before .before .before .before .before .before .before .before .before .before .before .protection-refusal .ensures) (c .before .before .before .before .before .before .before .before .before .before .before .before .before .before .if1 .left) .0, c .before .before .before .before .before .protection-step .ensures .1)
+carry-out-requires c κs =
+    let a = c .before .before .before .before .before .before .before .before .before .before .before .before .before .before .before .before .before .before .before .before .before .before .before .before .before .before .before .args in
+    let w = world (maps (a .private .now) (a .shared .now) (a .read .now) (a .write .now) (a .kernel .now) (a .user .now)) (a .state .now) (a .pages .now) (a .tables .now) in
+    (laws.protection-passed w (a .vtl) (a .flags) (a .list .now) _ (c .before .before .before .before .before .before .before .before .before .before .before .before .before .before .before .protection-refusal .ensures) (c .before .before .before .before .before .before .before .before .before .before .before .before .before .before .if1 .left) .0, c .before .before .before .before .before .protection-step .ensures .1)
 
 same-length-2 : tie.Need-same-length-2
 same-length-2 c = search needs
@@ -56,7 +68,11 @@ same-length-7 c = search needs
 
 returns-2 : tie.Need-returns-2
 unfolding protectionOf
-returns-2 c = let a = c .before .before .before .before .before .before .before .before .before .before .before .before .before .before .before .before .before .before .before .before .before .before .before .before .before .before .before .before .before .before .before .before .before .before .before .before .before .before .args in laws.call-taken (world (maps (a .private .now) (a .shared .now) (a .read .now) (a .write .now) (a .kernel .now) (a .user .now)) (a .state .now) (a .pages .now) (a .tables .now)) _ _ (c .before .before .before .before .before .before .before .before .before .before .before .before .before .before .before .before .before .before .before .before .before .before .before .before .before .before .protection-refusal .ensures) (protectionTaken (world (maps (a .private .now) (a .shared .now) (a .read .now) (a .write .now) (a .kernel .now) (a .user .now)) (a .state .now) (a .pages .now) (a .tables .now)) (vtlOf (a .vtl)) (a .flags) (a .list .now)) _ (c .before .before .before .before .before .before .before .before .before .before .before .before .before .before .before .before .before .before .before .before .before .before .before .before .before .if1 .left) (laws.protection-made (world (maps (a .private .now) (a .shared .now) (a .read .now) (a .write .now) (a .kernel .now) (a .user .now)) (a .state .now) (a .pages .now) (a .tables .now)) (c .before .before .before .before .before .before .before .before .before .before .before .before .before .before .before .before .before .before .before .before .before .before .before .before .vtl-of .result) (vtlOf (a .vtl)) (a .flags) (a .list .now) (c .before .before .before .before .before .before .before .before .before .before .before .before .before .before .before .before .before .before .before .before .before .before .before .page-count .result) (c .before .before .before .before .before .before .before .before .before .before .before .before .before .before .before .before .before .before .before .before .before .store .result) _ (c .before .before .before .before .before .before .before .before .before .before .before .before .before .before .before .before .protection-step .result) _ _ (c .before .before .before .before .before .before .before .before .before .before .carry-out .result) (laws.protection-passed (world (maps (a .private .now) (a .shared .now) (a .read .now) (a .write .now) (a .kernel .now) (a .user .now)) (a .state .now) (a .pages .now) (a .tables .now)) (a .vtl) (a .flags) (a .list .now) _ (c .before .before .before .before .before .before .before .before .before .before .before .before .before .before .before .before .before .before .before .before .before .before .before .before .before .before .protection-refusal .ensures) (c .before .before .before .before .before .before .before .before .before .before .before .before .before .before .before .before .before .before .before .before .before .before .before .before .before .if1 .left) .3) (c .before .before .before .before .before .before .before .before .before .before .before .before .before .before .before .before .before .before .before .before .before .before .before .before .vtl-of .ensures) (c .before .before .before .before .before .before .before .before .before .before .before .before .before .before .before .before .before .before .before .before .before .before .before .page-count .ensures) (c .before .before .before .before .before .before .before .before .before .before .before .before .before .before .before .before .before .before .before .before .before .store .ensures .0) (c .before .before .before .before .before .before .before .before .before .before .before .before .before .before .before .before .before .before .before .before .before .store .ensures .1) (c .before .before .before .before .before .before .before .before .before .before .before .before .before .before .before .before .protection-step .ensures .0) (c .before .before .before .before .before .before .before .before .before .before .carry-out .ensures .0) (c .before .before .before .before .before .before .before .before .before .before .carry-out .ensures .1 .0) (c .before .before .before .before .before .before .before .before .before .before .carry-out .ensures .1 .1))
+returns-2 c =
+    let a = c .before .before .before .before .before .before .before .before .before .before .before .before .before .before .before .before .before .before .before .before .before .before .before .before .before .before .before .before .before .before .before .before .before .before .before .before .before .before .args in
+    let w = world (maps (a .private .now) (a .shared .now) (a .read .now) (a .write .now) (a .kernel .now) (a .user .now)) (a .state .now) (a .pages .now) (a .tables .now) in
+    laws.call-taken w _ _ (c .before .before .before .before .before .before .before .before .before .before .before .before .before .before .before .before .before .before .before .before .before .before .before .before .before .before .protection-refusal .ensures) (protectionTaken w (vtlOf (a .vtl)) (a .flags) (a .list .now)) _ (c .before .before .before .before .before .before .before .before .before .before .before .before .before .before .before .before .before .before .before .before .before .before .before .before .before .if1 .left)
+    (laws.protection-made w (c .before .before .before .before .before .before .before .before .before .before .before .before .before .before .before .before .before .before .before .before .before .before .before .before .vtl-of .result) (vtlOf (a .vtl)) (a .flags) (a .list .now) (c .before .before .before .before .before .before .before .before .before .before .before .before .before .before .before .before .before .before .before .before .before .before .before .page-count .result) _ (c .before .before .before .before .before .before .before .before .before .before .before .before .before .before .before .before .protection-step .result) _ _ (c .before .before .before .before .before .before .before .before .before .before .carry-out .result) (c .before .before .before .before .before .before .before .before .before .before .before .before .before .before .before .before .before .before .before .before .before .before .before .before .vtl-of .ensures) (c .before .before .before .before .before .before .before .before .before .before .before .before .before .before .before .before .before .before .before .before .before .before .before .page-count .ensures) (c .before .before .before .before .before .before .before .before .before .before .before .before .before .before .before .before .before .before .before .before .before .store-all .ensures) (c .before .before .before .before .before .before .before .before .before .before .before .before .before .before .before .before .protection-step .ensures .0) (c .before .before .before .before .before .before .before .before .before .before .carry-out .ensures .0) (c .before .before .before .before .before .before .before .before .before .before .carry-out .ensures .1 .0) (c .before .before .before .before .before .before .before .before .before .before .carry-out .ensures .1 .1))
 
 pub protector-change-vtl-protections-spec : {M : Type 1} → statement M
 protector-change-vtl-protections-spec =
@@ -68,7 +84,7 @@ protector-change-vtl-protections-spec =
     returns
     vtl-of-requires
     page-count-requires
-    store-requires
+    store-all-requires
     protection-step-requires
     carry-out-requires
     same-length-2
