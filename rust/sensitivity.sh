@@ -1,7 +1,7 @@
 #!/usr/bin/env bash
 # Shows that the differential run would see a fault: each edit below changes little, mostly one operand,
 # in a copy of the original's source, and each must be reported as a difference and shrunk to a short list
-# of calls. Prints a table (docs/SENSITIVITY.md).
+# of calls. First the source as it is must give none. Prints a table (docs/SENSITIVITY.md).
 #
 #   ./sensitivity.sh [CALLS [FILE [FROM [TO]]]]
 #
@@ -38,14 +38,18 @@ edit() {
         shown+="${shown:+ and }$(cell "${1#[0-9]:}")$(nth "$1") → $(cell "$2")"
         shift 2
     done
-    # Not optimized in full, and built from what is there: the edits come to one crate.
-    UNDERHILL_MEM_SRC=$copy cargo build --offline --quiet --target-dir "$target" -p differential --bin differential
     local said
-    if said=$("$target"/debug/differential --calls "$calls" --seed 1 2>/dev/null); then
+    if said=$(run); then
         row "$file" "$shown" "MISSED in $calls calls"
     else
         report "$file" "$shown" "$said"
     fi
+}
+
+# A run on the copy. Not optimized in full, and built from what is there: the edits come to one crate.
+run() {
+    UNDERHILL_MEM_SRC=$copy cargo build --offline --quiet --target-dir "$target" -p differential --bin differential >&2 || exit 2
+    "$target"/debug/differential --calls "$calls" --seed 1 2>/dev/null
 }
 
 replace() {
@@ -75,6 +79,9 @@ row() {
 tell() { echo "| $number | $1 | $2 | $3 |"; }
 
 cell() { echo "\`$(tr '\n' ' ' <<<"$1" | sed 's/  */ /g; s/ *$//; s/|/\\|/g')\`"; }
+
+cp "$source"/*.rs "$copy/"
+run >/dev/null || { echo "sensitivity.sh: the source as it is shows a difference" >&2; exit 2; }
 
 echo '| | file | edit | shrunk to |'
 echo '|---|---|---|---|'
@@ -187,6 +194,7 @@ edit mapping.rs 'GuestMemoryErrorKind::NotShared,' 'GuestMemoryErrorKind::NotPri
 edit mapping.rs 'let check_bitmap = if write {' 'let check_bitmap = if !write {'
 edit mapping.rs 'GuestMemoryViewReadType::Read => &permission_bitmaps.read_bitmap,' 'GuestMemoryViewReadType::Read => &permission_bitmaps.user_execute_bitmap,'
 edit mapping.rs '&permission_bitmaps.kernel_execute_bitmap' '&permission_bitmaps.user_execute_bitmap'
+edit mapping.rs 'let gpn = address / PAGE_SIZE as u64;' 'let gpn = (address + 1) / PAGE_SIZE as u64;'
 
 echo
 echo "sensitivity: $tried edits, $missed missed"

@@ -1,4 +1,5 @@
--- What an answer leads to, without what the request and its table tell already. `nextStep` is the step of `Steps` that it stands for.
+-- What an answer leads to where it doesn't halt, without what the request and its table tell already. `nextStep` is the step of `Steps` that it
+-- stands for; no entry's contract cites it.
 use Prim.Native.Nat.{ℕ}
 use mathlib.Core.List.{List}
 use mathlib.Core.Bool.{Bool, true, false, cond}

@@ -1,4 +1,4 @@
--- The calls, each as a definition of what it gives (01, "The request under way", "From the input", "From the state", and the order of refusals).
+-- A build, a visibility change and the answers to all requests, each as a definition of what it gives (01, "The request under way", "From the input", "From the state", and the order of refusals).
 use mathlib.Core.Bool.{Bool, true, false, cond, not, _&&_}
 use mathlib.Core.List.{List, [], _∷_}
 use Prim.Native.Nat.{ℕ}
@@ -43,7 +43,7 @@ carriedOut w table s =
     outcome (applied table (s .writes) (w .maps)) (withRequest (s .phase) (s .request) (w .state)) table (w .tables)
     (flatOf (settingsOf (w .state) .isolation) (s .answer))
 
--- the same of another change
+-- a step of another change carried out: its permissions and its entry written, its stage and change kept
 abbrev pub withPermissions : Maps → PageRun → HvMapGpaFlags → Maps
 withPermissions m r f = record { private = m .private; shared = m .shared; permissions = permittedRun r f (m .permissions) }
 

@@ -1,4 +1,4 @@
--- What the protector is lent, and the tests that all its calls share (01, "Overlays and locks", "From the input" 4, "From the state" 19 and 20).
+-- What the protector is lent, and the tests that all its calls share (01, "Overlays and locks", "From the input" 4, "From the state" 19, 20 and 21).
 use mathlib.Core.Bool.{Bool, true, false, cond, not, _&&_}
 use mathlib.Core.List.{List, _++_}
 use Prim.Native.Nat.{ℕ, _+_, _*_}
@@ -94,7 +94,7 @@ statusOf ProtectDefault1 = 19
 abbrev pub statusIn : List ℕ → ℕ
 statusIn s = cond (isChanging s) 19 (statusOf (phaseIn s))
 
--- whether an answer is taken (21 else): nothing waits, or what waits cannot fail
+-- whether an answer is taken; it is 21 where nothing waits, and a failure of what cannot fail is too
 abbrev pub takes : Phase → Bool → Bool
 takes Idle failed = false
 takes Halted failed = false

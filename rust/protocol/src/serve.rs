@@ -27,9 +27,8 @@ pub fn serve(mut answer: impl FnMut(&str) -> Option<String>) -> io::Result<()> {
 
 /// The answer to a line by what `command` makes of it; none to a blank one or a comment.
 pub fn line(line: &str, command: impl FnOnce(&str) -> Parsed<String>) -> Option<String> {
-    let line = line.trim();
-    if line.is_empty() || line.starts_with('#') {
+    if line.trim().is_empty() || line.starts_with('#') {
         return None;
     }
-    Some(command(line).unwrap_or_else(|text| format!("bad {text}")))
+    Some(command(line.trim()).unwrap_or_else(|text| format!("bad {text}")))
 }

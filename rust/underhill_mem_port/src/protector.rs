@@ -154,9 +154,10 @@ pub struct ModifyError {
 
 /// What carries the operations out, one method each.
 ///
-/// Waits and flushes can't fail. A failure of any other but [`modify`](Self::modify) halts the
-/// protector, as the original panics there: log it before it is returned. A failed
-/// [`protect`](Self::protect) of an overlay call halts nothing; the call fails.
+/// Waits and flushes can't fail. A failure of any other halts the protector, as the original panics
+/// there: log it before it is returned. Two failures halt nothing, and the call fails:
+/// [`modify`](Self::modify) to private with fewer pages processed than asked for, and
+/// [`protect`](Self::protect) of an overlay call.
 pub trait Backend {
     /// Why an operation failed: the backend's own, the protector does not read it.
     type Error;
@@ -221,7 +222,7 @@ pub enum ChangeError {
         count: u64,
     },
     /// 20: an operation failed that can't be taken back. Marks stay as they were then, and every
-    /// further call is refused by [`Refusal::Halted`].
+    /// further call but faults and permission queries is refused by [`Refusal::Halted`].
     Halted {
         /// The operations asked for, the failed one among them.
         count: u64,

@@ -93,8 +93,8 @@ impl Buffers {
     }
 }
 
-/// Chunks under way and entries that no build leaves, yet not so many that walking them takes
-/// years: the entries walk all chunks that a state names, bitmaps or not.
+/// Chunks under way and entries that no build leaves, most of them near the small bitmaps that are
+/// lent, so that more than 4 is met.
 fn bound(random: &mut Random, state: &mut [u64]) {
     state[2] = random.below(300);
     state[3] = random.below(300);
