@@ -2,15 +2,16 @@
 use native.Mathlib.Omega.{arith}
 use native.Mathlib.Numerals.{add-one}
 use mathlib.Core.Path.{_≡_, refl, sym, ap, ap₂, _∙_}
-use mathlib.Core.Bool.{Bool, true, false, not, _&&_}
+use mathlib.Core.Bool.{Bool, true, false, not, cond, _&&_}
 use mathlib.Core.List.{List, [], _∷_, _++_, append-assoc}
 use Prim.Native.Nat.{ℕ, suc, _+_, _-_, _*_, _%_, _^_, _≤_, _<_, min}
 use lib.Dec.{eqb, leb, ltb}
-use lib.ListN.{length, getD, take, set, replicate}
-use lib.Seq.{set-at, take-suc, take-length, length-take-le}
-use borrow.Author.Tests.{eqb-true, eq-eqb, ne-eqb, le-leb, lt-leb}
+use lib.ListN.{length, getD, drop, take, set, replicate, length-drop}
+use lib.Seq.{getD-drop, set-at, take-suc, take-length, length-take-le}
+use borrow.Author.Tests.{eqb-true, eq-eqb, ne-eqb, lt-ltb, le-ltb, le-leb, lt-leb}
 use Rattle.laws.specs.Ranges.{between, between-false}
 use Rattle.laws.specs.Refusal.{unless, passed, refused, answered}
+use Rattle.bitmap.specs.Pages.{bitAt}
 use Rattle.bitmap.proofs.Map.{none}
 use Rattle.layout.specs.declared.MemoryRange.{MemoryRange}
 use Rattle.layout.specs.Layout.{range, entriesOf, refusalOf, lastEnd, spans}
@@ -20,10 +21,10 @@ use Rattle.registrar_steps.specs.declared.Request.{Request}
 use Rattle.registrar_steps.specs.declared.Answer.the-variants.{Done, RegistrationFailed, Refused}
 use Rattle.registrar_steps.specs.declared.Plan.{Plan}
 use Rattle.registrar_steps.specs.declared.Stop.{Stop}
-use Rattle.registrar_steps.specs.Steps.{idle, askedOf, asks, ends, passes, pieceOf, registerFrom, stopAt, stopPlan, allFrom}
+use Rattle.registrar_steps.specs.Steps.{idle, askedOf, asks, ends, ramFrom, passes, pieceOf, registerFrom, stopAt, stopPlan, allFrom}
 use Rattle.registrar_steps.specs.Laws.{register-stopped}
 use Rattle.registrar_state.specs.declared.Reply.{Reply}
-use Rattle.registrar_state.specs.World.{World, world, Outcome, outcome, requestOf, withRequest, offsetOf, granularityOf, entriesIn, seenIn, builtState, flatOf, decided, buildRefusal, callRefusal, chunksFit, registerRefusal, allRefusal, marked, carriedOut, registerPlan, isKnown, answerRefusal, restOf, hasRest, takenTo, donePlan, afterTaken}
+use Rattle.registrar_state.specs.World.{World, world, Outcome, outcome, requestOf, withRequest, offsetOf, granularityOf, entriesIn, seenIn, builtState, simple, flatOf, decided, buildRefusal, callRefusal, chunksFit, registerRefusal, allRefusal, marked, carriedOut, registerPlan, isKnown, answerRefusal, restOf, hasRest, takenTo, donePlan, afterTaken}
 use Rattle.registrar_state.specs.Laws.{known-kept}
 
 -- ---- a call refused, and one carried out
@@ -125,31 +126,102 @@ pub plan-made : (w : World) (p q : Plan) (s m : List ℕ) (r : Reply) → q ≡ 
     → r ≡ flatOf (q .answer) → outcome s m (w .failed) r ≡ carriedOut w p
 plan-made w p q s m r e hs hm hr = let here : outcome s m (w .failed) r ≡ carriedOut w q = cc in here ∙ ap (carriedOut w) e
 
--- what `register` does next, one law for each case of where it stops
-module _ (w : World) (n count from until : ℕ) (a : Stop) (hn : n ≡ chunkCount (granularityOf (w .state)) (entriesIn (w .state)))
-    (ha : a ≡ stopAt (seenIn w) from (min until n)) (s m : List ℕ) (r : Reply) (hm : m ≡ marked from (a .chunk) (w .registered)) where
+-- what a plan of `register` stores and marks, and where it stops
+abbrev pub Stored : World → Plan → List ℕ → List ℕ → ℕ → Type 0
+Stored w p s m c = (s ≡ withRequest (p .request) (w .state)) × (m ≡ marked (p .from) (p .to) (w .registered)) × (c ≡ p .to)
+
+stored : (w : World) (p q : Plan) (s m : List ℕ) (c : ℕ) → q ≡ p → s ≡ withRequest (q .request) (w .state) → m ≡ marked (q .from) (q .to) (w .registered) → c ≡ q .to → Stored w p s m c
+stored w p q s m c e hs hm hc =
+    (hs ∙ ap (λ (p : Plan). withRequest (p .request) (w .state)) e, hm ∙ ap (λ (p : Plan). marked (p .from) (p .to) (w .registered)) e, hc ∙ ap (λ (p : Plan). p .to) e)
+
+module _ (w : World) (n count from until : ℕ) (hn : n ≡ chunkCount (granularityOf (w .state)) (entriesIn (w .state))) where
   abbrev planned : Plan
   planned = registerFrom (seenIn w) (offsetOf (w .state)) count from until
 
-  stopped-is : stopPlan (offsetOf (w .state)) count from until a ≡ planned
-  stopped-is = register-stopped (seenIn w) (offsetOf (w .state)) count from until (min until n) (firstNot (passes (seenIn w)) from (min until n)) (ap (min until) hn) refl a ha
+  -- one law for each case of where it stops
+  module _ (a : Stop) (ha : a ≡ stopAt (seenIn w) from (min until n)) (s m : List ℕ) (hm : m ≡ marked from (a .chunk) (w .registered)) where
+    stopped-is : stopPlan (offsetOf (w .state)) count from until a ≡ planned
+    stopped-is = register-stopped (seenIn w) (offsetOf (w .state)) count from until (min until n) (firstNot (passes (seenIn w)) from (min until n)) (ap (min until) hn) refl a ha
 
-  pub go-asked : a .what ≡ 1 → s ≡ withRequest (pieceOf count (a .chunk) (a .chunk + 1) until (range (a .start) (a .end))) (w .state)
-      → r ≡ flatOf (askedOf (offsetOf (w .state)) (pieceOf count (a .chunk) (a .chunk + 1) until (range (a .start) (a .end)))) → outcome s m (w .failed) r ≡ carriedOut w planned
-  go-asked h hs hr =
-      plan-made w planned (asks (offsetOf (w .state)) from (a .chunk) (pieceOf count (a .chunk) (a .chunk + 1) until (range (a .start) (a .end)))) s m r
-      (sym (rw (eq-eqb (a .what) 1 h)) ∙ stopped-is) hs hm hr
+    pub go-asked : (q : Request) → a .what ≡ 1 → q ≡ pieceOf count (a .chunk) (a .chunk + 1) until (range (a .start) (a .end)) → s ≡ withRequest q (w .state) → Stored w planned s m (a .chunk)
+    go-asked q h hq hs =
+        stored w planned (asks (offsetOf (w .state)) from (a .chunk) (pieceOf count (a .chunk) (a .chunk + 1) until (range (a .start) (a .end)))) s m (a .chunk)
+        (sym (rw (eq-eqb (a .what) 1 h)) ∙ stopped-is) (hs ∙ ap (λ (q : Request). withRequest q (w .state)) hq) hm refl
 
-  module _ (h : a .what ≡ 1 → ⊥) (i : Request) (hi : i ≡ idle) (hs : s ≡ withRequest i (w .state)) where
-    pub go-failed : a .what ≡ 2 → r ≡ flatOf (RegistrationFailed (a .start) count) → outcome s m (w .failed) r ≡ carriedOut w planned
-    go-failed k hr =
-        plan-made w planned (ends from (a .chunk) (RegistrationFailed (a .start) count)) s m r
-        (sym (rw (ne-eqb (a .what) 1 h, eq-eqb (a .what) 2 k)) ∙ stopped-is) (hs ∙ ap (λ (q : Request). withRequest q (w .state)) hi) hm hr
+    pub go-ended : (i : Request) → (a .what ≡ 1 → ⊥) → i ≡ idle → s ≡ withRequest i (w .state) → Stored w planned s m (a .chunk)
+    go-ended i h hi hs = go (eqb (a .what) 2) refl
+      where
+        go : (b : Bool) → eqb (a .what) 2 ≡ b → Stored w planned s m (a .chunk)
+        go true e =
+            stored w planned (ends from (a .chunk) (RegistrationFailed (a .start) count)) s m (a .chunk)
+            (sym (rw (ne-eqb (a .what) 1 h, e)) ∙ stopped-is) (hs ∙ ap (λ (q : Request). withRequest q (w .state)) hi) hm refl
+        go false e =
+            stored w planned (ends from (a .chunk) (Done count)) s m (a .chunk)
+            (sym (rw (ne-eqb (a .what) 1 h, e)) ∙ stopped-is) (hs ∙ ap (λ (q : Request). withRequest q (w .state)) hi) hm refl
 
-    pub go-done : (a .what ≡ 2 → ⊥) → r ≡ flatOf (Done count) → outcome s m (w .failed) r ≡ carriedOut w planned
-    go-done k hr =
-        plan-made w planned (ends from (a .chunk) (Done count)) s m r
-        (sym (rw (ne-eqb (a .what) 1 h, ne-eqb (a .what) 2 k)) ∙ stopped-is) (hs ∙ ap (λ (q : Request). withRequest q (w .state)) hi) hm hr
+-- what is answered then, of the words that are stored
+abbrev pub answerOf : List ℕ → ℕ → ℕ → ℕ → ℕ → Reply
+answerOf s n count until c =
+    cond (eqb (getD s 0 0) 1) (simple 0 1 0 ((offsetOf s + getD s 4 0) % 2 ^ 64) ((offsetOf s + getD s 5 0) % 2 ^ 64) 0)
+    (cond (ltb c (min until n)) (simple 23 0 count 0 0 (c * granularityOf s)) (simple 0 0 count 0 0 0))
+
+module _ (s : List ℕ) (n count until c : ℕ) (r : Reply) where
+  pub answer-asked : (x y : ℕ) → getD s 0 0 ≡ 1 → x ≡ (offsetOf s + getD s 4 0) % 2 ^ 64 → y ≡ (offsetOf s + getD s 5 0) % 2 ^ 64 → r ≡ simple 0 1 0 x y 0 → r ≡ answerOf s n count until c
+  answer-asked x y h hx hy q = q ∙ ap₂ (λ (x y : ℕ). simple 0 1 0 x y 0) hx hy ∙ sym (rw (eq-eqb (getD s 0 0) 1 h))
+
+  module _ (h : getD s 0 0 ≡ 1 → ⊥) (e : ℕ) (he : e ≡ min until n) where
+    pub answer-failed : c < e → r ≡ simple 23 0 count 0 0 (c * granularityOf s) → r ≡ answerOf s n count until c
+    answer-failed l q = q ∙ sym (rw (ne-eqb (getD s 0 0) 1 h, lt-ltb c (min until n) (omega arith)))
+
+    pub answer-done : e ≤ c → r ≡ simple 0 0 count 0 0 0 → r ≡ answerOf s n count until c
+    answer-done l q = q ∙ sym (rw (ne-eqb (getD s 0 0) 1 h, le-ltb c (min until n) (omega arith)))
+
+-- the words after the request's stay
+kept-at : (s : List ℕ) (i : ℕ) → getD (drop 9 s) i 0 ≡ getD s (9 + i) 0
+kept-at s i = getD-drop 9 s i 0
+
+module _ (w : World) (n count from until : ℕ) (hn : n ≡ chunkCount (granularityOf (w .state)) (entriesIn (w .state))) where
+  abbrev plan : Plan
+  plan = registerFrom (seenIn w) (offsetOf (w .state)) count from until
+
+  answered-of : Plan → Reply
+  answered-of p = answerOf (withRequest (p .request) (w .state)) n count until (p .to)
+
+  answer-is : answered-of plan ≡ flatOf (plan .answer)
+  unfolding registerFrom answered-of
+  answer-is = go (ltb t e) (bitAt 64 (w .failed) t) refl
+    where
+      e : ℕ
+      e = min until (chunkCount (granularityOf (w .state)) (entriesIn (w .state)))
+
+      t : ℕ
+      t = firstNot (passes (seenIn w)) from e
+
+      ram : MemoryRange
+      ram = ramFrom (granularityOf (w .state)) (entriesIn (w .state)) t (t * granularityOf (w .state))
+
+      one : Plan
+      one = ends from t (RegistrationFailed (t * granularityOf (w .state)) count)
+
+      two : Plan
+      two = asks (offsetOf (w .state)) from t (pieceOf count t (t + 1) until ram)
+
+      go : (x y : Bool) → ltb t e ≡ x → answered-of (cond x (cond y one two) (ends from t (Done count))) ≡ flatOf (cond x (cond y one two) (ends from t (Done count)) .answer)
+      go true true h = rw (hn, h, kept-at (w .state) 1)
+      go true false h = rw (kept-at (w .state) 0)
+      go false y h = rw (hn, h)
+
+  -- the state block keeps its length and its granularity
+  pub go-kept : (s m : List ℕ) (c : ℕ) → Stored w plan s m c → length (w .state) ≡ 108 → (c < min until n → c * granularityOf (w .state) < 2 ^ 64)
+      → (length s ≡ 108) × (c < min until n → c * granularityOf s < 2 ^ 64)
+  go-kept s m c h k f =
+      let same : granularityOf s ≡ granularityOf (w .state) = ap granularityOf (h .0) ∙ kept-at (w .state) 1 in
+      (ap length (h .0) ∙ omega (arith, length-drop 9 (w .state)), λ l. omega (arith, ap (λ (g : ℕ). c * g) same, f l))
+
+  pub go-answered : (s m : List ℕ) (c : ℕ) (r : Reply) → Stored w plan s m c → r ≡ answerOf s n count until c → outcome s m (w .failed) r ≡ carriedOut w plan
+  unfolding answered-of
+  go-answered s m c r h q =
+      plan-made w plan plan s m r refl (h .0) (h .1) (q ∙ ap₂ (λ (s : List ℕ) (c : ℕ). answerOf s n count until c) (h .0) (h .2) ∙ answer-is)
 
 -- ---- an operation done
 

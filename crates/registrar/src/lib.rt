@@ -1,11 +1,12 @@
 // The registrar: which chunks of guest memory the kernel has been told of. It asks one operation at a time.
 ghost use mathlib.Core.Path.{_≡_};
-ghost use Prim.Native.Nat.{_≤_};
+ghost use Prim.Native.Nat.{_*_, _≤_, _<_, _^_, min};
 ghost use lib.ListN.{length, getD};
 ghost use Rattle.layout.specs.Layout.{spans};
 ghost use Rattle.chunks.specs.Chunks.{chunkCount};
 ghost use Rattle.registrar_steps.specs.Steps.{askedOf, pieceOf, registerFrom, allFrom};
 ghost use Rattle.registrar_state.specs.World.{world, outcome, withRequest, offsetOf, granularityOf, entriesIn, seenIn, flatOf, builtState, carriedOut, buildOf, registerOf, allOf, failedOf, donePlan, afterTaken, doneOf};
+ghost use Rattle.registrar.specs.Laws.{Stored, answerOf};
 use layout::MemoryRange;
 use registrar_state::Reply;
 use registrar_steps::Answer;
@@ -59,7 +60,8 @@ pub extern "C" fn registrar_build(
     registrar_state::simple(0, 0, 0, 0, 0, 0)
 }
 
-// What is asked or answered from chunk `from` on, of a request that ends before chunk `until`.
+// From chunk `from` on, of a request that ends before chunk `until`: what is to be marked and stored. Gives the chunk
+// where it stops.
 fn go_on(
     state: &mut [u64],
     registered: &mut [u64],
@@ -68,9 +70,9 @@ fn go_on(
     count: u64,
     from: u64,
     until: u64,
-) -> Reply
+) -> u64
     requires { ⌜ (length (now state) ≡ 108) × (n ≡ chunkCount (granularityOf (now state)) (entriesIn (now state))) ⌝ }
-    ensures { λ r. ⌜ outcome (now (state .exit)) (now (registered .exit)) (now (failed .entry)) r ≡ carriedOut (world (now (state .entry)) (now (registered .entry)) (now (failed .entry))) (registerFrom (seenIn (world (now (state .entry)) (now (registered .entry)) (now (failed .entry)))) (offsetOf (now (state .entry))) count from until) ⌝ }
+    ensures { λ c. ⌜ Stored (world (now (state .entry)) (now (registered .entry)) (now (failed .entry))) (registerFrom (seenIn (world (now (state .entry)) (now (registered .entry)) (now (failed .entry)))) (offsetOf (now (state .entry))) count from until) (now (state .exit)) (now (registered .exit)) c × (c < min until n → c * granularityOf (now (state .entry)) < 2 ^ 64) ⌝ }
 {
     let at = registrar_state::register_stop(state, registered, failed, n, from, until);
     chunks::set_chunks(registered, from, at.chunk);
@@ -79,11 +81,26 @@ fn go_on(
             start: at.start,
             end: at.end,
         };
-        return ask(state, count, at.chunk, at.chunk + 1, until, r);
+        let c = at.chunk;
+        registrar_state::save(state, registrar_steps::piece(count, c, c + 1, until, r));
+        return c;
     }
     registrar_state::save(state, registrar_steps::idle());
-    if at.what == 2 {
-        return registrar_state::simple(23, 0, count, 0, 0, at.start);
+    at.chunk
+}
+
+// What is answered then, of a request that stops at chunk c of n.
+fn answer(state: &[u64], n: u64, count: u64, until: u64, c: u64) -> Reply
+    requires { ⌜ (length (now state) ≡ 108) × (c < min until n → c * granularityOf (now state) < 2 ^ 64) ⌝ }
+    ensures { λ r. ⌜ r ≡ answerOf (now (state .entry)) n count until c ⌝ }
+{
+    if state[0] == 1 {
+        let start = std::num::wrapping_add_u64(state[9], state[4]);
+        let end = std::num::wrapping_add_u64(state[9], state[5]);
+        return registrar_state::simple(0, 1, 0, start, end, 0);
+    }
+    if c < numbers::least(until, n) {
+        return registrar_state::simple(23, 0, count, 0, 0, c * state[10]);
     }
     registrar_state::simple(0, 0, count, 0, 0, 0)
 }
@@ -109,7 +126,8 @@ pub extern "C" fn registrar_register(
     if registrar_state::is_known(state, registered, first, end) {
         return registrar_state::simple(0, 0, 0, 0, 0, 0);
     }
-    go_on(state, registered, failed, n, 0, first, end)
+    let c = go_on(state, registered, failed, n, 0, first, end);
+    answer(state, n, 0, end, c)
 }
 
 // What is asked or answered from chunk c on, of a call of register_all_aligned.
@@ -162,7 +180,8 @@ fn register_done(state: &mut [u64], registered: &mut [u64], failed: &[u64], n: u
         return ask(state, q.count, q.from, q.to, q.until, rest);
     }
     chunks::set_chunks(registered, q.from, q.to);
-    go_on(state, registered, failed, n, q.count, q.to, q.until)
+    let c = go_on(state, registered, failed, n, q.count, q.to, q.until);
+    answer(state, n, q.count, q.until, c)
 }
 
 fn all_done(state: &mut [u64], registered: &mut [u64], failed: &[u64]) -> Reply

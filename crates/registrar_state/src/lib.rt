@@ -1,6 +1,6 @@
 // The state block of the registrar: what it holds, what refuses a call, and what a call plans.
 ghost use mathlib.Core.Path.{_≡_};
-ghost use Prim.Native.Nat.{min};
+ghost use Prim.Native.Nat.{_*_, _<_, _^_, min};
 ghost use mathlib.Core.Bool.{_||_, _&&_};
 ghost use lib.Dec.{eqb, leb};
 ghost use lib.ListN.{length};
@@ -319,7 +319,7 @@ pub fn register_stop(
     until: u64,
 ) -> Stop
     requires { ⌜ (length (now state) ≡ 108) × (n ≡ chunkCount (granularityOf (now state)) (entriesIn (now state))) ⌝ }
-    ensures { λ r. ⌜ r ≡ stopAt (seenIn (world (now (state .entry)) (now (registered .entry)) (now (failed .entry)))) from (min until n) ⌝ }
+    ensures { λ r. ⌜ (r ≡ stopAt (seenIn (world (now (state .entry)) (now (registered .entry)) (now (failed .entry)))) from (min until n)) × (r .chunk < min until n → r .chunk * granularityOf (now (state .entry)) < 2 ^ 64) ⌝ }
 {
     registrar_steps::register_from(ram_of(state), state[10], registered, failed, n, from, until)
 }

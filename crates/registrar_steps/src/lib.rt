@@ -128,7 +128,7 @@ pub fn register_from(
     until: u64,
 ) -> Stop
     requires { ⌜ n ≡ chunkCount g (entriesOf (now ram)) ⌝ }
-    ensures { λ r. ⌜ r ≡ stopAt (seen g (entriesOf (now (ram .entry))) (now (registered .entry)) (now (failed .entry))) from (min until n) ⌝ }
+    ensures { λ r. ⌜ (r ≡ stopAt (seen g (entriesOf (now (ram .entry))) (now (registered .entry)) (now (failed .entry))) from (min until n)) × (r .chunk < min until n → r .chunk * g < 2 ^ 64) ⌝ }
 {
     walk(ram, g, registered, failed, from, numbers::least(until, n))
 }

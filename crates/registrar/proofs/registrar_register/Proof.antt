@@ -93,6 +93,19 @@ go-on-requires c κs =
     let long = laws.register-long w (n .result) (c .before .before .before .before .before .before .before .if1 .left) (a .address) (a .len) nh in
     (long, c .before .before .before .before .before .before .before .before .before .before .before .before .chunk-count .ensures long)
 
+answer-requires : tie.Need-answer-requires
+answer-requires c κs =
+    let a = c .before .before .before .before .before .before .before .before .before .before .before .before .before .before .before .before .before .before .before .before .before .before .before .before .before .before .before .args in
+    let w = world (a .state .now) (a .registered .now) (a .failed .now) in
+    let g = c .before .before .before .before .before .before .before .before .before .before .before .before .before .before .before .before .before .before .before .before .before .before .granularity in
+    let f = c .before .before .before .before .before .before .before .before .before .before .before .before .before .before .before .before .before .before .before .before .before .first-chunk in
+    let e = c .before .before .before .before .before .before .before .before .before .before .before .before .before .before .before .before .before .before .before .before .end-chunk in
+    let n = c .before .before .before .before .before .before .before .before .before .before .before .before .before .before .register-refusal in
+    let nh = laws.touched-refusal w (a .address) (a .len) (g .result) (f .result) (e .result) (g .ensures) (f .ensures) (e .ensures) (n .result) (n .ensures) in
+    let long = laws.register-long w (n .result) (c .before .before .before .before .before .before .before .before .before .before .before .before .before .if1 .left) (a .address) (a .len) nh in
+    let o = c .before .before .before .before .before .go-on in
+    laws.go-kept w (c .before .before .before .before .before .before .before .before .before .before .before .before .before .before .before .before .before .before .chunk-count .result) 0 (f .result) (e .result) (c .before .before .before .before .before .before .before .before .before .before .before .before .before .before .before .before .before .before .chunk-count .ensures long) _ _ (o .result) (o .ensures .0) long (o .ensures .1)
+
 same-length-7 : tie.Need-same-length-7
 same-length-7 c = search needs
 
@@ -105,14 +118,16 @@ same-length-9 c = search needs
 returns-3 : tie.Need-returns-3
 unfolding registerOf
 returns-3 c =
-    let a = c .before .before .before .before .before .before .before .before .before .before .before .before .before .before .before .before .before .before .before .before .before .before .before .before .before .before .args in
+    let a = c .before .before .before .before .before .before .before .before .before .before .before .before .before .before .before .before .before .before .before .before .before .before .before .before .before .before .before .before .args in
     let w = world (a .state .now) (a .registered .now) (a .failed .now) in
-    let g = c .before .before .before .before .before .before .before .before .before .before .before .before .before .before .before .before .before .before .before .before .before .granularity in
-    let f = c .before .before .before .before .before .before .before .before .before .before .before .before .before .before .before .before .before .before .before .before .first-chunk in
-    let e = c .before .before .before .before .before .before .before .before .before .before .before .before .before .before .before .before .before .before .before .end-chunk in
-    let n = c .before .before .before .before .before .before .before .before .before .before .before .before .before .register-refusal in
+    let g = c .before .before .before .before .before .before .before .before .before .before .before .before .before .before .before .before .before .before .before .before .before .before .before .granularity in
+    let f = c .before .before .before .before .before .before .before .before .before .before .before .before .before .before .before .before .before .before .before .before .before .before .first-chunk in
+    let e = c .before .before .before .before .before .before .before .before .before .before .before .before .before .before .before .before .before .before .before .before .before .end-chunk in
+    let n = c .before .before .before .before .before .before .before .before .before .before .before .before .before .before .before .register-refusal in
     let nh = laws.touched-refusal w (a .address) (a .len) (g .result) (f .result) (e .result) (g .ensures) (f .ensures) (e .ensures) (n .result) (n .ensures) in
-    laws.call-answered w (n .result) _ nh _ _ (c .before .before .before .before .before .before .before .before .before .before .before .before .if1 .left) (c .before .before .before .before .go-on .ensures ∙ ap (carriedOut w) (laws.touched-plan w (a .address) (a .len) (g .result) (f .result) (e .result) (g .ensures) (f .ensures) (e .ensures)))
+    let long = laws.register-long w (n .result) (c .before .before .before .before .before .before .before .before .before .before .before .before .before .before .if1 .left) (a .address) (a .len) nh in
+    let o = c .before .before .before .before .before .before .go-on in
+    laws.call-answered w (n .result) _ nh _ _ (c .before .before .before .before .before .before .before .before .before .before .before .before .before .before .if1 .left) (laws.go-answered w (c .before .before .before .before .before .before .before .before .before .before .before .before .before .before .before .before .before .before .before .chunk-count .result) 0 (f .result) (e .result) (c .before .before .before .before .before .before .before .before .before .before .before .before .before .before .before .before .before .before .before .chunk-count .ensures long) _ _ (o .result) (c .answer .result) (o .ensures .0) (c .answer .ensures) ∙ ap (carriedOut w) (laws.touched-plan w (a .address) (a .len) (g .result) (f .result) (e .result) (g .ensures) (f .ensures) (e .ensures)))
 
 pub registrar-register-spec : {M : Type 1} → statement M
 registrar-register-spec =
@@ -135,6 +150,7 @@ registrar-register-spec =
     same-length-6
     returns-2
     go-on-requires
+    answer-requires
     same-length-7
     same-length-8
     same-length-9

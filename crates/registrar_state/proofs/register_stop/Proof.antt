@@ -15,7 +15,7 @@ register-from-requires : tie.Need-register-from-requires
 register-from-requires c κs = laws.count-of (c .before .before .before .before .before .args .state .now) (c .before .ram-of .result .now) (c .before .before .before .before .before .args .n) (c .before .ram-of .ensures) (c .before .before .before .before .before .pre .1)
 
 returns : tie.Need-returns
-returns c = laws.stop-planned (world (c .before .before .before .before .before .before .args .state .now) (c .before .before .before .before .before .before .args .registered .now) (c .before .before .before .before .before .before .args .failed .now)) (c .before .before .ram-of .result .now) (c .before .before .ram-of .ensures) (c .register-from .result) (c .before .before .before .before .before .before .args .from) _ (c .register-from .ensures)
+returns c = (laws.stop-planned (world (c .before .before .before .before .before .before .args .state .now) (c .before .before .before .before .before .before .args .registered .now) (c .before .before .before .before .before .before .args .failed .now)) (c .before .before .ram-of .result .now) (c .before .before .ram-of .ensures) (c .register-from .result) (c .before .before .before .before .before .before .args .from) _ (c .register-from .ensures .0), c .register-from .ensures .1)
 
 pub register-stop-spec : {M : Type 1} → statement M
 register-stop-spec =

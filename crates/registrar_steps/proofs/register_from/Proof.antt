@@ -1,6 +1,7 @@
 -- `registrar_steps::register_from` meets its contract. Assumes nothing.
 use borrow.Author.Needs.{needs}
-use mathlib.Core.Path.{ap, _∙_}
+use mathlib.Core.Path.{refl, ap, _∙_}
+use Prim.Native.Nat.{min}
 use Rattle.layout.specs.Layout.{entriesOf}
 use Rattle.registrar_steps.specs.Steps.{seen, stopAt}
 use Rattle.registrar_steps.specs.Laws as laws
@@ -17,7 +18,7 @@ walk-requires c κs = λ k h.
 returns : tie.Need-returns
 returns c =
     let a = c .before .before .before .before .before .args in
-    c .walk .ensures ∙ ap (stopAt (seen (a .g) (entriesOf (a .ram .now)) (a .registered .now) (a .failed .now)) (a .from)) (c .before .least .ensures)
+    (c .walk .ensures ∙ ap (stopAt (seen (a .g) (entriesOf (a .ram .now)) (a .registered .now) (a .failed .now)) (a .from)) (c .before .least .ensures), λ h. laws.walk-fits (a .ram .now) (a .g) (a .until) (a .n) (min (a .until) (a .n)) (c .walk .result .chunk) (λ j. c .before .before .before .before .shared-slice-known .given j .fits) (c .before .before .before .before .before .pre) refl h)
 
 pub register-from-spec : {M : Type 1} → statement M
 register-from-spec = tie.close (tie.spec least-requires walk-requires returns)
