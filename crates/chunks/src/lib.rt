@@ -1,6 +1,6 @@
 // Chunks of guest memory: their number, the RAM in them, and bitmaps of them taken by whole words.
 ghost use mathlib.Core.Path.{_≡_};
-ghost use Prim.Native.Nat.{_+_, _-_, _*_, _/_, _<_, _≤_, _^_, min, max};
+ghost use Prim.Native.Nat.{ℕ, _+_, _-_, _*_, _/_, _<_, _≤_, _^_, min, max};
 ghost use mathlib.Core.Bool.{true, cond, _&&_};
 ghost use lib.Dec.{eqb, ltb};
 ghost use lib.ListN.{getD};
@@ -8,7 +8,7 @@ ghost use Rattle.laws.specs.Bools.{digit};
 ghost use Rattle.laws.specs.Ranges.{between};
 ghost use Rattle.bitmap.specs.Pages.{bitAt, written, words};
 ghost use Rattle.layout.specs.Layout.{entriesOf, spans};
-ghost use Rattle.chunks.specs.Chunks.{up, chunkCount, mapWords, firstChunk, endChunk, isPower, pieces, firstOf, alike, firstNot, alignedPart, edgeOf, entryWith};
+ghost use Rattle.chunks.specs.Chunks.{up, chunkCount, firstChunk, endChunk, isPower, pieces, firstOf, alike, firstNot, alignedPart, edgeOf, entryWith};
 ghost use Rattle.chunks.specs.Scan.{Ahead};
 use layout::MemoryRange;
 use layout::MemoryRangeWithNode;
@@ -42,11 +42,11 @@ pub fn chunk_count(ram: &[u64], g: u64) -> u64
     div_ceil(layout::last_end(ram), g)
 }
 
-// How many words a bitmap of the chunks has.
-pub fn map_words(ram: &[u64], g: u64) -> u64
-    ensures { λ r. ⌜ r ≡ mapWords g (entriesOf (now (ram .entry))) ⌝ }
+// How many words a bitmap of n chunks has.
+pub fn map_words(n: u64) -> u64
+    ensures { λ r. ⌜ r ≡ up n 64 ⌝ }
 {
-    div_ceil(chunk_count(ram, g), 64)
+    div_ceil(n, 64)
 }
 
 // The page after a request's last.
@@ -94,14 +94,10 @@ fn chunk_end(c: u64, g: u64, end: u64) -> u64
     (c + 1) * g
 }
 
-// The first RAM of chunk c from address x on: empty where there is none.
-pub fn next_ram(ram: &[u64], g: u64, c: u64, x: u64) -> MemoryRange
-    ensures { λ r. ⌜ r ≡ firstOf (pieces x ((c + 1) * g) (spans (entriesOf (now (ram .entry))))) ⌝ }
+// The first RAM from address x to before `stop`: empty where there is none. No RAM lies past the last 64-bit number.
+fn ram_before(ram: &[u64], x: u64, stop: u64) -> MemoryRange
+    ensures { λ r. ⌜ ((y : ℕ) → stop ≡ min y (2 ^ 64 - 1) → r ≡ firstOf (pieces x y (spans (entriesOf (now (ram .entry)))))) ⌝ }
 {
-    if c < div(x, g) {
-        return MemoryRange { start: 0, end: 0 };
-    }
-    let stop = chunk_end(c, g, 0xffff_ffff_ffff_ffff);
     let n = layout::entry_count(ram);
     let mut i: u64 = 0;
     while i < n {
@@ -117,6 +113,34 @@ pub fn next_ram(ram: &[u64], g: u64, c: u64, x: u64) -> MemoryRange
         i = span.next;
     }
     MemoryRange { start: 0, end: 0 }
+}
+
+// The first RAM of chunk c from address x on: empty where there is none.
+pub fn next_ram(ram: &[u64], g: u64, c: u64, x: u64) -> MemoryRange
+    ensures { λ r. ⌜ r ≡ firstOf (pieces x ((c + 1) * g) (spans (entriesOf (now (ram .entry))))) ⌝ }
+{
+    if c < div(x, g) {
+        return MemoryRange { start: 0, end: 0 };
+    }
+    ram_before(ram, x, chunk_end(c, g, 0xffff_ffff_ffff_ffff))
+}
+
+// The address g bytes after `start`, or the last 64-bit number if that comes first.
+fn end_from(start: u64, g: u64) -> u64
+    ensures { λ r. ⌜ r ≡ min (start + g) (2 ^ 64 - 1) ⌝ }
+{
+    if 0xffff_ffff_ffff_ffff - start < g {
+        0xffff_ffff_ffff_ffff
+    } else {
+        start + g
+    }
+}
+
+// The first RAM of the chunk that starts at `start`.
+pub fn chunk_ram(ram: &[u64], g: u64, start: u64) -> MemoryRange
+    ensures { λ r. ⌜ r ≡ firstOf (pieces start (start + g) (spans (entriesOf (now (ram .entry))))) ⌝ }
+{
+    ram_before(ram, start, end_from(start, g))
 }
 
 fn full(set: bool) -> u64

@@ -1,24 +1,30 @@
 -- Laws of the entries, one for each way that the code goes. Assumes nothing.
 use native.Mathlib.Omega.{arith}
 use native.Mathlib.Numerals.{add-one}
-use mathlib.Core.Path.{_≡_, sym, ap, ap₂, _∙_}
-use mathlib.Core.Bool.{Bool, true, not, _&&_}
+use mathlib.Core.Path.{_≡_, refl, sym, ap, ap₂, _∙_}
+use mathlib.Core.Bool.{Bool, true, false, not, cond, _&&_}
 use mathlib.Core.List.{List, [], _∷_, _++_, append-assoc}
-use Prim.Native.Nat.{ℕ, suc, _+_, _-_, _%_, _^_, _≤_, _<_}
+use Prim.Native.Nat.{ℕ, suc, _+_, _-_, _*_, _%_, _^_, _≤_, _<_, min}
 use lib.Dec.{eqb, leb, ltb}
-use lib.ListN.{length, getD, take, set, replicate}
-use lib.Seq.{set-at, take-suc, take-length, length-take-le}
-use borrow.Author.Tests.{eqb-true}
+use lib.ListN.{length, getD, drop, take, set, replicate, length-drop}
+use lib.Seq.{getD-drop, set-at, take-suc, take-length, length-take-le}
+use borrow.Author.Tests.{eqb-true, eq-eqb, ne-eqb, lt-ltb, le-ltb, le-leb, lt-leb}
+use Rattle.laws.specs.Ranges.{between, between-false}
 use Rattle.laws.specs.Refusal.{unless, passed, refused, answered}
-use Rattle.layout.specs.Layout.{entriesOf, refusalOf, lastEnd}
+use Rattle.bitmap.specs.Pages.{bitAt}
+use Rattle.bitmap.proofs.Map.{none}
+use Rattle.layout.specs.declared.MemoryRange.{MemoryRange}
+use Rattle.layout.specs.Layout.{range, entriesOf, refusalOf, lastEnd, spans}
 use Rattle.layout.proofs.Laws.{fit, entries-count}
-use Rattle.chunks.specs.Chunks.{firstChunk, endChunk, isPower}
+use Rattle.chunks.specs.Chunks.{chunkCount, firstChunk, endChunk, isPower, empty, firstNot}
 use Rattle.registrar_steps.specs.declared.Request.{Request}
 use Rattle.registrar_steps.specs.declared.Answer.the-variants.{Done, RegistrationFailed, Refused}
 use Rattle.registrar_steps.specs.declared.Plan.{Plan}
-use Rattle.registrar_steps.specs.Steps.{idle, registerFrom}
+use Rattle.registrar_steps.specs.declared.Stop.{Stop}
+use Rattle.registrar_steps.specs.Steps.{idle, askedOf, asks, ends, ramFrom, passes, pieceOf, registerFrom, stopAt, stopPlan, allFrom}
+use Rattle.registrar_steps.specs.Laws.{register-stopped}
 use Rattle.registrar_state.specs.declared.Reply.{Reply}
-use Rattle.registrar_state.specs.World.{World, world, Outcome, outcome, requestOf, withRequest, offsetOf, granularityOf, seenIn, builtState, flatOf, decided, buildRefusal, callRefusal, chunksFit, registerRefusal, allRefusal, marked, carriedOut, registerPlan, isKnown, answerRefusal, takenTo, afterTaken}
+use Rattle.registrar_state.specs.World.{World, world, Outcome, outcome, requestOf, withRequest, offsetOf, granularityOf, entriesIn, seenIn, builtState, simple, flatOf, decided, buildRefusal, callRefusal, chunksFit, registerRefusal, allRefusal, marked, carriedOut, registerPlan, isKnown, answerRefusal, restOf, hasRest, takenTo, donePlan, afterTaken}
 use Rattle.registrar_state.specs.Laws.{known-kept}
 
 -- ---- a call refused, and one carried out
@@ -27,11 +33,6 @@ module _ (w : World) (n x : ℕ) (e : n ≡ x) where
   pub call-refused : (taken : Outcome) (r : Reply) → (n ≡ 0 → ⊥) → r ≡ flatOf (Refused n) → outcome (w .state) (w .registered) (w .failed) r ≡ decided w x taken
   call-refused taken r h q =
       ap (outcome (w .state) (w .registered) (w .failed)) q ∙ refused n x e taken (λ k. record { world = w; reply = flatOf (Refused k) }) h
-
-  pub call-carried : (v : World) (p q : Plan) (s m : List ℕ) (r : Reply) → n ≡ 0 → q ≡ p → s ≡ withRequest (q .request) (v .state)
-      → m ≡ marked (q .from) (q .to) (v .registered) → r ≡ flatOf (q .answer) → outcome s m (v .failed) r ≡ decided w x (carriedOut v p)
-  call-carried v p q s m r h hq hs hm hr =
-      answered n x e (carriedOut v p) (outcome s m (v .failed) r) (λ k. record { world = w; reply = flatOf (Refused k) }) h ((cc) ∙ ap (carriedOut v) hq)
 
   pub call-answered : (taken : Outcome) (o : Outcome) → n ≡ 0 → o ≡ taken → o ≡ decided w x taken
   call-answered taken o h q = answered n x e taken o (λ k. record { world = w; reply = flatOf (Refused k) }) h q
@@ -52,8 +53,8 @@ module _ (w : World) (address len g f e : ℕ) (hg : g ≡ granularityOf (w .sta
       → isKnown (w .state) (w .registered) (firstChunk (granularityOf (w .state)) address) (endChunk (granularityOf (w .state)) address len) ≡ true
   touched-known t q h = sym (ap₂ (isKnown (w .state) (w .registered)) first-is end-is) ∙ sym q ∙ h
 
-  pub touched-plan : (p : Plan) → p ≡ registerFrom (seenIn w) (offsetOf (w .state)) 0 f e → p ≡ registerPlan w address len
-  touched-plan p q = q ∙ ap₂ (registerFrom (seenIn w) (offsetOf (w .state)) 0) first-is end-is
+  pub touched-plan : registerFrom (seenIn w) (offsetOf (w .state)) 0 f e ≡ registerPlan w address len
+  touched-plan = ap₂ (registerFrom (seenIn w) (offsetOf (w .state)) 0) first-is end-is
 
 -- a request that finds its chunks registered
 pub call-known : (w : World) (n address len : ℕ) (r : Reply) → n ≡ registerRefusal w address len → n ≡ 0 → length (w .state) ≡ 108
@@ -119,11 +120,171 @@ filled-all ram o g i h k =
     let d : i ≡ length ram = omega arith in
     ap (filledTo ram o g) d ∙ ap (λ (l : List ℕ). 0 ∷ 0 ∷ 0 ∷ 0 ∷ 0 ∷ 0 ∷ 0 ∷ 0 ∷ 0 ∷ o ∷ g ∷ length (entriesOf ram) ∷ (l ++ replicate (96 - length ram) 0)) (take-length ram)
 
--- ---- an operation done: the world that the plan is made for
+-- ---- a plan carried out
 
-pub after-is : (w : World) (q : Request) (to : ℕ) (m : List ℕ) → q ≡ requestOf (w .state) → to ≡ takenTo (w .state) → m ≡ marked (q .from) to (w .registered)
-    → world (w .state) m (w .failed) ≡ afterTaken w
-after-is w q to m e t h = ap (λ (l : List ℕ). world (w .state) l (w .failed)) (h ∙ ap₂ (λ (q : Request) (k : ℕ). marked (q .from) k (w .registered)) e t)
+pub plan-made : (w : World) (p q : Plan) (s m : List ℕ) (r : Reply) → q ≡ p → s ≡ withRequest (q .request) (w .state) → m ≡ marked (q .from) (q .to) (w .registered)
+    → r ≡ flatOf (q .answer) → outcome s m (w .failed) r ≡ carriedOut w p
+plan-made w p q s m r e hs hm hr = let here : outcome s m (w .failed) r ≡ carriedOut w q = cc in here ∙ ap (carriedOut w) e
+
+-- what a plan of `register` stores and marks, and where it stops
+abbrev pub Stored : World → Plan → List ℕ → List ℕ → ℕ → Type 0
+Stored w p s m c = (s ≡ withRequest (p .request) (w .state)) × (m ≡ marked (p .from) (p .to) (w .registered)) × (c ≡ p .to)
+
+stored : (w : World) (p q : Plan) (s m : List ℕ) (c : ℕ) → q ≡ p → s ≡ withRequest (q .request) (w .state) → m ≡ marked (q .from) (q .to) (w .registered) → c ≡ q .to → Stored w p s m c
+stored w p q s m c e hs hm hc =
+    (hs ∙ ap (λ (p : Plan). withRequest (p .request) (w .state)) e, hm ∙ ap (λ (p : Plan). marked (p .from) (p .to) (w .registered)) e, hc ∙ ap (λ (p : Plan). p .to) e)
+
+module _ (w : World) (n count from until : ℕ) (hn : n ≡ chunkCount (granularityOf (w .state)) (entriesIn (w .state))) where
+  abbrev planned : Plan
+  planned = registerFrom (seenIn w) (offsetOf (w .state)) count from until
+
+  -- one law for each case of where it stops
+  module _ (a : Stop) (ha : a ≡ stopAt (seenIn w) from (min until n)) (s m : List ℕ) (hm : m ≡ marked from (a .chunk) (w .registered)) where
+    stopped-is : stopPlan (offsetOf (w .state)) count from until a ≡ planned
+    stopped-is = register-stopped (seenIn w) (offsetOf (w .state)) count from until (min until n) (firstNot (passes (seenIn w)) from (min until n)) (ap (min until) hn) refl a ha
+
+    pub go-asked : (q : Request) → a .what ≡ 1 → q ≡ pieceOf count (a .chunk) (a .chunk + 1) until (range (a .start) (a .end)) → s ≡ withRequest q (w .state) → Stored w planned s m (a .chunk)
+    go-asked q h hq hs =
+        stored w planned (asks (offsetOf (w .state)) from (a .chunk) (pieceOf count (a .chunk) (a .chunk + 1) until (range (a .start) (a .end)))) s m (a .chunk)
+        (sym (rw (eq-eqb (a .what) 1 h)) ∙ stopped-is) (hs ∙ ap (λ (q : Request). withRequest q (w .state)) hq) hm refl
+
+    pub go-ended : (i : Request) → (a .what ≡ 1 → ⊥) → i ≡ idle → s ≡ withRequest i (w .state) → Stored w planned s m (a .chunk)
+    go-ended i h hi hs = go (eqb (a .what) 2) refl
+      where
+        go : (b : Bool) → eqb (a .what) 2 ≡ b → Stored w planned s m (a .chunk)
+        go true e =
+            stored w planned (ends from (a .chunk) (RegistrationFailed (a .start) count)) s m (a .chunk)
+            (sym (rw (ne-eqb (a .what) 1 h, e)) ∙ stopped-is) (hs ∙ ap (λ (q : Request). withRequest q (w .state)) hi) hm refl
+        go false e =
+            stored w planned (ends from (a .chunk) (Done count)) s m (a .chunk)
+            (sym (rw (ne-eqb (a .what) 1 h, e)) ∙ stopped-is) (hs ∙ ap (λ (q : Request). withRequest q (w .state)) hi) hm refl
+
+-- what is answered then, of the words that are stored
+abbrev pub answerOf : List ℕ → ℕ → ℕ → ℕ → ℕ → Reply
+answerOf s n count until c =
+    cond (eqb (getD s 0 0) 1) (simple 0 1 0 ((offsetOf s + getD s 4 0) % 2 ^ 64) ((offsetOf s + getD s 5 0) % 2 ^ 64) 0)
+    (cond (ltb c (min until n)) (simple 23 0 count 0 0 (c * granularityOf s)) (simple 0 0 count 0 0 0))
+
+module _ (s : List ℕ) (n count until c : ℕ) (r : Reply) where
+  pub answer-asked : (x y : ℕ) → getD s 0 0 ≡ 1 → x ≡ (offsetOf s + getD s 4 0) % 2 ^ 64 → y ≡ (offsetOf s + getD s 5 0) % 2 ^ 64 → r ≡ simple 0 1 0 x y 0 → r ≡ answerOf s n count until c
+  answer-asked x y h hx hy q = q ∙ ap₂ (λ (x y : ℕ). simple 0 1 0 x y 0) hx hy ∙ sym (rw (eq-eqb (getD s 0 0) 1 h))
+
+  module _ (h : getD s 0 0 ≡ 1 → ⊥) (e : ℕ) (he : e ≡ min until n) where
+    pub answer-failed : c < e → r ≡ simple 23 0 count 0 0 (c * granularityOf s) → r ≡ answerOf s n count until c
+    answer-failed l q = q ∙ sym (rw (ne-eqb (getD s 0 0) 1 h, lt-ltb c (min until n) (omega arith)))
+
+    pub answer-done : e ≤ c → r ≡ simple 0 0 count 0 0 0 → r ≡ answerOf s n count until c
+    answer-done l q = q ∙ sym (rw (ne-eqb (getD s 0 0) 1 h, le-ltb c (min until n) (omega arith)))
+
+-- the words after the request's stay
+kept-at : (s : List ℕ) (i : ℕ) → getD (drop 9 s) i 0 ≡ getD s (9 + i) 0
+kept-at s i = getD-drop 9 s i 0
+
+module _ (w : World) (n count from until : ℕ) (hn : n ≡ chunkCount (granularityOf (w .state)) (entriesIn (w .state))) where
+  abbrev plan : Plan
+  plan = registerFrom (seenIn w) (offsetOf (w .state)) count from until
+
+  answered-of : Plan → Reply
+  answered-of p = answerOf (withRequest (p .request) (w .state)) n count until (p .to)
+
+  answer-is : answered-of plan ≡ flatOf (plan .answer)
+  unfolding registerFrom answered-of
+  answer-is = go (ltb t e) (bitAt 64 (w .failed) t) refl
+    where
+      e : ℕ
+      e = min until (chunkCount (granularityOf (w .state)) (entriesIn (w .state)))
+
+      t : ℕ
+      t = firstNot (passes (seenIn w)) from e
+
+      ram : MemoryRange
+      ram = ramFrom (granularityOf (w .state)) (entriesIn (w .state)) t (t * granularityOf (w .state))
+
+      one : Plan
+      one = ends from t (RegistrationFailed (t * granularityOf (w .state)) count)
+
+      two : Plan
+      two = asks (offsetOf (w .state)) from t (pieceOf count t (t + 1) until ram)
+
+      go : (x y : Bool) → ltb t e ≡ x → answered-of (cond x (cond y one two) (ends from t (Done count))) ≡ flatOf (cond x (cond y one two) (ends from t (Done count)) .answer)
+      go true true h = rw (hn, h, kept-at (w .state) 1)
+      go true false h = rw (kept-at (w .state) 0)
+      go false y h = rw (hn, h)
+
+  -- the state block keeps its length and its granularity
+  pub go-kept : (s m : List ℕ) (c : ℕ) → Stored w plan s m c → length (w .state) ≡ 108 → (c < min until n → c * granularityOf (w .state) < 2 ^ 64)
+      → (length s ≡ 108) × (c < min until n → c * granularityOf s < 2 ^ 64)
+  go-kept s m c h k f =
+      let same : granularityOf s ≡ granularityOf (w .state) = ap granularityOf (h .0) ∙ kept-at (w .state) 1 in
+      (ap length (h .0) ∙ omega (arith, length-drop 9 (w .state)), λ l. omega (arith, ap (λ (g : ℕ). c * g) same, f l))
+
+  pub go-answered : (s m : List ℕ) (c : ℕ) (r : Reply) → Stored w plan s m c → r ≡ answerOf s n count until c → outcome s m (w .failed) r ≡ carriedOut w plan
+  unfolding answered-of
+  go-answered s m c r h q =
+      plan-made w plan plan s m r refl (h .0) (h .1) (q ∙ ap₂ (λ (s : List ℕ) (c : ℕ). answerOf s n count until c) (h .0) (h .2) ∙ answer-is)
+
+-- ---- an operation done
+
+none-marked : (a : ℕ) (m : List ℕ) → m ≡ marked a a m
+none-marked a m = none 64 (between a a) true m (λ j k l d. between-false a a (j * 64 + k) (λ x y. omega arith))
+
+module _ (w : World) (q : Request) (e : q ≡ requestOf (w .state)) where
+  -- RAM of the chunk is left: it is asked for
+  pub done-rest : (rest : MemoryRange) (s : List ℕ) (r : Reply) → requestOf (w .state) .kind ≡ 1 → rest ≡ restOf (w .state) → rest .start < rest .end
+      → s ≡ withRequest (pieceOf (q .count) (q .from) (q .to) (q .until) rest) (w .state)
+      → r ≡ flatOf (askedOf (offsetOf (w .state)) (pieceOf (q .count) (q .from) (q .to) (q .until) rest))
+      → outcome s (w .registered) (w .failed) r ≡ carriedOut (afterTaken w) (donePlan (afterTaken w))
+  done-rest rest s r k hr h hs ha =
+      plan-made (afterTaken w) (donePlan (afterTaken w)) (asks (offsetOf (w .state)) 0 0 (pieceOf (q .count) (q .from) (q .to) (q .until) rest)) s (w .registered) r
+      (ap₂ (λ (q : Request) (x : MemoryRange). asks (offsetOf (w .state)) 0 0 (pieceOf (q .count) (q .from) (q .to) (q .until) x)) e hr ∙ sym (rw left)) hs unmarked ha
+    where
+      left : hasRest (w .state) ≡ true
+      left = rw (eq-eqb (requestOf (w .state) .kind) 1 k) (sym (ap (λ (x : MemoryRange). not (empty x)) hr) ∙ ap not (lt-leb (rest .end) (rest .start) h))
+
+      untaken : requestOf (w .state) .from ≡ takenTo (w .state)
+      untaken = sym (rw left)
+
+      unmarked : w .registered ≡ marked 0 0 (marked (requestOf (w .state) .from) (takenTo (w .state)) (w .registered))
+      unmarked =
+          none-marked (requestOf (w .state) .from) (w .registered) ∙ ap (λ (t : ℕ). marked (requestOf (w .state) .from) t (w .registered)) untaken
+          ∙ none-marked 0 (marked (requestOf (w .state) .from) (takenTo (w .state)) (w .registered))
+
+  -- none is left: the chunks under way become registered, and the call goes on
+  module _ (no : hasRest (w .state) ≡ false) (m : List ℕ) (hm : m ≡ marked (q .from) (q .to) (w .registered)) where
+    taken : requestOf (w .state) .to ≡ takenTo (w .state)
+    taken = sym (rw no)
+
+    after-is : world (w .state) m (w .failed) ≡ afterTaken w
+    after-is =
+        ap (λ (l : List ℕ). world (w .state) l (w .failed))
+        (hm ∙ ap (λ (q : Request). marked (q .from) (q .to) (w .registered)) e ∙ ap (λ (t : ℕ). marked (requestOf (w .state) .from) t (w .registered)) taken)
+
+    abbrev after : World
+    after = world (w .state) m (w .failed)
+
+    pub done-register : requestOf (w .state) .kind ≡ 1
+        → carriedOut after (registerFrom (seenIn after) (offsetOf (w .state)) (q .count) (q .to) (q .until)) ≡ carriedOut (afterTaken w) (donePlan (afterTaken w))
+    done-register k =
+        let here : donePlan after ≡ registerFrom (seenIn after) (offsetOf (w .state)) (requestOf (w .state) .count) (requestOf (w .state) .to) (requestOf (w .state) .until) =
+        rw (no, eq-eqb (requestOf (w .state) .kind) 1 k) in
+        ap (λ (q : Request). carriedOut after (registerFrom (seenIn after) (offsetOf (w .state)) (q .count) (q .to) (q .until))) e ∙ ap (carriedOut after) (sym here)
+        ∙ ap (λ (u : World). carriedOut u (donePlan u)) after-is
+
+    pub done-all : (requestOf (w .state) .kind ≡ 1 → ⊥)
+        → carriedOut after (allFrom (seenIn after) (offsetOf (w .state)) (q .count) (q .alignment) (q .ignore) (q .to) (spans (entriesIn (w .state))))
+        ≡ carriedOut (afterTaken w) (donePlan (afterTaken w))
+    done-all k =
+        let here : donePlan after ≡ allFrom (seenIn after) (offsetOf (w .state)) (requestOf (w .state) .count) (requestOf (w .state) .alignment) (requestOf (w .state) .ignore) (requestOf (w .state) .to) (spans (entriesIn (w .state))) =
+        rw (no, ne-eqb (requestOf (w .state) .kind) 1 k) in
+        ap (λ (q : Request). carriedOut after (allFrom (seenIn after) (offsetOf (w .state)) (q .count) (q .alignment) (q .ignore) (q .to) (spans (entriesIn (w .state))))) e
+        ∙ ap (carriedOut after) (sym here) ∙ ap (λ (u : World). carriedOut u (donePlan u)) after-is
+
+module _ (s : List ℕ) where
+  pub none-left : (rest : MemoryRange) → rest ≡ restOf s → rest .end ≤ rest .start → requestOf s .kind ≡ 1 → hasRest s ≡ false
+  none-left rest e h k = rw (eq-eqb (requestOf s .kind) 1 k) (sym (ap (λ (x : MemoryRange). not (empty x)) e) ∙ ap not (le-leb (rest .end) (rest .start) h))
+
+  pub not-register : (requestOf s .kind ≡ 1 → ⊥) → hasRest s ≡ false
+  not-register k = rw (ne-eqb (requestOf s .kind) 1 k)
 
 -- an operation failed
 pub failed-made : (w : World) (q i : Request) (s f : List ℕ) (r : Reply) → q ≡ requestOf (w .state) → i ≡ idle → s ≡ withRequest i (w .state)

@@ -1,10 +1,27 @@
 // The registrar: which chunks of guest memory the kernel has been told of. It asks one operation at a time.
 ghost use mathlib.Core.Path.{_≡_};
-ghost use Prim.Native.Nat.{_≤_};
-ghost use lib.ListN.{length};
-ghost use Rattle.registrar_state.specs.World.{world, outcome, builtState, buildOf, registerOf, allOf, failedOf, doneOf};
+ghost use Prim.Native.Nat.{_*_, _≤_, _<_, _^_, min};
+ghost use lib.ListN.{length, getD};
+ghost use Rattle.layout.specs.Layout.{spans};
+ghost use Rattle.chunks.specs.Chunks.{chunkCount};
+ghost use Rattle.registrar_steps.specs.Steps.{askedOf, pieceOf, registerFrom, allFrom};
+ghost use Rattle.registrar_state.specs.World.{world, outcome, withRequest, offsetOf, granularityOf, entriesIn, seenIn, flatOf, builtState, carriedOut, buildOf, registerOf, allOf, failedOf, donePlan, afterTaken, doneOf};
+ghost use Rattle.registrar.specs.Laws.{Stored, answerOf};
+use layout::MemoryRange;
 use registrar_state::Reply;
 use registrar_steps::Answer;
+
+// A piece of RAM of the chunks from `from` to before `to` is asked for.
+fn ask(state: &mut [u64], count: u64, from: u64, to: u64, until: u64, r: MemoryRange) -> Reply
+    requires { ⌜ length (now state) ≡ 108 ⌝ }
+    ensures { λ a. ⌜ (now (state .exit) ≡ withRequest (pieceOf count from to until r) (now (state .entry))) × (a ≡ flatOf (askedOf (offsetOf (now (state .entry))) (pieceOf count from to until r))) ⌝ }
+{
+    let offset = state[9];
+    registrar_state::save(state, registrar_steps::piece(count, from, to, until, r));
+    let start = std::num::wrapping_add_u64(offset, r.start);
+    let end = std::num::wrapping_add_u64(offset, r.end);
+    registrar_state::simple(0, 1, 0, start, end, 0)
+}
 
 fn build_state(state: &mut [u64], ram: &[u64], offset: u64, granularity: u64)
     requires { ⌜ (length (now state) ≡ 108) × (length (now ram) ≤ 96) ⌝ }
@@ -35,12 +52,57 @@ pub extern "C" fn registrar_build(
 {
     let n = registrar_state::build_refusal(ram, offset, granularity, state, registered, failed);
     if n != 0 {
-        return registrar_state::flatten(Answer::Refused(n));
+        return registrar_state::simple(n, 0, 0, 0, 0, 0);
     }
     build_state(state, ram, offset, granularity);
     words::clear(registered);
     words::clear(failed);
-    registrar_state::flatten(Answer::Done(0))
+    registrar_state::simple(0, 0, 0, 0, 0, 0)
+}
+
+// From chunk `from` on, of a request that ends before chunk `until`: what is to be marked and stored. Gives the chunk
+// where it stops.
+fn go_on(
+    state: &mut [u64],
+    registered: &mut [u64],
+    failed: &[u64],
+    n: u64,
+    count: u64,
+    from: u64,
+    until: u64,
+) -> u64
+    requires { ⌜ (length (now state) ≡ 108) × (n ≡ chunkCount (granularityOf (now state)) (entriesIn (now state))) ⌝ }
+    ensures { λ c. ⌜ Stored (world (now (state .entry)) (now (registered .entry)) (now (failed .entry))) (registerFrom (seenIn (world (now (state .entry)) (now (registered .entry)) (now (failed .entry)))) (offsetOf (now (state .entry))) count from until) (now (state .exit)) (now (registered .exit)) c × (c < min until n → c * granularityOf (now (state .entry)) < 2 ^ 64) ⌝ }
+{
+    let at = registrar_state::register_stop(state, registered, failed, n, from, until);
+    chunks::set_chunks(registered, from, at.chunk);
+    if at.what == 1 {
+        let r = MemoryRange {
+            start: at.start,
+            end: at.end,
+        };
+        let c = at.chunk;
+        registrar_state::save(state, registrar_steps::piece(count, c, c + 1, until, r));
+        return c;
+    }
+    registrar_state::save(state, registrar_steps::idle());
+    at.chunk
+}
+
+// What is answered then, of a request that stops at chunk c of n.
+fn answer(state: &[u64], n: u64, count: u64, until: u64, c: u64) -> Reply
+    requires { ⌜ (length (now state) ≡ 108) × (c < min until n → c * granularityOf (now state) < 2 ^ 64) ⌝ }
+    ensures { λ r. ⌜ r ≡ answerOf (now (state .entry)) n count until c ⌝ }
+{
+    if state[0] == 1 {
+        let start = std::num::wrapping_add_u64(state[9], state[4]);
+        let end = std::num::wrapping_add_u64(state[9], state[5]);
+        return registrar_state::simple(0, 1, 0, start, end, 0);
+    }
+    if c < numbers::least(until, n) {
+        return registrar_state::simple(23, 0, count, 0, 0, c * state[10]);
+    }
+    registrar_state::simple(0, 0, count, 0, 0, 0)
 }
 
 #[no_mangle]
@@ -56,14 +118,32 @@ pub extern "C" fn registrar_register(
     let g = registrar_state::granularity(state);
     let first = chunks::first_chunk(g, address);
     let end = chunks::end_chunk(g, address, len);
-    let n = registrar_state::register_refusal(state, registered, failed, first, end);
-    if n != 0 {
-        return registrar_state::flatten(Answer::Refused(n));
+    let n = registrar_state::chunk_count(state);
+    let k = registrar_state::register_refusal(state, registered, failed, n, first, end);
+    if k != 0 {
+        return registrar_state::simple(k, 0, 0, 0, 0, 0);
     }
     if registrar_state::is_known(state, registered, first, end) {
-        return registrar_state::flatten(Answer::Done(0));
+        return registrar_state::simple(0, 0, 0, 0, 0, 0);
     }
-    let p = registrar_state::register_plan(state, registered, failed, first, end);
+    let c = go_on(state, registered, failed, n, 0, first, end);
+    answer(state, n, 0, end, c)
+}
+
+// What is asked or answered from chunk c on, of a call of register_all_aligned.
+fn all_on(
+    state: &mut [u64],
+    registered: &mut [u64],
+    failed: &[u64],
+    count: u64,
+    alignment: u64,
+    ignore: u64,
+    c: u64,
+) -> Reply
+    requires { ⌜ length (now state) ≡ 108 ⌝ }
+    ensures { λ r. ⌜ outcome (now (state .exit)) (now (registered .exit)) (now (failed .entry)) r ≡ carriedOut (world (now (state .entry)) (now (registered .entry)) (now (failed .entry))) (allFrom (seenIn (world (now (state .entry)) (now (registered .entry)) (now (failed .entry)))) (offsetOf (now (state .entry))) count alignment ignore c (spans (entriesIn (now (state .entry))))) ⌝ }
+{
+    let p = registrar_state::all_plan(state, registered, failed, count, alignment, ignore, c);
     chunks::set_chunks(registered, p.from, p.to);
     registrar_state::save(state, p.request);
     let answer = p.answer;
@@ -81,15 +161,37 @@ pub extern "C" fn registrar_register_all_aligned(
     ensures { λ r. ⌜ outcome (now (state .exit)) (now (registered .exit)) (now (failed .exit)) r ≡ allOf (world (now (state .entry)) (now (registered .entry)) (now (failed .entry))) alignment «ignore_unaligned_ranges» ⌝ }
 {
     let ignore = ignore_unaligned_ranges;
-    let n = registrar_state::all_refusal(state, registered, failed, alignment, ignore);
-    if n != 0 {
-        return registrar_state::flatten(Answer::Refused(n));
+    let n = registrar_state::chunk_count(state);
+    let k = registrar_state::all_refusal(state, registered, failed, n, alignment, ignore);
+    if k != 0 {
+        return registrar_state::simple(k, 0, 0, 0, 0, 0);
     }
-    let p = registrar_state::all_plan(state, registered, failed, alignment, ignore);
-    chunks::set_chunks(registered, p.from, p.to);
-    registrar_state::save(state, p.request);
-    let answer = p.answer;
-    registrar_state::flatten(answer)
+    all_on(state, registered, failed, 0, alignment, ignore, 0)
+}
+
+// The chunk under way becomes registered, unless some of its RAM is left.
+fn register_done(state: &mut [u64], registered: &mut [u64], failed: &[u64], n: u64) -> Reply
+    requires { ⌜ (length (now state) ≡ 108) × (n ≡ chunkCount (granularityOf (now state)) (entriesIn (now state))) × (getD (now state) 0 0 ≡ 1) ⌝ }
+    ensures { λ r. ⌜ outcome (now (state .exit)) (now (registered .exit)) (now (failed .entry)) r ≡ carriedOut (afterTaken (world (now (state .entry)) (now (registered .entry)) (now (failed .entry)))) (donePlan (afterTaken (world (now (state .entry)) (now (registered .entry)) (now (failed .entry))))) ⌝ }
+{
+    let q = registrar_state::load(state);
+    let rest = registrar_state::rest_of(state, n);
+    if rest.start < rest.end {
+        return ask(state, q.count, q.from, q.to, q.until, rest);
+    }
+    chunks::set_chunks(registered, q.from, q.to);
+    let c = go_on(state, registered, failed, n, q.count, q.to, q.until);
+    answer(state, n, q.count, q.until, c)
+}
+
+fn all_done(state: &mut [u64], registered: &mut [u64], failed: &[u64]) -> Reply
+    requires { ⌜ (length (now state) ≡ 108) × (getD (now state) 0 0 ≡ 1 → ⊥) ⌝ }
+    ensures { λ r. ⌜ outcome (now (state .exit)) (now (registered .exit)) (now (failed .entry)) r ≡ carriedOut (afterTaken (world (now (state .entry)) (now (registered .entry)) (now (failed .entry)))) (donePlan (afterTaken (world (now (state .entry)) (now (registered .entry)) (now (failed .entry))))) ⌝ }
+{
+    let q = registrar_state::load(state);
+    let c = q.to;
+    chunks::set_chunks(registered, q.from, c);
+    all_on(state, registered, failed, q.count, q.alignment, q.ignore, c)
 }
 
 // The operation asked for is done.
@@ -101,19 +203,15 @@ pub extern "C" fn registrar_answer_done(
 ) -> Reply
     ensures { λ r. ⌜ outcome (now (state .exit)) (now (registered .exit)) (now (failed .exit)) r ≡ doneOf (world (now (state .entry)) (now (registered .entry)) (now (failed .entry))) ⌝ }
 {
-    let n = registrar_state::answer_refusal(state, registered, failed);
-    if n != 0 {
-        return registrar_state::flatten(Answer::Refused(n));
+    let n = registrar_state::chunk_count(state);
+    let k = registrar_state::answer_refusal(state, registered, failed, n);
+    if k != 0 {
+        return registrar_state::simple(k, 0, 0, 0, 0, 0);
     }
-    let q = registrar_state::load(state);
-    let rest = registrar_state::rest_of(state);
-    let to = registrar_state::taken_to(state, rest);
-    chunks::set_chunks(registered, q.from, to);
-    let p = registrar_state::done_plan(state, registered, failed, rest);
-    chunks::set_chunks(registered, p.from, p.to);
-    registrar_state::save(state, p.request);
-    let answer = p.answer;
-    registrar_state::flatten(answer)
+    if state[0] == 1 {
+        return register_done(state, registered, failed, n);
+    }
+    all_done(state, registered, failed)
 }
 
 // The operation asked for failed.
@@ -125,9 +223,10 @@ pub extern "C" fn registrar_answer_failed(
 ) -> Reply
     ensures { λ r. ⌜ outcome (now (state .exit)) (now (registered .exit)) (now (failed .exit)) r ≡ failedOf (world (now (state .entry)) (now (registered .entry)) (now (failed .entry))) ⌝ }
 {
-    let n = registrar_state::answer_refusal(state, registered, failed);
-    if n != 0 {
-        return registrar_state::flatten(Answer::Refused(n));
+    let n = registrar_state::chunk_count(state);
+    let k = registrar_state::answer_refusal(state, registered, failed, n);
+    if k != 0 {
+        return registrar_state::simple(k, 0, 0, 0, 0, 0);
     }
     let q = registrar_state::load(state);
     chunks::set_chunks(failed, q.from, q.to);

@@ -276,7 +276,7 @@ nothing-touched tail f r q first last bs h =
     let s : Seen = seen (g tail f last) (es tail f last) r f in
     let e : ℕ = min last (chunkCount (g tail f last) (es tail f last)) in
     let d : ends first first (Done 0) ≡ registerFrom s (o tail f last) 0 first last =
-    register-done s (o tail f last) 0 first last e first (ends first first (Done 0)) refl (sym (first-end (passes s) first e (omega arith))) (omega arith) refl in
+    register-done s (o tail f last) 0 first last e first refl (sym (first-end (passes s) first e (omega arith))) (ends first first (Done 0)) (omega arith) refl in
     match-told 0 _ _ _
     (ap (λ (x : Outcome). follow x bs)
     (ap (carriedOut (at tail f last q r)) (sym d) ∙ ap (λ (l : List ℕ). outcome (requestWords idle ++ tail) l f (flatOf (Done 0))) (marked-none first r))

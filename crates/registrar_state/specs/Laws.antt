@@ -2,7 +2,7 @@
 use native.Mathlib.Omega.{arith}
 use native.Mathlib.Decide.{decLt}
 use mathlib.Core.Path.{_≡_, refl, sym, ap, ap₂, _∙_}
-use mathlib.Core.Bool.{Bool, true, false, not, cond, _&&_}
+use mathlib.Core.Bool.{Bool, true, false, not, cond, _||_, _&&_}
 use mathlib.Core.List.{List, [], _∷_, _++_}
 use Prim.Native.Nat.{ℕ, _+_, _-_, _*_, _/_, _%_, _^_, _≤_, _<_, min, max}
 use lib.Dec.{eqb, leb, ltb}
@@ -17,15 +17,15 @@ use Rattle.bitmap.proofs.Map.{already}
 use Rattle.layout.specs.declared.MemoryRange.{MemoryRange}
 use Rattle.layout.specs.declared.MemoryRangeWithNode.{MemoryRangeWithNode}
 use Rattle.layout.specs.Layout.{entriesOf, refusalOf, lastEnd, spans}
-use Rattle.chunks.specs.Chunks.{chunkCount, mapWords, firstChunk, endChunk, isPower, empty, pieces, firstOf, firstNot}
+use Rattle.chunks.specs.Chunks.{up, chunkCount, firstChunk, endChunk, isPower, firstNot}
 use Rattle.chunks.specs.Scan.{first-holds, first-all}
-use Rattle.chunks.specs.Laws.{not-empty}
 use Rattle.registrar_steps.specs.declared.Request.{Request}
 use Rattle.registrar_steps.specs.declared.Answer.the-variants.{Done}
 use Rattle.registrar_steps.specs.declared.Plan.{Plan}
-use Rattle.registrar_steps.specs.Steps.{Seen, seen, idle, isIdle, asks, ends, ramFrom, passes, pieceOf, registerFrom, allFrom}
+use Rattle.registrar_steps.specs.declared.Stop.{Stop}
+use Rattle.registrar_steps.specs.Steps.{Seen, seen, idle, isIdle, ends, ramFrom, passes, stopAt, allFrom}
 use Rattle.registrar_steps.specs.Laws.{register-done}
-use Rattle.registrar_state.specs.World.{World, outcome, requestOf, requestWords, withRequest, offsetOf, granularityOf, ramOf, entriesIn, seenIn, flatOf, lengthsFit, buildRefusal, callRefusal, chunksFit, marked, carriedOut, registerPlan, allPlan, isKnown, restOf, hasRest, takenTo, donePlan}
+use Rattle.registrar_state.specs.World.{World, outcome, requestOf, requestWords, withRequest, offsetOf, granularityOf, ramOf, entriesIn, seenIn, flatOf, lengthsFit, buildRefusal, callRefusal, chunksFit, marked, carriedOut, registerPlan, isKnown, restOf}
 
 -- ---- the request's words
 
@@ -67,12 +67,19 @@ ram-is s n h e = elim (decLt (getD s 11 0) 32) [
 
 -- ---- lengths
 
-module _ (g : ℕ) (es : List MemoryRangeWithNode) (registered failed : List ℕ) (n : ℕ) (e : n ≡ mapWords g es) where
-  pub lengths-both : length registered ≡ n → eqb (length failed) n ≡ lengthsFit g es registered failed
-  lengths-both h = rw (eq-eqb (length registered) (mapWords g es) (h ∙ e)) (ap (eqb (length failed)) e)
+module _ (registered failed : List ℕ) (n : ℕ) where
+  -- both are of n chunks
+  abbrev pub bothOf : ℕ → Bool
+  bothOf n = eqb (length registered) (up n 64) && eqb (length failed) (up n 64)
 
-  pub lengths-not : (length registered ≡ n → ⊥) → false ≡ lengthsFit g es registered failed
-  lengths-not h = rw (ne-eqb (length registered) (mapWords g es) (λ q. h (q ∙ sym e)))
+  pub lengths-both : (k : ℕ) → k ≡ up n 64 → length registered ≡ k → eqb (length failed) k ≡ bothOf n
+  lengths-both k e h = rw (eq-eqb (length registered) (up n 64) (h ∙ e)) (ap (eqb (length failed)) e)
+
+  pub lengths-not : (k : ℕ) → k ≡ up n 64 → (length registered ≡ k → ⊥) → false ≡ bothOf n
+  lengths-not k e h = rw (ne-eqb (length registered) (up n 64) (λ q. h (q ∙ sym e)))
+
+  pub lengths-fit : (g : ℕ) (es : List MemoryRangeWithNode) (t : Bool) → n ≡ chunkCount g es → t ≡ bothOf n → t ≡ lengthsFit g es registered failed
+  lengths-fit g es t e q = q ∙ ap bothOf e
 
 -- ---- refusals of a call
 
@@ -109,13 +116,15 @@ module _ (w : World) where
     pub call-long : n ≡ 0 → length (w .state) ≡ 108
     call-long h = eqb-true _ _ (none-refused long free lengths n 0 e h .0)
 
-module _ (s : List ℕ) (first end : ℕ) where
-  pub fit-none : end ≤ first → true ≡ chunksFit s first end
+module _ (first end n : ℕ) where
+  pub fit-none : end ≤ first → true ≡ (leb end first || leb end n)
   fit-none h = rw (le-leb end first h)
 
-  pub fit-last : (ram : List ℕ) (n : ℕ) → ram ≡ ramOf s → n ≡ chunkCount (granularityOf s) (entriesOf ram) → first < end → leb end n ≡ chunksFit s first end
-  fit-last ram n hr hn h =
-      ap (leb end) (hn ∙ ap (λ (l : List ℕ). chunkCount (granularityOf s) (entriesOf l)) hr) ∙ sym (rw (lt-leb end first h))
+  pub fit-last : first < end → leb end n ≡ (leb end first || leb end n)
+  fit-last h = rw (lt-leb end first h)
+
+  pub fit-is : (s : List ℕ) (t : Bool) → n ≡ chunkCount (granularityOf s) (entriesIn s) → t ≡ (leb end first || leb end n) → t ≡ chunksFit s first end
+  fit-is s t e q = q ∙ ap (λ (k : ℕ). leb end first || leb end k) e
 
 -- ---- refusals of a build
 
@@ -165,68 +174,26 @@ module _ (w : World) (ram : List ℕ) (o g n : ℕ) (e : n ≡ refusalOf ram) wh
 
 -- ---- plans
 
-module _ (w : World) (ram : List ℕ) (p : Plan) (e : ram ≡ ramOf (w .state)) where
+module _ (w : World) (ram : List ℕ) (e : ram ≡ ramOf (w .state)) where
   abbrev seenOver : List ℕ → Seen
   seenOver l = seen (granularityOf (w .state)) (entriesOf l) (w .registered) (w .failed)
 
-  pub register-planned : (first end : ℕ) → p ≡ registerFrom (seenOver ram) (offsetOf (w .state)) 0 first end → p ≡ registerFrom (seenIn w) (offsetOf (w .state)) 0 first end
-  register-planned first end q = q ∙ ap (λ (r : List ℕ). registerFrom (seenOver r) (offsetOf (w .state)) 0 first end) e
+  pub stop-planned : (a : Stop) (from to : ℕ) → a ≡ stopAt (seenOver ram) from to → a ≡ stopAt (seenIn w) from to
+  stop-planned a from to q = q ∙ ap (λ (r : List ℕ). stopAt (seenOver r) from to) e
 
-  pub all-planned : (al ignore : ℕ) → p ≡ allFrom (seenOver ram) (offsetOf (w .state)) 0 al ignore 0 (spans (entriesOf ram)) → p ≡ allPlan w al ignore
-  all-planned al ignore q = q ∙ ap (λ (r : List ℕ). allFrom (seenOver r) (offsetOf (w .state)) 0 al ignore 0 (spans (entriesOf r))) e
+  pub all-planned : (p : Plan) (n al ignore c : ℕ) → p ≡ allFrom (seenOver ram) (offsetOf (w .state)) n al ignore c (spans (entriesOf ram))
+      → p ≡ allFrom (seenIn w) (offsetOf (w .state)) n al ignore c (spans (entriesIn (w .state)))
+  all-planned p n al ignore c q = q ∙ ap (λ (r : List ℕ). allFrom (seenOver r) (offsetOf (w .state)) n al ignore c (spans (entriesOf r))) e
 
--- ---- an operation done
+pub rest-is : (s ram : List ℕ) (r : MemoryRange) → ram ≡ ramOf s → r ≡ ramFrom (granularityOf s) (entriesOf ram) (getD s 2 0) (getD s 5 0) → r ≡ restOf s
+rest-is s ram r h f = f ∙ ap (λ (l : List ℕ). ramFrom (granularityOf s) (entriesOf l) (getD s 2 0) (getD s 5 0)) h
 
-module _ (s : List ℕ) (q : Request) (e : q ≡ requestOf s) where
-  pub rest-is : (ram : List ℕ) (r : MemoryRange) → ram ≡ ramOf s → r ≡ firstOf (pieces (q .end) ((q .from + 1) * granularityOf s) (spans (entriesOf ram))) → r ≡ restOf s
-  rest-is ram r h f =
-      f ∙ ap₂ (λ (q : Request) (l : List ℕ). ramFrom (granularityOf s) (entriesOf l) (q .from) (q .end)) e h
+-- the count, of the layout's words
+pub count-is : (s ram : List ℕ) (n : ℕ) → ram ≡ ramOf s → n ≡ chunkCount (granularityOf s) (entriesOf ram) → n ≡ chunkCount (granularityOf s) (entriesIn s)
+count-is s ram n h e = e ∙ ap (λ (l : List ℕ). chunkCount (granularityOf s) (entriesOf l)) h
 
-  module _ (r : MemoryRange) (t : Bool) (hr : r ≡ restOf s) (ht : t ≡ (eqb (q .kind) 1 && not (empty r))) where
-    pub has-is : t ≡ hasRest s
-    has-is = ht ∙ ap₂ (λ (q : Request) (r : MemoryRange). eqb (q .kind) 1 && not (empty r)) e hr
-
-    pub taken-none : t ≡ true → q .from ≡ takenTo s
-    taken-none k = ap (λ (q : Request). q .from) e ∙ sym (rw (sym has-is ∙ k))
-
-    pub taken-all : t ≡ false → q .to ≡ takenTo s
-    taken-all k = ap (λ (q : Request). q .to) e ∙ sym (rw (sym has-is ∙ k))
-
-pub rest-here : (kind : ℕ) (r : MemoryRange) → kind ≡ 1 → ltb (r .start) (r .end) ≡ (eqb kind 1 && not (empty r))
-rest-here kind r h = not-empty r ∙ sym (rw (eq-eqb kind 1 h))
-
-pub rest-nowhere : (kind : ℕ) (r : MemoryRange) → (kind ≡ 1 → ⊥) → false ≡ (eqb kind 1 && not (empty r))
-rest-nowhere kind r h = rw (ne-eqb kind 1 h)
-
-module _ (w : World) (q : Request) (p : Plan) (e : q ≡ requestOf (w .state)) (t : Bool) (h : t ≡ hasRest (w .state)) where
-  on : Request → List ℕ → Plan
-  on q ram =
-      cond (eqb (q .kind) 1)
-      (registerFrom (seen (granularityOf (w .state)) (entriesOf ram) (w .registered) (w .failed)) (offsetOf (w .state)) (q .count) (q .to) (q .until))
-      (allFrom (seen (granularityOf (w .state)) (entriesOf ram) (w .registered) (w .failed)) (offsetOf (w .state)) (q .count) (q .alignment) (q .ignore) (q .to) (spans (entriesOf ram)))
-
-  pub done-rest : (m : Request) (r : MemoryRange) → t ≡ true → r ≡ restOf (w .state) → m ≡ pieceOf (q .count) (q .from) (q .to) (q .until) r
-      → p ≡ asks (offsetOf (w .state)) 0 0 m → p ≡ donePlan w
-  done-rest m r k hr hm hp =
-      hp ∙ ap (asks (offsetOf (w .state)) 0 0) (hm ∙ ap₂ (λ (q : Request) (r : MemoryRange). pieceOf (q .count) (q .from) (q .to) (q .until) r) e hr)
-      ∙ sym (rw (sym h ∙ k))
-
-  module _ (ram : List ℕ) (k : t ≡ false) (f : ram ≡ ramOf (w .state)) where
-    goes-on : on q ram ≡ donePlan w
-    unfolding on
-    goes-on = ap₂ on e f ∙ sym (rw (sym h ∙ k))
-
-    pub done-register : q .kind ≡ 1
-        → p ≡ registerFrom (seen (granularityOf (w .state)) (entriesOf ram) (w .registered) (w .failed)) (offsetOf (w .state)) (q .count) (q .to) (q .until)
-        → p ≡ donePlan w
-    unfolding on
-    done-register d hp = hp ∙ sym (rw (eq-eqb (q .kind) 1 d)) ∙ goes-on
-
-    pub done-all : (q .kind ≡ 1 → ⊥)
-        → p ≡ allFrom (seen (granularityOf (w .state)) (entriesOf ram) (w .registered) (w .failed)) (offsetOf (w .state)) (q .count) (q .alignment) (q .ignore) (q .to) (spans (entriesOf ram))
-        → p ≡ donePlan w
-    unfolding on
-    done-all d hp = hp ∙ sym (rw (ne-eqb (q .kind) 1 d)) ∙ goes-on
+pub count-of : (s ram : List ℕ) (n : ℕ) → ram ≡ ramOf s → n ≡ chunkCount (granularityOf s) (entriesIn s) → n ≡ chunkCount (granularityOf s) (entriesOf ram)
+count-of s ram n h e = e ∙ ap (λ (l : List ℕ). chunkCount (granularityOf s) (entriesOf l)) (sym h)
 
 -- ---- a request that finds its chunks registered
 
@@ -285,7 +252,7 @@ module _ (w : World) (address len : ℕ) (h : length (w .state) ≡ 108)
       ∙ known-at (j * 64 + c) (between-from first stop (j * 64 + c) p) (omega (arith, known-stop, between-from first stop (j * 64 + c) p, between-to first stop (j * 64 + c) p)))
 
   known-plan : ends first stop (Done 0) ≡ registerPlan w address len
-  known-plan = register-done (seenIn w) (offsetOf (w .state)) 0 first end to stop (ends first stop (Done 0)) refl refl (omega (arith, known-stop)) refl
+  known-plan = register-done (seenIn w) (offsetOf (w .state)) 0 first end to stop refl refl (ends first stop (Done 0)) (omega (arith, known-stop)) refl
 
   known-state : w .state ≡ withRequest idle (w .state)
   known-state =

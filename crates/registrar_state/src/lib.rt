@@ -1,19 +1,19 @@
 // The state block of the registrar: what it holds, what refuses a call, and what a call plans.
 ghost use mathlib.Core.Path.{_≡_};
-ghost use Prim.Native.Nat.{_+_, _≤_, min};
-ghost use mathlib.Core.Bool.{not, _&&_};
-ghost use mathlib.Core.List.{List, []};
+ghost use Prim.Native.Nat.{_*_, _<_, _^_, min};
+ghost use mathlib.Core.Bool.{_||_, _&&_};
 ghost use lib.Dec.{eqb, leb};
-ghost use lib.ListN.{length, getD, replicate};
-ghost use Rattle.layout.specs.Layout.{entriesOf};
-ghost use Rattle.chunks.specs.Chunks.{isPower, empty};
-ghost use Rattle.registrar_state.specs.World.{world, simple, flatUnaligned, outcome, requestOf, withRequest, offsetOf, granularityOf, ramOf, seenIn, builtState, flatOf, lengthsFit, buildRefusal, buildOf, callRefusal, chunksFit, allRefusal, isKnown, allPlan, registerOf, allOf, answerRefusal, failedOf, restOf, takenTo, donePlan, doneOf};
-ghost use Rattle.registrar_steps.specs.Steps.{registerFrom};
+ghost use lib.ListN.{length};
+ghost use Rattle.layout.specs.Layout.{spans};
+ghost use Rattle.chunks.specs.Chunks.{up, chunkCount, isPower};
+ghost use Rattle.registrar_state.specs.World.{world, simple, flatUnaligned, requestOf, withRequest, offsetOf, granularityOf, ramOf, entriesIn, seenIn, flatOf, buildRefusal, callRefusal, chunksFit, allRefusal, isKnown, answerRefusal, restOf};
+ghost use Rattle.registrar_steps.specs.Steps.{stopAt, allFrom};
 ghost use Rattle.laws.specs.Refusal.{unless};
 use layout::MemoryRange;
 use registrar_steps::Answer;
 use registrar_steps::Plan;
 use registrar_steps::Request;
+use registrar_steps::Stop;
 use registrar_steps::Unaligned;
 
 // What crosses: 01's number (0 where none), whether a Register of start to before end is asked, the count of a finished
@@ -36,7 +36,7 @@ pub struct Reply {
     pub alignment: u64,
 }
 
-fn simple(number: u64, asked: u64, count: u64, start: u64, end: u64, address: u64) -> Reply
+pub fn simple(number: u64, asked: u64, count: u64, start: u64, end: u64, address: u64) -> Reply
     ensures { λ r. ⌜ r ≡ simple number asked count start end address ⌝ }
 {
     Reply {
@@ -136,10 +136,11 @@ fn ram_of(state: &[u64]) -> &[u64]
     &state[12..end]
 }
 
-fn lengths_fit(ram: &[u64], g: u64, registered: &[u64], failed: &[u64]) -> bool
-    ensures { λ r. ⌜ r ≡ lengthsFit g (entriesOf (now (ram .entry))) (now (registered .entry)) (now (failed .entry)) ⌝ }
+// Whether the bitmaps are of n chunks.
+fn lengths_fit(n: u64, registered: &[u64], failed: &[u64]) -> bool
+    ensures { λ r. ⌜ r ≡ (eqb (length (now (registered .entry))) (up n 64) && eqb (length (now (failed .entry))) (up n 64)) ⌝ }
 {
-    let words = chunks::map_words(ram, g);
+    let words = chunks::map_words(n);
     if registered.len() as u64 == words {
         failed.len() as u64 == words
     } else {
@@ -147,15 +148,19 @@ fn lengths_fit(ram: &[u64], g: u64, registered: &[u64], failed: &[u64]) -> bool
     }
 }
 
-fn state_lengths_fit(state: &[u64], registered: &[u64], failed: &[u64]) -> bool
-    requires { ⌜ length (now state) ≡ 108 ⌝ }
-    ensures { λ r. ⌜ r ≡ lengthsFit (getD (now (state .entry)) 10 0) (entriesOf (ramOf (now (state .entry)))) (now (registered .entry)) (now (failed .entry)) ⌝ }
+// How many chunks there are: 0 where the state block has another length.
+pub fn chunk_count(state: &[u64]) -> u64
+    ensures { λ r. ⌜ (length (now (state .entry)) ≡ 108 → r ≡ chunkCount (granularityOf (now (state .entry))) (entriesIn (now (state .entry)))) ⌝ }
 {
-    lengths_fit(ram_of(state), state[10], registered, failed)
+    if state.len() != 108 {
+        return 0;
+    }
+    chunks::chunk_count(ram_of(state), state[10])
 }
 
 // 4, 19, 4 for a call, else 0.
-fn call_refusal(state: &[u64], registered: &[u64], failed: &[u64]) -> u64
+fn call_refusal(state: &[u64], registered: &[u64], failed: &[u64], n: u64) -> u64
+    requires { ⌜ (length (now state) ≡ 108 → n ≡ chunkCount (granularityOf (now state)) (entriesIn (now state))) ⌝ }
     ensures { λ r. ⌜ r ≡ callRefusal (world (now (state .entry)) (now (registered .entry)) (now (failed .entry))) 0 ⌝ }
 {
     if state.len() != 108 {
@@ -164,21 +169,20 @@ fn call_refusal(state: &[u64], registered: &[u64], failed: &[u64]) -> u64
     if state[0] != 0 {
         return 19;
     }
-    if !state_lengths_fit(state, registered, failed) {
+    if !lengths_fit(n, registered, failed) {
         return 4;
     }
     0
 }
 
-// Whether no chunk past the last is touched.
-fn chunks_fit(state: &[u64], first: u64, end: u64) -> bool
-    requires { ⌜ length (now state) ≡ 108 ⌝ }
-    ensures { λ r. ⌜ r ≡ chunksFit (now (state .entry)) first end ⌝ }
+// Whether none of the chunks from `first` to before `end` is past the last of n.
+fn chunks_fit(n: u64, first: u64, end: u64) -> bool
+    ensures { λ r. ⌜ r ≡ (leb end first || leb end n) ⌝ }
 {
     if end <= first {
         return true;
     }
-    end <= chunks::chunk_count(ram_of(state), state[10])
+    end <= n
 }
 
 // 0 where the state block is too short.
@@ -193,16 +197,18 @@ pub fn register_refusal(
     state: &[u64],
     registered: &[u64],
     failed: &[u64],
+    n: u64,
     first: u64,
     end: u64,
 ) -> u64
+    requires { ⌜ (length (now state) ≡ 108 → n ≡ chunkCount (granularityOf (now state)) (entriesIn (now state))) ⌝ }
     ensures { λ r. ⌜ r ≡ callRefusal (world (now (state .entry)) (now (registered .entry)) (now (failed .entry))) (unless (chunksFit (now (state .entry)) first end) 9 0) ⌝ }
 {
-    let n = call_refusal(state, registered, failed);
-    if n != 0 {
-        return n;
+    let k = call_refusal(state, registered, failed, n);
+    if k != 0 {
+        return k;
     }
-    if chunks_fit(state, first, end) { 0 } else { 9 }
+    if chunks_fit(n, first, end) { 0 } else { 9 }
 }
 
 fn is_power_from(least: u64, n: u64) -> bool
@@ -219,14 +225,16 @@ pub fn all_refusal(
     state: &[u64],
     registered: &[u64],
     failed: &[u64],
+    n: u64,
     alignment: u64,
     ignore: u64,
 ) -> u64
+    requires { ⌜ (length (now state) ≡ 108 → n ≡ chunkCount (granularityOf (now state)) (entriesIn (now state))) ⌝ }
     ensures { λ r. ⌜ r ≡ allRefusal (world (now (state .entry)) (now (registered .entry)) (now (failed .entry))) alignment ignore ⌝ }
 {
-    let n = call_refusal(state, registered, failed);
-    if n != 0 {
-        return n;
+    let k = call_refusal(state, registered, failed, n);
+    if k != 0 {
+        return k;
     }
     if 1 < ignore {
         return 8;
@@ -238,13 +246,14 @@ pub fn all_refusal(
     }
 }
 
-pub fn answer_refusal(state: &[u64], registered: &[u64], failed: &[u64]) -> u64
+pub fn answer_refusal(state: &[u64], registered: &[u64], failed: &[u64], n: u64) -> u64
+    requires { ⌜ (length (now state) ≡ 108 → n ≡ chunkCount (granularityOf (now state)) (entriesIn (now state))) ⌝ }
     ensures { λ r. ⌜ r ≡ answerRefusal (world (now (state .entry)) (now (registered .entry)) (now (failed .entry))) ⌝ }
 {
     if state.len() != 108 {
         return 4;
     }
-    if !state_lengths_fit(state, registered, failed) {
+    if !lengths_fit(n, registered, failed) {
         return 4;
     }
     if state[0] == 0 {
@@ -282,7 +291,7 @@ pub fn build_refusal(
     if state.len() != 108 {
         return 4;
     }
-    if lengths_fit(ram, g, registered, failed) {
+    if lengths_fit(chunks::chunk_count(ram, g), registered, failed) {
         0
     } else {
         4
@@ -300,37 +309,33 @@ pub fn is_known(state: &[u64], registered: &[u64], first: u64, end: u64) -> bool
     end <= chunks::first_clear(registered, first, end)
 }
 
-pub fn register_plan(
+// From chunk `from` on, of a request that ends before chunk `until`.
+pub fn register_stop(
     state: &[u64],
     registered: &[u64],
     failed: &[u64],
-    first: u64,
-    end: u64,
-) -> Plan
-    requires { ⌜ length (now state) ≡ 108 ⌝ }
-    ensures { λ r. ⌜ r ≡ registerFrom (seenIn (world (now (state .entry)) (now (registered .entry)) (now (failed .entry)))) (offsetOf (now (state .entry))) 0 first end ⌝ }
+    n: u64,
+    from: u64,
+    until: u64,
+) -> Stop
+    requires { ⌜ (length (now state) ≡ 108) × (n ≡ chunkCount (granularityOf (now state)) (entriesIn (now state))) ⌝ }
+    ensures { λ r. ⌜ (r ≡ stopAt (seenIn (world (now (state .entry)) (now (registered .entry)) (now (failed .entry)))) from (min until n)) × (r .chunk < min until n → r .chunk * granularityOf (now (state .entry)) < 2 ^ 64) ⌝ }
 {
-    registrar_steps::register_from(
-        ram_of(state),
-        state[9],
-        state[10],
-        registered,
-        failed,
-        0,
-        first,
-        end,
-    )
+    registrar_steps::register_from(ram_of(state), state[10], registered, failed, n, from, until)
 }
 
+// From chunk c on, of a call that has asked `count` times.
 pub fn all_plan(
     state: &[u64],
     registered: &[u64],
     failed: &[u64],
+    count: u64,
     alignment: u64,
     ignore: u64,
+    c: u64,
 ) -> Plan
     requires { ⌜ length (now state) ≡ 108 ⌝ }
-    ensures { λ r. ⌜ r ≡ allPlan (world (now (state .entry)) (now (registered .entry)) (now (failed .entry))) alignment ignore ⌝ }
+    ensures { λ r. ⌜ r ≡ allFrom (seenIn (world (now (state .entry)) (now (registered .entry)) (now (failed .entry)))) (offsetOf (now (state .entry))) count alignment ignore c (spans (entriesIn (now (state .entry)))) ⌝ }
 {
     registrar_steps::all_from(
         ram_of(state),
@@ -338,77 +343,17 @@ pub fn all_plan(
         state[10],
         registered,
         failed,
-        0,
+        count,
         alignment,
         ignore,
-        0,
+        c,
     )
 }
 
 // Of a chunk of `register`, its RAM after what was taken.
-pub fn rest_of(state: &[u64]) -> MemoryRange
-    requires { ⌜ length (now state) ≡ 108 ⌝ }
+pub fn rest_of(state: &[u64], n: u64) -> MemoryRange
+    requires { ⌜ (length (now state) ≡ 108) × (n ≡ chunkCount (granularityOf (now state)) (entriesIn (now state))) ⌝ }
     ensures { λ r. ⌜ r ≡ restOf (now (state .entry)) ⌝ }
 {
-    let q = load(state);
-    chunks::next_ram(ram_of(state), state[10], q.from, q.end)
-}
-
-fn has_rest(kind: u64, rest: MemoryRange) -> bool
-    ensures { λ r. ⌜ r ≡ (eqb kind 1 && not (empty rest)) ⌝ }
-{
-    if kind == 1 {
-        rest.start < rest.end
-    } else {
-        false
-    }
-}
-
-// The chunks from `from` to before this become registered by an operation done.
-pub fn taken_to(state: &[u64], rest: MemoryRange) -> u64
-    requires { ⌜ (length (now state) ≡ 108) × (rest ≡ restOf (now state)) ⌝ }
-    ensures { λ r. ⌜ r ≡ takenTo (now (state .entry)) ⌝ }
-{
-    let q = load(state);
-    if has_rest(q.kind, rest) {
-        return q.from;
-    }
-    q.to
-}
-
-pub fn done_plan(state: &[u64], registered: &[u64], failed: &[u64], rest: MemoryRange) -> Plan
-    requires { ⌜ (length (now state) ≡ 108) × (rest ≡ restOf (now state)) ⌝ }
-    ensures { λ r. ⌜ r ≡ donePlan (world (now (state .entry)) (now (registered .entry)) (now (failed .entry))) ⌝ }
-{
-    let q = load(state);
-    let ram = ram_of(state);
-    let offset = state[9];
-    let g = state[10];
-    if has_rest(q.kind, rest) {
-        let more = registrar_steps::piece(q.count, q.from, q.to, q.until, rest);
-        return registrar_steps::ask(offset, 0, 0, more);
-    }
-    if q.kind == 1 {
-        return registrar_steps::register_from(
-            ram,
-            offset,
-            g,
-            registered,
-            failed,
-            q.count,
-            q.to,
-            q.until,
-        );
-    }
-    registrar_steps::all_from(
-        ram,
-        offset,
-        g,
-        registered,
-        failed,
-        q.count,
-        q.alignment,
-        q.ignore,
-        q.to,
-    )
+    registrar_steps::rest_of(ram_of(state), state[10], n, state[2], state[5])
 }

@@ -2,29 +2,30 @@
 use native.Mathlib.Omega.{arith}
 use native.Mathlib.Decide.{decLt}
 use mathlib.Core.Path.{_≡_, refl, sym, ap, ap₂, _∙_}
-use mathlib.Core.Bool.{Bool, true, false, not, cond, _&&_}
+use mathlib.Core.Bool.{Bool, true, false, not, cond, _||_, _&&_}
 use mathlib.Core.List.{List}
 use Prim.Native.Nat.{ℕ, _+_, _-_, _*_, _/_, _^_, _≤_, _<_, min, max}
-use native.Mathlib.Nat.{mul-le-mul-right}
+use native.Mathlib.Nat.{add-mul, mul-le-mul-right}
 use lib.Dec.{eqb, ltb}
 use lib.ListN.{length, getD, drop}
-use borrow.Author.Tests.{lt-ltb, le-ltb, le-leb, lt-leb}
+use borrow.Author.Tests.{eq-eqb, ne-eqb, lt-ltb, le-ltb, le-leb, lt-leb}
 use Rattle.bitmap.specs.Pages.{bitAt}
 use Rattle.layout.specs.declared.MemoryRange.{MemoryRange}
 use Rattle.layout.specs.declared.MemoryRangeWithNode.{MemoryRangeWithNode}
 use Rattle.layout.specs.declared.Span.{Span}
 use Rattle.layout.specs.Layout.{range, entriesOf, lastEnd, spans, spanAt}
 use Rattle.layout.proofs.Laws.{entries-at, entries-past, spans-end}
-use Rattle.chunks.specs.Chunks.{chunkCount, empty, firstNot, alike, alignedPart, edgeOf}
-use Rattle.chunks.specs.Laws.{below-up, span-step}
-use Rattle.chunks.specs.Scan.{first-to}
+use Rattle.chunks.specs.Chunks.{chunkCount, empty, pieces, firstOf, firstNot, alike, alignedPart, edgeOf}
+use Rattle.chunks.specs.Laws.{below-up, pieces-past, span-step}
+use Rattle.chunks.specs.Scan.{first-step, first-stop, first-end, first-to}
 use Rattle.registrar_steps.specs.declared.Request.{Request}
 use Rattle.registrar_steps.specs.declared.Unaligned.{Unaligned}
 use Rattle.registrar_steps.specs.declared.Answer.the-variants.{Done, RegistrationFailed, UnalignedMemory}
+use Rattle.registrar_steps.specs.declared.Stop.{Stop}
 use Rattle.registrar_steps.specs.declared.Look.{Look}
 use Rattle.registrar_steps.specs.declared.Look.the-variants.{Nothing, Edge, FailedBefore, Stretch}
 use Rattle.registrar_steps.specs.declared.Plan.{Plan}
-use Rattle.registrar_steps.specs.Steps.{Seen, asks, ends, ramFrom, passes, pieceOf, registerFrom, stretchIn, lookAt, unalignedAt, stretchOf, isNothing, found, allFrom}
+use Rattle.registrar_steps.specs.Steps.{Seen, asks, ends, ramFrom, passes, pieceOf, registerFrom, stop, offerOf, stopAt, stopPlan, stretchIn, lookAt, unalignedAt, stretchOf, isNothing, found, allFrom}
 
 -- ---- register, from a chunk on
 
@@ -39,7 +40,14 @@ last-fits ws h = elim (decLt (length (entriesOf ws) - 1) (length ws / 3)) [
 pub walk-fits : (ws : List ℕ) (g until n e c : ℕ) → ((j : ℕ) → getD ws j 0 < 2 ^ 64) → n ≡ chunkCount g (entriesOf ws) → e ≡ min until n → c < e → c * g < 2 ^ 64
 walk-fits ws g until n e c h q f k = omega (arith, below-up (lastEnd (entriesOf ws)) g c (omega arith), last-fits ws h)
 
-module _ (s : Seen) (o n c until e t : ℕ) (p : Plan) (he : e ≡ min until (chunkCount (s .granularity) (s .entries))) (ht : t ≡ firstNot (passes s) c e) where
+-- a chunk that ends at x or before has no RAM from there on
+pub whole-ends : (c g x : ℕ) → c * g ≤ x → g ≤ x - c * g → (c + 1) * g ≤ x
+whole-ends c g x h k = omega (arith, add-mul c 1 g)
+
+pub whole-rest : (es : List MemoryRangeWithNode) (g c x : ℕ) → (c + 1) * g ≤ x → range 0 0 ≡ ramFrom g es c x
+whole-rest es g c x h = sym (ap firstOf (pieces-past es x ((c + 1) * g) 0 (spans es) h))
+
+module _ (s : Seen) (o n c until e t : ℕ) (he : e ≡ min until (chunkCount (s .granularity) (s .entries))) (ht : t ≡ firstNot (passes s) c e) where
   stopped : ℕ → ℕ → Plan
   stopped e t =
       cond (ltb t e)
@@ -51,18 +59,111 @@ module _ (s : Seen) (o n c until e t : ℕ) (p : Plan) (he : e ≡ min until (ch
   unfolding registerFrom stopped
   from-stopped = ap₂ stopped he (ht ∙ ap (firstNot (passes s) c) he)
 
-  pub register-done : e ≤ t → p ≡ ends c t (Done n) → p ≡ registerFrom s o n c until
+  pub register-done : (p : Plan) → e ≤ t → p ≡ ends c t (Done n) → p ≡ registerFrom s o n c until
   unfolding stopped
-  register-done h q = q ∙ sym (rw (le-ltb t e h)) ∙ from-stopped
+  register-done p h q = q ∙ sym (rw (le-ltb t e h)) ∙ from-stopped
 
-  module _ (h : t < e) where
-    pub register-failed : bitAt 64 (s .failed) t ≡ true → p ≡ ends c t (RegistrationFailed (t * s .granularity) n) → p ≡ registerFrom s o n c until
-    unfolding stopped
-    register-failed f q = q ∙ sym (rw (lt-ltb t e h, f)) ∙ from-stopped
+  pub register-stopped : (a : Stop) → a ≡ stopAt s c e → stopPlan o n c until a ≡ registerFrom s o n c until
+  unfolding stopAt stopped
+  register-stopped a h =
+      ap (stopPlan o n c until) (h ∙ ap numbers (sym ht)) ∙ go (ltb t e) (bitAt 64 (s .failed) t) ∙ from-stopped
+    where
+      numbers : ℕ → Stop
+      numbers t =
+          cond (ltb t e) (cond (bitAt 64 (s .failed) t) (stop 2 t (t * s .granularity) 0) (stop 1 t (ramFrom (s .granularity) (s .entries) t (t * s .granularity) .start) (ramFrom (s .granularity) (s .entries) t (t * s .granularity) .end)))
+          (stop 0 t 0 0)
 
-    pub register-asks : bitAt 64 (s .failed) t ≡ false → p ≡ asks o c t (pieceOf n t (t + 1) until (ramFrom (s .granularity) (s .entries) t (t * s .granularity))) → p ≡ registerFrom s o n c until
-    unfolding stopped
-    register-asks f q = q ∙ sym (rw (lt-ltb t e h, f)) ∙ from-stopped
+      go : (a b : Bool)
+          → stopPlan o n c until (cond a (cond b (stop 2 t (t * s .granularity) 0) (stop 1 t (ramFrom (s .granularity) (s .entries) t (t * s .granularity) .start) (ramFrom (s .granularity) (s .entries) t (t * s .granularity) .end))) (stop 0 t 0 0))
+          ≡ cond a (cond b (ends c t (RegistrationFailed (t * s .granularity) n)) (asks o c t (pieceOf n t (t + 1) until (ramFrom (s .granularity) (s .entries) t (t * s .granularity))))) (ends c t (Done n))
+      go true true = refl
+      go true false = refl
+      go false b = refl
+
+-- what a chunk asks for, one law for each case of it
+module _ (s : Seen) (c : ℕ) (a : Stop) where
+  pub offer-registered : bitAt 64 (s .registered) c ≡ true → a ≡ stop 0 c 0 0 → a ≡ offerOf s c
+  offer-registered t q = q ∙ sym (rw t)
+
+  module _ (t : bitAt 64 (s .registered) c ≡ false) where
+    pub offer-failed : bitAt 64 (s .failed) c ≡ true → a ≡ stop 2 c (c * s .granularity) 0 → a ≡ offerOf s c
+    offer-failed f q = q ∙ sym (rw (t, f))
+
+    module _ (f : bitAt 64 (s .failed) c ≡ false) (r : MemoryRange)
+        (e : r ≡ firstOf (pieces (c * s .granularity) (c * s .granularity + s .granularity) (spans (s .entries)))) where
+      asks-for : MemoryRange → Stop
+      asks-for r = cond (empty r) (stop 0 c 0 0) (stop 1 c (r .start) (r .end))
+
+      ram-is : r ≡ ramFrom (s .granularity) (s .entries) c (c * s .granularity)
+      ram-is = e ∙ ap (λ (y : ℕ). firstOf (pieces (c * s .granularity) y (spans (s .entries)))) (sym (add-mul c 1 (s .granularity) ∙ omega arith))
+
+      offer-left : asks-for r ≡ offerOf s c
+      unfolding asks-for
+      offer-left = ap asks-for ram-is ∙ sym (rw (t, f))
+
+      pub offer-none : r .end ≤ r .start → a ≡ stop 0 c 0 0 → a ≡ offerOf s c
+      unfolding asks-for
+      offer-none h q = q ∙ sym (rw (le-leb (r .end) (r .start) h)) ∙ offer-left
+
+      pub offer-some : r .start < r .end → a ≡ stop 1 c (r .start) (r .end) → a ≡ offerOf s c
+      unfolding asks-for
+      offer-some h q = q ∙ sym (rw (lt-leb (r .end) (r .start) h)) ∙ offer-left
+
+-- a chunk that asks for nothing
+offer-passes : (s : Seen) (c : ℕ) → eqb (offerOf s c .what) 0 ≡ passes s c
+offer-passes s c = go (bitAt 64 (s .registered) c) (bitAt 64 (s .failed) c) (empty (ramFrom (s .granularity) (s .entries) c (c * s .granularity)))
+  where
+    go : (a b d : Bool)
+        → eqb (cond a (stop 0 c 0 0) (cond b (stop 2 c (c * s .granularity) 0) (cond d (stop 0 c 0 0) (stop 1 c (ramFrom (s .granularity) (s .entries) c (c * s .granularity) .start) (ramFrom (s .granularity) (s .entries) c (c * s .granularity) .end)))) .what) 0
+        ≡ (a || (not b && d))
+    go true b d = refl
+    go false true d = refl
+    go false false true = refl
+    go false false false = refl
+
+module _ (s : Seen) (c e : ℕ) where
+  module _ (a : Stop) (q : a ≡ offerOf s c) (l : c < e) where
+    pub stop-hit : (a .what ≡ 0 → ⊥) → a ≡ stopAt s c e
+    unfolding stopAt
+    stop-hit h = q ∙ asked (bitAt 64 (s .registered) c) (bitAt 64 (s .failed) c) (empty (ramFrom (s .granularity) (s .entries) c (c * s .granularity))) (λ z. h (ap (λ (k : Stop). k .what) q ∙ z)) ∙ sym (rw (first-stop (passes s) c e l fails, lt-ltb c e l))
+      where
+        fails : passes s c ≡ false
+        fails = sym (offer-passes s c) ∙ ne-eqb (offerOf s c .what) 0 (λ z. h (ap (λ (k : Stop). k .what) q ∙ z))
+
+        two : Stop
+        two = stop 2 c (c * s .granularity) 0
+
+        one : Stop
+        one = stop 1 c (ramFrom (s .granularity) (s .entries) c (c * s .granularity) .start) (ramFrom (s .granularity) (s .entries) c (c * s .granularity) .end)
+
+        asked : (x y d : Bool) → (cond x (stop 0 c 0 0) (cond y two (cond d (stop 0 c 0 0) one)) .what ≡ 0 → ⊥)
+            → cond x (stop 0 c 0 0) (cond y two (cond d (stop 0 c 0 0) one)) ≡ cond y two one
+        asked true y d k = absurd (k refl)
+        asked false true d k = refl
+        asked false false true k = absurd (k refl)
+        asked false false false k = refl
+
+    pub stop-miss : a .what ≡ 0 → stopAt s c e ≡ stopAt s (c + 1) e
+    unfolding stopAt
+    stop-miss h = rw (first-step (passes s) c e l (sym (offer-passes s c) ∙ eq-eqb (offerOf s c .what) 0 (sym (ap (λ (k : Stop). k .what) q) ∙ h)))
+
+  pub stop-end : e ≤ c → stop 0 c 0 0 ≡ stopAt s c e
+  unfolding stopAt
+  stop-end h = sym (rw (first-end (passes s) c e h, le-ltb c e h))
+
+-- a chunk whose RAM is asked for is one before e
+pub stop-below : (s : Seen) (c e : ℕ) (a : Stop) → a ≡ stopAt s c e → a .what ≡ 1 → a .chunk < e
+unfolding stopAt
+stop-below s c e a q h = elim (decLt (firstNot (passes s) c e) e) [
+  | yes d ↦ omega (arith, below (bitAt 64 (s .failed) (firstNot (passes s) c e)) (stop 2 (firstNot (passes s) c e) (firstNot (passes s) c e * s .granularity) 0) (stop 1 (firstNot (passes s) c e) (ramFrom (s .granularity) (s .entries) (firstNot (passes s) c e) (firstNot (passes s) c e * s .granularity) .start) (ramFrom (s .granularity) (s .entries) (firstNot (passes s) c e) (firstNot (passes s) c e * s .granularity) .end)) refl refl (q ∙ rw (lt-ltb (firstNot (passes s) c e) e d)), d)
+  | no d ↦
+      let ended : a ≡ stop 0 (firstNot (passes s) c e) 0 0 = q ∙ rw (le-ltb (firstNot (passes s) c e) e (omega arith)) in
+      absurd (omega (arith, ap (λ (k : Stop). k .what) ended))
+]
+  where
+    below : (b : Bool) (x y : Stop) → x .chunk ≡ firstNot (passes s) c e → y .chunk ≡ firstNot (passes s) c e → a ≡ cond b x y → a .chunk ≡ firstNot (passes s) c e
+    below true x y k l r = ap (λ (k : Stop). k .chunk) r ∙ k
+    below false x y k l r = ap (λ (k : Stop). k .chunk) r ∙ l
 
 -- ---- register_all_aligned: the chunks of a span's aligned part
 

@@ -12,6 +12,7 @@ use Rattle.registrar_steps.specs.declared.Request.{Request}
 use Rattle.registrar_steps.specs.declared.Unaligned.{Unaligned}
 use Rattle.registrar_steps.specs.declared.Answer.{Answer}
 use Rattle.registrar_steps.specs.declared.Answer.the-variants.{Done, Register, RegistrationFailed, UnalignedMemory}
+use Rattle.registrar_steps.specs.declared.Stop.{Stop}
 use Rattle.registrar_steps.specs.declared.Look.{Look}
 use Rattle.registrar_steps.specs.declared.Look.the-variants.{Nothing, Edge, FailedBefore, Stretch}
 use Rattle.registrar_steps.specs.declared.Plan.{Plan}
@@ -74,6 +75,31 @@ registerFrom s offset n c until =
     (cond (bitAt 64 (s .failed) t) (ends c t (RegistrationFailed (t * s .granularity) n))
     (asks offset c t (pieceOf n t (t + 1) until (ramFrom (s .granularity) (s .entries) t (t * s .granularity)))))
     (ends c t (Done n))
+
+-- the same in numbers, as the code finds it: 0 at the end, 1 at a chunk with RAM to ask for, 2 at one that failed before
+abbrev pub stop : ℕ → ℕ → ℕ → ℕ → Stop
+stop what c x y = record { what = what; chunk = c; start = x; end = y }
+
+-- what chunk c asks for
+abbrev pub offerOf : Seen → ℕ → Stop
+offerOf s c =
+    let r : MemoryRange = ramFrom (s .granularity) (s .entries) c (c * s .granularity) in
+    cond (bitAt 64 (s .registered) c) (stop 0 c 0 0)
+    (cond (bitAt 64 (s .failed) c) (stop 2 c (c * s .granularity) 0)
+    (cond (empty r) (stop 0 c 0 0) (stop 1 c (r .start) (r .end))))
+
+-- from chunk c to before e
+unfoldable pub stopAt : Seen → ℕ → ℕ → Stop
+stopAt s c e =
+    let t : ℕ = firstNot (passes s) c e in
+    let r : MemoryRange = ramFrom (s .granularity) (s .entries) t (t * s .granularity) in
+    cond (ltb t e) (cond (bitAt 64 (s .failed) t) (stop 2 t (t * s .granularity) 0) (stop 1 t (r .start) (r .end))) (stop 0 t 0 0)
+
+-- its plan
+abbrev pub stopPlan : ℕ → ℕ → ℕ → ℕ → Stop → Plan
+stopPlan offset n c until a =
+    cond (eqb (a .what) 1) (asks offset c (a .chunk) (pieceOf n (a .chunk) (a .chunk + 1) until (range (a .start) (a .end))))
+    (cond (eqb (a .what) 2) (ends c (a .chunk) (RegistrationFailed (a .start) n)) (ends c (a .chunk) (Done n)))
 
 -- ---- register_all_aligned
 

@@ -1,12 +1,12 @@
 // What the registrar does next. Nothing here writes.
 ghost use mathlib.Core.Path.{_≡_};
-ghost use Prim.Native.Nat.{ℕ, _*_, _<_, _^_};
-ghost use mathlib.Core.Bool.{false, not, _&&_};
+ghost use Prim.Native.Nat.{ℕ, _+_, _*_, _≤_, _<_, _^_, min};
+ghost use mathlib.Core.Bool.{true, not, _&&_};
 ghost use lib.Dec.{eqb, ltb};
 ghost use Rattle.bitmap.specs.Pages.{bitAt};
 ghost use Rattle.layout.specs.Layout.{entriesOf, spans};
-ghost use Rattle.chunks.specs.Chunks.{empty, firstNot};
-ghost use Rattle.registrar_steps.specs.Steps.{seen, ramFrom, idle, isIdle, askedOf, asks, ends, passes, pieceOf, registerFrom, stretchIn, lookAt, unalignedAt, stretchOf, isNothing, found, allFrom};
+ghost use Rattle.chunks.specs.Chunks.{chunkCount, empty};
+ghost use Rattle.registrar_steps.specs.Steps.{seen, ramFrom, idle, isIdle, askedOf, asks, ends, pieceOf, stop, offerOf, stopAt, stretchIn, lookAt, unalignedAt, stretchOf, isNothing, found, allFrom};
 use layout::MemoryRange;
 
 // The request under way. kind: 0 nothing asked, 1 register, else register_all_aligned. The chunks from `from` to before
@@ -41,16 +41,12 @@ pub enum Answer {
     Refused(u64),
 }
 
-// What a chunk asks for: nothing, or its first RAM.
-struct Offer {
-    passed: bool,
-    ram: MemoryRange,
-}
-
-// Where a walk over chunks ends, and the first RAM of that chunk.
-struct Stop {
-    chunk: u64,
-    ram: MemoryRange,
+// Where `register` stops: 0 at the end, 1 at a chunk with RAM to ask for, 2 at one that failed before, with its address.
+pub struct Stop {
+    pub what: u64,
+    pub chunk: u64,
+    pub start: u64,
+    pub end: u64,
 }
 
 // What is next in a span.
@@ -74,54 +70,93 @@ pub struct Plan {
     pub answer: Answer,
 }
 
-// What chunk c asks for: whether nothing, and its first RAM where it has not failed before.
-fn offer_of(ram: &[u64], g: u64, registered: &[u64], failed: &[u64], c: u64) -> Offer
-    requires { ⌜ c * g < 2 ^ 64 ⌝ }
-    ensures { λ r. ⌜ (r .passed ≡ passes (seen g (entriesOf (now (ram .entry))) (now (registered .entry)) (now (failed .entry))) c) × (r .passed ≡ false → bitAt 64 (now (failed .entry)) c ≡ false → r .ram ≡ ramFrom g (entriesOf (now (ram .entry))) c (c * g)) ⌝ }
+fn stop_of(what: u64, chunk: u64, start: u64, end: u64) -> Stop
+    ensures { λ r. ⌜ r ≡ stop what chunk start end ⌝ }
 {
-    let nothing = MemoryRange { start: 0, end: 0 };
+    Stop {
+        what: what,
+        chunk: chunk,
+        start: start,
+        end: end,
+    }
+}
+
+// What chunk c asks for.
+fn offer_of(ram: &[u64], g: u64, registered: &[u64], failed: &[u64], c: u64) -> Stop
+    requires { ⌜ c * g < 2 ^ 64 ⌝ }
+    ensures { λ r. ⌜ r ≡ offerOf (seen g (entriesOf (now (ram .entry))) (now (registered .entry)) (now (failed .entry))) c ⌝ }
+{
     if bitmap::get(registered, c) {
-        return Offer {
-            passed: true,
-            ram: nothing,
-        };
+        return stop_of(0, c, 0, 0);
     }
-    if bitmap::get(failed, c) {
-        return Offer {
-            passed: false,
-            ram: nothing,
-        };
+    let start = c * g;
+    let failed_before = bitmap::get(failed, c);
+    if failed_before {
+        return stop_of(2, c, start, 0);
     }
-    let first = chunks::next_ram(ram, g, c, c * g);
-    let passed = first.end <= first.start;
-    Offer {
-        passed: passed,
-        ram: first,
+    let first = chunks::chunk_ram(ram, g, start);
+    if first.end <= first.start {
+        return stop_of(0, c, 0, 0);
     }
+    stop_of(1, c, first.start, first.end)
 }
 
 // The first chunk from `from` to before `to` that asks for something, and what it asks for.
 fn walk(ram: &[u64], g: u64, registered: &[u64], failed: &[u64], from: u64, to: u64) -> Stop
     requires { ⌜ ((c : ℕ) → c < to → c * g < 2 ^ 64) ⌝ }
-    ensures { λ r. ⌜ (r .chunk ≡ firstNot (passes (seen g (entriesOf (now (ram .entry))) (now (registered .entry)) (now (failed .entry)))) from to) × (r .chunk < to → bitAt 64 (now (failed .entry)) (r .chunk) ≡ false → r .ram ≡ ramFrom g (entriesOf (now (ram .entry))) (r .chunk) (r .chunk * g)) ⌝ }
+    ensures { λ r. ⌜ r ≡ stopAt (seen g (entriesOf (now (ram .entry))) (now (registered .entry)) (now (failed .entry))) from to ⌝ }
 {
-    let nothing = MemoryRange { start: 0, end: 0 };
     let mut c = from;
     while c < to {
         let offer = offer_of(ram, g, registered, failed, c);
-        if !offer.passed {
-            let first = offer.ram;
-            return Stop {
-                chunk: c,
-                ram: first,
-            };
+        if offer.what != 0 {
+            return offer;
         }
         c += 1;
     }
-    Stop {
-        chunk: c,
-        ram: nothing,
+    stop_of(0, c, 0, 0)
+}
+
+// From chunk `from` on, of a request that ends before chunk `until`, where there are n chunks.
+pub fn register_from(
+    ram: &[u64],
+    g: u64,
+    registered: &[u64],
+    failed: &[u64],
+    n: u64,
+    from: u64,
+    until: u64,
+) -> Stop
+    requires { ⌜ n ≡ chunkCount g (entriesOf (now ram)) ⌝ }
+    ensures { λ r. ⌜ (r ≡ stopAt (seen g (entriesOf (now (ram .entry))) (now (registered .entry)) (now (failed .entry))) from (min until n)) × (r .chunk < min until n → r .chunk * g < 2 ^ 64) ⌝ }
+{
+    walk(ram, g, registered, failed, from, numbers::least(until, n))
+}
+
+// Whether chunk c, of n, ends at address x or before. May be false where n is not above c.
+fn is_whole(c: u64, g: u64, n: u64, x: u64) -> bool
+    requires { ⌜ (c < n → c * g < 2 ^ 64) ⌝ }
+    ensures { λ r. ⌜ (r ≡ true → (c + 1) * g ≤ x) ⌝ }
+{
+    if n <= c {
+        return false;
     }
+    let start = c * g;
+    if x < start {
+        return false;
+    }
+    g <= x - start
+}
+
+// The RAM of chunk c from address x on, where there are n chunks.
+pub fn rest_of(ram: &[u64], g: u64, n: u64, c: u64, x: u64) -> MemoryRange
+    requires { ⌜ n ≡ chunkCount g (entriesOf (now ram)) ⌝ }
+    ensures { λ r. ⌜ r ≡ ramFrom g (entriesOf (now (ram .entry))) c x ⌝ }
+{
+    if is_whole(c, g, n, x) {
+        return MemoryRange { start: 0, end: 0 };
+    }
+    chunks::next_ram(ram, g, c, x)
 }
 
 // The operation that a request asks for.
@@ -201,34 +236,6 @@ fn end(from: u64, to: u64, answer: Answer) -> Plan
         request: idle(),
         answer: answer,
     }
-}
-
-// From chunk `from` on, of a request that ends before chunk `until` and has asked `count` times.
-pub fn register_from(
-    ram: &[u64],
-    offset: u64,
-    g: u64,
-    registered: &[u64],
-    failed: &[u64],
-    count: u64,
-    from: u64,
-    until: u64,
-) -> Plan
-    ensures { λ r. ⌜ r ≡ registerFrom (seen g (entriesOf (now (ram .entry))) (now (registered .entry)) (now (failed .entry))) offset count from until ⌝ }
-{
-    let to = numbers::least(until, chunks::chunk_count(ram, g));
-    let stop = walk(ram, g, registered, failed, from, to);
-    let c = stop.chunk;
-    if to <= c {
-        return end(from, c, Answer::Done(count));
-    }
-    let address = c * g;
-    let failed_before = bitmap::get(failed, c);
-    if failed_before {
-        return end(from, c, Answer::RegistrationFailed { address, count });
-    }
-    let first = stop.ram;
-    ask(offset, from, c, piece(count, c, c + 1, until, first))
 }
 
 // The request for a piece of RAM of the chunks from `from` to before `to`.

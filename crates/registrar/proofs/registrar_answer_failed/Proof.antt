@@ -5,11 +5,14 @@ use Rattle.registrar.specs.Laws as laws
 use Rattle.registrar.proofs.registrar_answer_failed.Statement.{statement}
 use Rattle.registrar.proofs.registrar_answer_failed.Tie as tie
 
+chunk-count-requires : tie.Need-chunk-count-requires
+chunk-count-requires c κs = search needs
+
 answer-refusal-requires : tie.Need-answer-refusal-requires
 answer-refusal-requires c κs = search needs
 
-flatten-requires : tie.Need-flatten-requires
-flatten-requires c κs = search needs
+simple-requires : tie.Need-simple-requires
+simple-requires c κs = search needs
 
 same-length : tie.Need-same-length
 same-length c = search needs
@@ -22,10 +25,18 @@ same-length-3 c = search needs
 
 returns : tie.Need-returns
 unfolding failedOf
-returns c = laws.call-refused (world (c .before .before .before .before .before .before .before .before .before .args .state .now) (c .before .before .before .before .before .before .before .before .before .args .registered .now) (c .before .before .before .before .before .before .before .before .before .args .failed .now)) (c .before .before .answer-refusal .result) _ (c .before .before .answer-refusal .ensures) _ (c .flatten .result) (c .before .if1 .taken) (c .flatten .ensures)
+returns c =
+    let a = c .before .before .before .before .before .before .before .before .before .before .before .args in
+    let w = world (a .state .now) (a .registered .now) (a .failed .now) in
+    let n = c .before .before .answer-refusal in
+    laws.call-refused w (n .result) _ (n .ensures) _ (c .simple .result) (c .before .if1 .taken) (c .simple .ensures)
 
 load-requires : tie.Need-load-requires
-load-requires c κs = laws.answer-long (world (c .before .before .before .before .before .before .before .before .before .args .state .now) (c .before .before .before .before .before .before .before .before .before .args .registered .now) (c .before .before .before .before .before .before .before .before .before .args .failed .now)) (c .before .before .answer-refusal .result) (c .before .if1 .left) (c .before .before .answer-refusal .ensures)
+load-requires c κs =
+    let a = c .before .before .before .before .before .before .before .before .before .before .before .args in
+    let w = world (a .state .now) (a .registered .now) (a .failed .now) in
+    let n = c .before .before .answer-refusal in
+    laws.answer-long w (n .result) (c .before .if1 .left) (n .ensures)
 
 set-chunks-requires : tie.Need-set-chunks-requires
 set-chunks-requires c κs = search needs
@@ -34,10 +45,14 @@ idle-requires : tie.Need-idle-requires
 idle-requires c κs = search needs
 
 save-requires : tie.Need-save-requires
-save-requires c κs = laws.answer-long (world (c .before .before .before .before .before .before .before .before .before .before .before .before .before .before .before .before .args .state .now) (c .before .before .before .before .before .before .before .before .before .before .before .before .before .before .before .before .args .registered .now) (c .before .before .before .before .before .before .before .before .before .before .before .before .before .before .before .before .args .failed .now)) (c .before .before .before .before .before .before .before .before .before .answer-refusal .result) (c .before .before .before .before .before .before .before .before .if1 .left) (c .before .before .before .before .before .before .before .before .before .answer-refusal .ensures)
+save-requires c κs =
+    let a = c .before .before .before .before .before .before .before .before .before .before .before .before .before .before .before .before .before .before .args in
+    let w = world (a .state .now) (a .registered .now) (a .failed .now) in
+    let n = c .before .before .before .before .before .before .before .before .before .answer-refusal in
+    laws.answer-long w (n .result) (c .before .before .before .before .before .before .before .before .if1 .left) (n .ensures)
 
-flatten-requires-2 : tie.Need-flatten-requires-2
-flatten-requires-2 c κs = search needs
+flatten-requires : tie.Need-flatten-requires
+flatten-requires c κs = search needs
 
 same-length-4 : tie.Need-same-length-4
 same-length-4 c = search needs
@@ -51,18 +66,18 @@ same-length-6 c = search needs
 returns-2 : tie.Need-returns-2
 unfolding failedOf
 returns-2 c =
-    let w = world (c .before .before .before .before .before .before .before .before .before .before .before .before .before .before .before .before .before .before .before .before .args .state .now) (c .before .before .before .before .before .before .before .before .before .before .before .before .before .before .before .before .before .before .before .before .args .registered .now) (c .before .before .before .before .before .before .before .before .before .before .before .before .before .before .before .before .before .before .before .before .args .failed .now) in
+    let a = c .before .before .before .before .before .before .before .before .before .before .before .before .before .before .before .before .before .before .before .before .before .before .args in
+    let w = world (a .state .now) (a .registered .now) (a .failed .now) in
     let n = c .before .before .before .before .before .before .before .before .before .before .before .before .before .answer-refusal in
-    let q = c .before .before .before .before .before .before .before .before .before .before .load in
-    let i = c .before .before .before .before .idle in
-    laws.call-answered w (n .result) _ (n .ensures) _ _ (c .before .before .before .before .before .before .before .before .before .before .before .before .if1 .left) (laws.failed-made w (q .result) (i .result) _ _ (c .flatten2 .result) (q .ensures) (i .ensures) (c .before .before .before .save .ensures) (c .before .before .before .before .before .before .before .before .set-chunks .ensures) (c .flatten2 .ensures))
+    laws.call-answered w (n .result) _ (n .ensures) _ _ (c .before .before .before .before .before .before .before .before .before .before .before .before .if1 .left) (laws.failed-made w (c .before .before .before .before .before .before .before .before .before .before .load .result) (c .before .before .before .before .idle .result) _ _ (c .flatten .result) (c .before .before .before .before .before .before .before .before .before .before .load .ensures) (c .before .before .before .before .idle .ensures) (c .before .before .before .save .ensures) (c .before .before .before .before .before .before .before .before .set-chunks .ensures) (c .flatten .ensures))
 
 pub registrar-answer-failed-spec : {M : Type 1} → statement M
 registrar-answer-failed-spec =
     tie.close
     (tie.spec
+    chunk-count-requires
     answer-refusal-requires
-    flatten-requires
+    simple-requires
     same-length
     same-length-2
     same-length-3
@@ -71,7 +86,7 @@ registrar-answer-failed-spec =
     set-chunks-requires
     idle-requires
     save-requires
-    flatten-requires-2
+    flatten-requires
     same-length-4
     same-length-5
     same-length-6

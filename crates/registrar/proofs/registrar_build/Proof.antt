@@ -8,8 +8,8 @@ use Rattle.registrar.proofs.registrar_build.Tie as tie
 build-refusal-requires : tie.Need-build-refusal-requires
 build-refusal-requires c κs = search needs
 
-flatten-requires : tie.Need-flatten-requires
-flatten-requires c κs = search needs
+simple-requires : tie.Need-simple-requires
+simple-requires c κs = search needs
 
 same-length : tie.Need-same-length
 same-length c = search needs
@@ -22,7 +22,7 @@ same-length-3 c = search needs
 
 returns : tie.Need-returns
 unfolding buildOf
-returns c = laws.call-refused (world (c .before .before .before .before .before .before .before .before .before .before .args .state .now) (c .before .before .before .before .before .before .before .before .before .before .args .registered .now) (c .before .before .before .before .before .before .before .before .before .before .args .failed .now)) (c .before .before .build-refusal .result) _ (c .before .before .build-refusal .ensures) _ (c .flatten .result) (c .before .if1 .taken) (c .flatten .ensures)
+returns c = laws.call-refused (world (c .before .before .before .before .before .before .before .before .before .before .args .state .now) (c .before .before .before .before .before .before .before .before .before .before .args .registered .now) (c .before .before .before .before .before .before .before .before .before .before .args .failed .now)) (c .before .before .build-refusal .result) _ (c .before .before .build-refusal .ensures) _ (c .simple .result) (c .before .if1 .taken) (c .simple .ensures)
 
 build-state-requires : tie.Need-build-state-requires
 build-state-requires c κs = laws.build-lengths (world (c .before .before .before .before .before .before .before .before .before .before .args .state .now) (c .before .before .before .before .before .before .before .before .before .before .args .registered .now) (c .before .before .before .before .before .before .before .before .before .before .args .failed .now)) (c .before .before .before .before .before .before .before .before .before .before .args .ram .now) (c .before .before .before .before .before .before .before .before .before .before .args .offset) (c .before .before .before .before .before .before .before .before .before .before .args .granularity) (c .before .before .build-refusal .result) (c .before .if1 .left) (c .before .before .build-refusal .ensures)
@@ -33,8 +33,8 @@ clear-requires c κs = search needs
 clear-requires-2 : tie.Need-clear-requires-2
 clear-requires-2 c κs = search needs
 
-flatten-requires-2 : tie.Need-flatten-requires-2
-flatten-requires-2 c κs = search needs
+simple-requires-2 : tie.Need-simple-requires-2
+simple-requires-2 c κs = search needs
 
 same-length-4 : tie.Need-same-length-4
 same-length-4 c = search needs
@@ -50,14 +50,14 @@ unfolding buildOf
 returns-2 c =
     let w = world (c .before .before .before .before .before .before .before .before .before .before .before .before .before .before .before .before .before .before .before .before .before .before .args .state .now) (c .before .before .before .before .before .before .before .before .before .before .before .before .before .before .before .before .before .before .before .before .before .before .args .registered .now) (c .before .before .before .before .before .before .before .before .before .before .before .before .before .before .before .before .before .before .before .before .before .before .args .failed .now) in
     let n = c .before .before .before .before .before .before .before .before .before .before .before .before .before .before .build-refusal in
-    laws.call-answered w (n .result) _ (n .ensures) _ _ (c .before .before .before .before .before .before .before .before .before .before .before .before .before .if1 .left) (laws.build-made w (c .before .before .before .before .before .before .before .before .before .before .before .before .before .before .before .before .before .before .before .before .before .before .args .ram .now) (c .before .before .before .before .before .before .before .before .before .before .before .before .before .before .before .before .before .before .before .before .before .before .args .offset) (c .before .before .before .before .before .before .before .before .before .before .before .before .before .before .before .before .before .before .before .before .before .before .args .granularity) _ _ _ (c .flatten2 .result) (c .before .before .before .before .before .before .before .before .before .before .before .build-state .ensures) (c .before .before .before .before .before .before .before .clear .ensures) (c .before .before .before .clear2 .ensures) (c .flatten2 .ensures))
+    laws.call-answered w (n .result) _ (n .ensures) _ _ (c .before .before .before .before .before .before .before .before .before .before .before .before .before .if1 .left) (laws.build-made w (c .before .before .before .before .before .before .before .before .before .before .before .before .before .before .before .before .before .before .before .before .before .before .args .ram .now) (c .before .before .before .before .before .before .before .before .before .before .before .before .before .before .before .before .before .before .before .before .before .before .args .offset) (c .before .before .before .before .before .before .before .before .before .before .before .before .before .before .before .before .before .before .before .before .before .before .args .granularity) _ _ _ (c .simple2 .result) (c .before .before .before .before .before .before .before .before .before .before .before .build-state .ensures) (c .before .before .before .before .before .before .before .clear .ensures) (c .before .before .before .clear2 .ensures) (c .simple2 .ensures))
 
 pub registrar-build-spec : {M : Type 1} → statement M
 registrar-build-spec =
     tie.close
     (tie.spec
     build-refusal-requires
-    flatten-requires
+    simple-requires
     same-length
     same-length-2
     same-length-3
@@ -65,7 +65,7 @@ registrar-build-spec =
     build-state-requires
     clear-requires
     clear-requires-2
-    flatten-requires-2
+    simple-requires-2
     same-length-4
     same-length-5
     same-length-6

@@ -1,6 +1,7 @@
 -- `registrar::registrar_register` meets its contract. Assumes nothing.
 use borrow.Author.Needs.{needs}
-use Rattle.registrar_state.specs.World.{world, registerOf}
+use mathlib.Core.Path.{ap, _∙_}
+use Rattle.registrar_state.specs.World.{world, carriedOut, registerOf}
 use Rattle.registrar.specs.Laws as laws
 use Rattle.registrar.proofs.registrar_register.Statement.{statement}
 use Rattle.registrar.proofs.registrar_register.Tie as tie
@@ -14,11 +15,14 @@ first-chunk-requires c κs = search needs
 end-chunk-requires : tie.Need-end-chunk-requires
 end-chunk-requires c κs = search needs
 
+chunk-count-requires : tie.Need-chunk-count-requires
+chunk-count-requires c κs = search needs
+
 register-refusal-requires : tie.Need-register-refusal-requires
 register-refusal-requires c κs = search needs
 
-flatten-requires : tie.Need-flatten-requires
-flatten-requires c κs = search needs
+simple-requires : tie.Need-simple-requires
+simple-requires c κs = search needs
 
 same-length : tie.Need-same-length
 same-length c = search needs
@@ -32,28 +36,28 @@ same-length-3 c = search needs
 returns : tie.Need-returns
 unfolding registerOf
 returns c =
-    let a = c .before .before .before .before .before .before .before .before .before .before .before .before .before .args in
+    let a = c .before .before .before .before .before .before .before .before .before .before .before .before .before .before .before .args in
     let w = world (a .state .now) (a .registered .now) (a .failed .now) in
-    let g = c .before .before .before .before .before .before .before .before .granularity in
-    let f = c .before .before .before .before .before .before .before .first-chunk in
-    let e = c .before .before .before .before .before .before .end-chunk in
+    let g = c .before .before .before .before .before .before .before .before .before .before .granularity in
+    let f = c .before .before .before .before .before .before .before .before .before .first-chunk in
+    let e = c .before .before .before .before .before .before .before .before .end-chunk in
     let n = c .before .before .register-refusal in
     let nh = laws.touched-refusal w (a .address) (a .len) (g .result) (f .result) (e .result) (g .ensures) (f .ensures) (e .ensures) (n .result) (n .ensures) in
-    laws.call-refused w (n .result) _ nh _ (c .flatten .result) (c .before .if1 .taken) (c .flatten .ensures)
+    laws.call-refused w (n .result) _ nh _ (c .simple .result) (c .before .if1 .taken) (c .simple .ensures)
 
 is-known-requires : tie.Need-is-known-requires
 is-known-requires c κs =
-    let a = c .before .before .before .before .before .before .before .before .before .before .before .before .before .before .args in
+    let a = c .before .before .before .before .before .before .before .before .before .before .before .before .before .before .before .before .args in
     let w = world (a .state .now) (a .registered .now) (a .failed .now) in
-    let g = c .before .before .before .before .before .before .before .before .before .granularity in
-    let f = c .before .before .before .before .before .before .before .before .first-chunk in
-    let e = c .before .before .before .before .before .before .before .end-chunk in
+    let g = c .before .before .before .before .before .before .before .before .before .before .before .granularity in
+    let f = c .before .before .before .before .before .before .before .before .before .before .first-chunk in
+    let e = c .before .before .before .before .before .before .before .before .before .end-chunk in
     let n = c .before .before .before .register-refusal in
     let nh = laws.touched-refusal w (a .address) (a .len) (g .result) (f .result) (e .result) (g .ensures) (f .ensures) (e .ensures) (n .result) (n .ensures) in
     laws.register-long w (n .result) (c .before .before .if1 .left) (a .address) (a .len) nh
 
-flatten-requires-2 : tie.Need-flatten-requires-2
-flatten-requires-2 c κs = search needs
+simple-requires-2 : tie.Need-simple-requires-2
+simple-requires-2 c κs = search needs
 
 same-length-4 : tie.Need-same-length-4
 same-length-4 c = search needs
@@ -67,42 +71,40 @@ same-length-6 c = search needs
 returns-2 : tie.Need-returns-2
 unfolding registerOf
 returns-2 c =
-    let a = c .before .before .before .before .before .before .before .before .before .before .before .before .before .before .before .before .before .args in
-    let w = world (a .state .now) (a .registered .now) (a .failed .now) in
-    let g = c .before .before .before .before .before .before .before .before .before .before .before .before .granularity in
-    let f = c .before .before .before .before .before .before .before .before .before .before .before .first-chunk in
-    let e = c .before .before .before .before .before .before .before .before .before .before .end-chunk in
-    let n = c .before .before .before .before .before .before .register-refusal in
-    let nh = laws.touched-refusal w (a .address) (a .len) (g .result) (f .result) (e .result) (g .ensures) (f .ensures) (e .ensures) (n .result) (n .ensures) in
-    laws.call-known w (n .result) (a .address) (a .len) (c .flatten2 .result) nh (c .before .before .before .before .before .if1 .left) (laws.register-long w (n .result) (c .before .before .before .before .before .if1 .left) (a .address) (a .len) nh) (laws.touched-known w (a .address) (a .len) (g .result) (f .result) (e .result) (g .ensures) (f .ensures) (e .ensures) (c .before .before .is-known .result) (c .before .before .is-known .ensures) (c .before .if2 .taken)) (c .flatten2 .ensures)
-
-register-plan-requires : tie.Need-register-plan-requires
-register-plan-requires c κs =
     let a = c .before .before .before .before .before .before .before .before .before .before .before .before .before .before .before .before .before .before .before .args in
     let w = world (a .state .now) (a .registered .now) (a .failed .now) in
     let g = c .before .before .before .before .before .before .before .before .before .before .before .before .before .before .granularity in
     let f = c .before .before .before .before .before .before .before .before .before .before .before .before .before .first-chunk in
     let e = c .before .before .before .before .before .before .before .before .before .before .before .before .end-chunk in
+    let n = c .before .before .before .before .before .before .register-refusal in
+    let nh = laws.touched-refusal w (a .address) (a .len) (g .result) (f .result) (e .result) (g .ensures) (f .ensures) (e .ensures) (n .result) (n .ensures) in
+    let k = laws.touched-known w (a .address) (a .len) (g .result) (f .result) (e .result) (g .ensures) (f .ensures) (e .ensures) (c .before .before .is-known .result) (c .before .before .is-known .ensures) (c .before .if2 .taken) in
+    laws.call-known w (n .result) (a .address) (a .len) (c .simple2 .result) nh (c .before .before .before .before .before .if1 .left) (laws.register-long w (n .result) (c .before .before .before .before .before .if1 .left) (a .address) (a .len) nh) k (c .simple2 .ensures)
+
+go-on-requires : tie.Need-go-on-requires
+go-on-requires c κs =
+    let a = c .before .before .before .before .before .before .before .before .before .before .before .before .before .before .before .before .before .before .before .before .before .args in
+    let w = world (a .state .now) (a .registered .now) (a .failed .now) in
+    let g = c .before .before .before .before .before .before .before .before .before .before .before .before .before .before .before .before .granularity in
+    let f = c .before .before .before .before .before .before .before .before .before .before .before .before .before .before .before .first-chunk in
+    let e = c .before .before .before .before .before .before .before .before .before .before .before .before .before .before .end-chunk in
     let n = c .before .before .before .before .before .before .before .before .register-refusal in
     let nh = laws.touched-refusal w (a .address) (a .len) (g .result) (f .result) (e .result) (g .ensures) (f .ensures) (e .ensures) (n .result) (n .ensures) in
-    laws.register-long w (n .result) (c .before .before .before .before .before .before .before .if1 .left) (a .address) (a .len) nh
+    let long = laws.register-long w (n .result) (c .before .before .before .before .before .before .before .if1 .left) (a .address) (a .len) nh in
+    (long, c .before .before .before .before .before .before .before .before .before .before .before .before .chunk-count .ensures long)
 
-set-chunks-requires : tie.Need-set-chunks-requires
-set-chunks-requires c κs = search needs
-
-save-requires : tie.Need-save-requires
-save-requires c κs =
-    let a = c .before .before .before .before .before .before .before .before .before .before .before .before .before .before .before .before .before .before .before .before .before .before .before .before .before .args in
+answer-requires : tie.Need-answer-requires
+answer-requires c κs =
+    let a = c .before .before .before .before .before .before .before .before .before .before .before .before .before .before .before .before .before .before .before .before .before .before .before .before .before .before .before .args in
     let w = world (a .state .now) (a .registered .now) (a .failed .now) in
-    let g = c .before .before .before .before .before .before .before .before .before .before .before .before .before .before .before .before .before .before .before .before .granularity in
-    let f = c .before .before .before .before .before .before .before .before .before .before .before .before .before .before .before .before .before .before .before .first-chunk in
-    let e = c .before .before .before .before .before .before .before .before .before .before .before .before .before .before .before .before .before .before .end-chunk in
+    let g = c .before .before .before .before .before .before .before .before .before .before .before .before .before .before .before .before .before .before .before .before .before .before .granularity in
+    let f = c .before .before .before .before .before .before .before .before .before .before .before .before .before .before .before .before .before .before .before .before .before .first-chunk in
+    let e = c .before .before .before .before .before .before .before .before .before .before .before .before .before .before .before .before .before .before .before .before .end-chunk in
     let n = c .before .before .before .before .before .before .before .before .before .before .before .before .before .before .register-refusal in
     let nh = laws.touched-refusal w (a .address) (a .len) (g .result) (f .result) (e .result) (g .ensures) (f .ensures) (e .ensures) (n .result) (n .ensures) in
-    laws.register-long w (n .result) (c .before .before .before .before .before .before .before .before .before .before .before .before .before .if1 .left) (a .address) (a .len) nh
-
-flatten-requires-3 : tie.Need-flatten-requires-3
-flatten-requires-3 c κs = search needs
+    let long = laws.register-long w (n .result) (c .before .before .before .before .before .before .before .before .before .before .before .before .before .if1 .left) (a .address) (a .len) nh in
+    let o = c .before .before .before .before .before .go-on in
+    laws.go-kept w (c .before .before .before .before .before .before .before .before .before .before .before .before .before .before .before .before .before .before .chunk-count .result) 0 (f .result) (e .result) (c .before .before .before .before .before .before .before .before .before .before .before .before .before .before .before .before .before .before .chunk-count .ensures long) _ _ (o .result) (o .ensures .0) long (o .ensures .1)
 
 same-length-7 : tie.Need-same-length-7
 same-length-7 c = search needs
@@ -116,15 +118,16 @@ same-length-9 c = search needs
 returns-3 : tie.Need-returns-3
 unfolding registerOf
 returns-3 c =
-    let a = c .before .before .before .before .before .before .before .before .before .before .before .before .before .before .before .before .before .before .before .before .before .before .before .before .before .before .before .before .before .args in
+    let a = c .before .before .before .before .before .before .before .before .before .before .before .before .before .before .before .before .before .before .before .before .before .before .before .before .before .before .before .before .args in
     let w = world (a .state .now) (a .registered .now) (a .failed .now) in
-    let g = c .before .before .before .before .before .before .before .before .before .before .before .before .before .before .before .before .before .before .before .before .before .before .before .before .granularity in
-    let f = c .before .before .before .before .before .before .before .before .before .before .before .before .before .before .before .before .before .before .before .before .before .before .before .first-chunk in
-    let e = c .before .before .before .before .before .before .before .before .before .before .before .before .before .before .before .before .before .before .before .before .before .before .end-chunk in
-    let n = c .before .before .before .before .before .before .before .before .before .before .before .before .before .before .before .before .before .before .register-refusal in
+    let g = c .before .before .before .before .before .before .before .before .before .before .before .before .before .before .before .before .before .before .before .before .before .before .before .granularity in
+    let f = c .before .before .before .before .before .before .before .before .before .before .before .before .before .before .before .before .before .before .before .before .before .before .first-chunk in
+    let e = c .before .before .before .before .before .before .before .before .before .before .before .before .before .before .before .before .before .before .before .before .before .end-chunk in
+    let n = c .before .before .before .before .before .before .before .before .before .before .before .before .before .before .before .register-refusal in
     let nh = laws.touched-refusal w (a .address) (a .len) (g .result) (f .result) (e .result) (g .ensures) (f .ensures) (e .ensures) (n .result) (n .ensures) in
-    let p = c .before .before .before .before .before .before .before .before .before .register-plan in
-    laws.call-carried w (n .result) _ nh w _ (p .result) _ _ (c .flatten3 .result) (c .before .before .before .before .before .before .before .before .before .before .before .before .before .before .before .before .before .if1 .left) (laws.touched-plan w (a .address) (a .len) (g .result) (f .result) (e .result) (g .ensures) (f .ensures) (e .ensures) (p .result) (p .ensures)) (c .before .before .before .save .ensures) (c .before .before .before .before .before .before .before .set-chunks .ensures) (c .flatten3 .ensures)
+    let long = laws.register-long w (n .result) (c .before .before .before .before .before .before .before .before .before .before .before .before .before .before .if1 .left) (a .address) (a .len) nh in
+    let o = c .before .before .before .before .before .before .go-on in
+    laws.call-answered w (n .result) _ nh _ _ (c .before .before .before .before .before .before .before .before .before .before .before .before .before .before .if1 .left) (laws.go-answered w (c .before .before .before .before .before .before .before .before .before .before .before .before .before .before .before .before .before .before .before .chunk-count .result) 0 (f .result) (e .result) (c .before .before .before .before .before .before .before .before .before .before .before .before .before .before .before .before .before .before .before .chunk-count .ensures long) _ _ (o .result) (c .answer .result) (o .ensures .0) (c .answer .ensures) ∙ ap (carriedOut w) (laws.touched-plan w (a .address) (a .len) (g .result) (f .result) (e .result) (g .ensures) (f .ensures) (e .ensures)))
 
 pub registrar-register-spec : {M : Type 1} → statement M
 registrar-register-spec =
@@ -133,22 +136,21 @@ registrar-register-spec =
     granularity-requires
     first-chunk-requires
     end-chunk-requires
+    chunk-count-requires
     register-refusal-requires
-    flatten-requires
+    simple-requires
     same-length
     same-length-2
     same-length-3
     returns
     is-known-requires
-    flatten-requires-2
+    simple-requires-2
     same-length-4
     same-length-5
     same-length-6
     returns-2
-    register-plan-requires
-    set-chunks-requires
-    save-requires
-    flatten-requires-3
+    go-on-requires
+    answer-requires
     same-length-7
     same-length-8
     same-length-9

@@ -4,6 +4,7 @@ use borrow.Author.Needs.{needs}
 use mathlib.Core.Path.{refl, sym, _∙_}
 use borrow.Author.Tests.{not-true, not-false}
 use Rattle.registrar_state.specs.World.{world}
+use Rattle.layout.specs.Layout.{entriesOf}
 use Rattle.registrar_state.specs.Laws as laws
 use Rattle.laws.specs.Refusal.{refuses, passes}
 use Rattle.registrar_state.proofs.build_refusal.Statement.{statement}
@@ -39,14 +40,17 @@ returns-5 c = laws.build-power (world (c .before .before .before .before .before
 returns-6 : tie.Need-returns-6
 returns-6 c = laws.build-state (world (c .before .before .before .before .before .before .before .before .before .before .before .before .before .args .state .now) (c .before .before .before .before .before .before .before .before .before .before .before .before .before .args .registered .now) (c .before .before .before .before .before .before .before .before .before .before .before .before .before .args .failed .now)) (c .before .before .before .before .before .before .before .before .before .before .before .before .before .args .ram .now) (c .before .before .before .before .before .before .before .before .before .before .before .before .before .args .offset) (c .before .before .before .before .before .before .before .before .before .before .before .before .before .args .g) (c .before .before .before .before .before .before .before .before .refusal .result) (c .before .before .before .before .before .before .before .before .refusal .ensures) (c .before .before .before .before .before .before .before .if1 .left) (c .before .before .before .before .before .before .if2 .left) (omega (arith, c .before .before .before .before .before .last-end .ensures)) (c .before .before .before .if4 .left) (sym (c .before .before .is-power-from .ensures) ∙ not-false _ (c .before .if5 .left)) (c .if6 .taken)
 
+chunk-count-requires : tie.Need-chunk-count-requires
+chunk-count-requires c κs = search needs
+
 lengths-fit-requires : tie.Need-lengths-fit-requires
 lengths-fit-requires c κs = search needs
 
 returns-7 : tie.Need-returns-7
-returns-7 c = passes _ _ _ _ (sym (c .before .lengths-fit .ensures) ∙ c .if7 .taken) refl ∙ laws.build-last (world (c .before .before .before .before .before .before .before .before .before .before .before .before .before .before .before .args .state .now) (c .before .before .before .before .before .before .before .before .before .before .before .before .before .before .before .args .registered .now) (c .before .before .before .before .before .before .before .before .before .before .before .before .before .before .before .args .failed .now)) (c .before .before .before .before .before .before .before .before .before .before .before .before .before .before .before .args .ram .now) (c .before .before .before .before .before .before .before .before .before .before .before .before .before .before .before .args .offset) (c .before .before .before .before .before .before .before .before .before .before .before .before .before .before .before .args .g) (c .before .before .before .before .before .before .before .before .before .before .refusal .result) (c .before .before .before .before .before .before .before .before .before .before .refusal .ensures) (c .before .before .before .before .before .before .before .before .before .if1 .left) (c .before .before .before .before .before .before .before .before .if2 .left) (omega (arith, c .before .before .before .before .before .before .before .last-end .ensures)) (c .before .before .before .before .before .if4 .left) (sym (c .before .before .before .before .is-power-from .ensures) ∙ not-false _ (c .before .before .before .if5 .left)) (c .before .before .if6 .left)
+returns-7 c = passes _ _ _ _ (sym (laws.lengths-fit (c .before .before .before .before .before .before .before .before .before .before .before .before .before .before .before .before .args .registered .now) (c .before .before .before .before .before .before .before .before .before .before .before .before .before .before .before .before .args .failed .now) (c .before .before .chunk-count .result) (c .before .before .before .before .before .before .before .before .before .before .before .before .before .before .before .before .args .g) (entriesOf (c .before .before .before .before .before .before .before .before .before .before .before .before .before .before .before .before .args .ram .now)) _ (c .before .before .chunk-count .ensures) (c .before .lengths-fit .ensures)) ∙ c .if7 .taken) refl ∙ laws.build-last (world (c .before .before .before .before .before .before .before .before .before .before .before .before .before .before .before .before .args .state .now) (c .before .before .before .before .before .before .before .before .before .before .before .before .before .before .before .before .args .registered .now) (c .before .before .before .before .before .before .before .before .before .before .before .before .before .before .before .before .args .failed .now)) (c .before .before .before .before .before .before .before .before .before .before .before .before .before .before .before .before .args .ram .now) (c .before .before .before .before .before .before .before .before .before .before .before .before .before .before .before .before .args .offset) (c .before .before .before .before .before .before .before .before .before .before .before .before .before .before .before .before .args .g) (c .before .before .before .before .before .before .before .before .before .before .before .refusal .result) (c .before .before .before .before .before .before .before .before .before .before .before .refusal .ensures) (c .before .before .before .before .before .before .before .before .before .before .if1 .left) (c .before .before .before .before .before .before .before .before .before .if2 .left) (omega (arith, c .before .before .before .before .before .before .before .before .last-end .ensures)) (c .before .before .before .before .before .before .if4 .left) (sym (c .before .before .before .before .before .is-power-from .ensures) ∙ not-false _ (c .before .before .before .before .if5 .left)) (c .before .before .before .if6 .left)
 
 returns-8 : tie.Need-returns-8
-returns-8 c = refuses _ _ _ (sym (c .before .lengths-fit .ensures) ∙ c .if7 .left) ∙ laws.build-last (world (c .before .before .before .before .before .before .before .before .before .before .before .before .before .before .before .args .state .now) (c .before .before .before .before .before .before .before .before .before .before .before .before .before .before .before .args .registered .now) (c .before .before .before .before .before .before .before .before .before .before .before .before .before .before .before .args .failed .now)) (c .before .before .before .before .before .before .before .before .before .before .before .before .before .before .before .args .ram .now) (c .before .before .before .before .before .before .before .before .before .before .before .before .before .before .before .args .offset) (c .before .before .before .before .before .before .before .before .before .before .before .before .before .before .before .args .g) (c .before .before .before .before .before .before .before .before .before .before .refusal .result) (c .before .before .before .before .before .before .before .before .before .before .refusal .ensures) (c .before .before .before .before .before .before .before .before .before .if1 .left) (c .before .before .before .before .before .before .before .before .if2 .left) (omega (arith, c .before .before .before .before .before .before .before .last-end .ensures)) (c .before .before .before .before .before .if4 .left) (sym (c .before .before .before .before .is-power-from .ensures) ∙ not-false _ (c .before .before .before .if5 .left)) (c .before .before .if6 .left)
+returns-8 c = refuses _ _ _ (sym (laws.lengths-fit (c .before .before .before .before .before .before .before .before .before .before .before .before .before .before .before .before .args .registered .now) (c .before .before .before .before .before .before .before .before .before .before .before .before .before .before .before .before .args .failed .now) (c .before .before .chunk-count .result) (c .before .before .before .before .before .before .before .before .before .before .before .before .before .before .before .before .args .g) (entriesOf (c .before .before .before .before .before .before .before .before .before .before .before .before .before .before .before .before .args .ram .now)) _ (c .before .before .chunk-count .ensures) (c .before .lengths-fit .ensures)) ∙ c .if7 .left) ∙ laws.build-last (world (c .before .before .before .before .before .before .before .before .before .before .before .before .before .before .before .before .args .state .now) (c .before .before .before .before .before .before .before .before .before .before .before .before .before .before .before .before .args .registered .now) (c .before .before .before .before .before .before .before .before .before .before .before .before .before .before .before .before .args .failed .now)) (c .before .before .before .before .before .before .before .before .before .before .before .before .before .before .before .before .args .ram .now) (c .before .before .before .before .before .before .before .before .before .before .before .before .before .before .before .before .args .offset) (c .before .before .before .before .before .before .before .before .before .before .before .before .before .before .before .before .args .g) (c .before .before .before .before .before .before .before .before .before .before .before .refusal .result) (c .before .before .before .before .before .before .before .before .before .before .before .refusal .ensures) (c .before .before .before .before .before .before .before .before .before .before .if1 .left) (c .before .before .before .before .before .before .before .before .before .if2 .left) (omega (arith, c .before .before .before .before .before .before .before .before .last-end .ensures)) (c .before .before .before .before .before .before .if4 .left) (sym (c .before .before .before .before .before .is-power-from .ensures) ∙ not-false _ (c .before .before .before .before .if5 .left)) (c .before .before .before .if6 .left)
 
 pub build-refusal-spec : {M : Type 1} → statement M
 build-refusal-spec =
@@ -62,6 +66,7 @@ build-refusal-spec =
     is-power-from-requires
     returns-5
     returns-6
+    chunk-count-requires
     lengths-fit-requires
     returns-7
     returns-8)

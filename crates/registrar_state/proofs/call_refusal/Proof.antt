@@ -3,6 +3,8 @@ use borrow.Author.Needs.{needs}
 use mathlib.Core.Path.{refl, sym, _∙_}
 use borrow.Author.Tests.{eq-eqb, ne-eqb, not-true, not-false}
 use Rattle.laws.specs.Refusal.{refuses, passes}
+use Rattle.registrar_state.specs.World.{granularityOf, entriesIn}
+use Rattle.registrar_state.specs.Laws as laws
 use Rattle.registrar_state.proofs.call_refusal.Statement.{statement}
 use Rattle.registrar_state.proofs.call_refusal.Tie as tie
 
@@ -15,14 +17,14 @@ shared-slice-read-if2 c = search needs
 returns-2 : tie.Need-returns-2
 returns-2 c = passes _ _ _ _ (eq-eqb _ _ (c .before .before .if1 .left)) (refuses _ _ _ (ne-eqb _ _ (c .if2 .taken)))
 
-state-lengths-fit-requires : tie.Need-state-lengths-fit-requires
-state-lengths-fit-requires c κs = search needs
+lengths-fit-requires : tie.Need-lengths-fit-requires
+lengths-fit-requires c κs = search needs
 
 returns-3 : tie.Need-returns-3
-returns-3 c = passes _ _ _ _ (eq-eqb _ _ (c .before .before .before .before .if1 .left)) (passes _ _ _ _ (eq-eqb _ _ (c .before .before .if2 .left)) (refuses _ _ _ (sym (c .before .state-lengths-fit .ensures) ∙ not-true _ (c .if3 .taken))))
+returns-3 c = passes _ _ _ _ (eq-eqb _ _ (c .before .before .before .before .if1 .left)) (passes _ _ _ _ (eq-eqb _ _ (c .before .before .if2 .left)) (refuses _ _ _ (sym (laws.lengths-fit (c .before .before .before .before .before .before .before .before .args .registered .now) (c .before .before .before .before .before .before .before .before .args .failed .now) (c .before .before .before .before .before .before .before .before .args .n) (granularityOf (c .before .before .before .before .before .before .before .before .args .state .now)) (entriesIn (c .before .before .before .before .before .before .before .before .args .state .now)) _ (c .before .before .before .before .before .before .before .before .pre (c .before .before .before .before .if1 .left)) (c .before .lengths-fit .ensures)) ∙ not-true _ (c .if3 .taken))))
 
 returns-4 : tie.Need-returns-4
-returns-4 c = passes _ _ _ _ (eq-eqb _ _ (c .before .before .before .before .if1 .left)) (passes _ _ _ _ (eq-eqb _ _ (c .before .before .if2 .left)) (passes _ _ _ _ (sym (c .before .state-lengths-fit .ensures) ∙ not-false _ (c .if3 .left)) refl))
+returns-4 c = passes _ _ _ _ (eq-eqb _ _ (c .before .before .before .before .if1 .left)) (passes _ _ _ _ (eq-eqb _ _ (c .before .before .if2 .left)) (passes _ _ _ _ (sym (laws.lengths-fit (c .before .before .before .before .before .before .before .before .args .registered .now) (c .before .before .before .before .before .before .before .before .args .failed .now) (c .before .before .before .before .before .before .before .before .args .n) (granularityOf (c .before .before .before .before .before .before .before .before .args .state .now)) (entriesIn (c .before .before .before .before .before .before .before .before .args .state .now)) _ (c .before .before .before .before .before .before .before .before .pre (c .before .before .before .before .if1 .left)) (c .before .lengths-fit .ensures)) ∙ not-false _ (c .if3 .left)) refl))
 
 pub call-refusal-spec : {M : Type 1} → statement M
 call-refusal-spec =
@@ -31,6 +33,6 @@ call-refusal-spec =
     returns
     shared-slice-read-if2
     returns-2
-    state-lengths-fit-requires
+    lengths-fit-requires
     returns-3
     returns-4)

@@ -4,22 +4,31 @@ use Rattle.registrar_state.specs.Laws as laws
 use Rattle.registrar_state.proofs.rest_of.Statement.{statement}
 use Rattle.registrar_state.proofs.rest_of.Tie as tie
 
-load-requires : tie.Need-load-requires
-load-requires c κs = search needs
-
 ram-of-requires : tie.Need-ram-of-requires
 ram-of-requires c κs = search needs
 
-shared-slice-read-next-ram : tie.Need-shared-slice-read-next-ram
-shared-slice-read-next-ram c = search needs
+shared-slice-read-rest-of : tie.Need-shared-slice-read-rest-of
+shared-slice-read-rest-of c = search needs
 
-next-ram-requires : tie.Need-next-ram-requires
-next-ram-requires c κs = search needs
+shared-slice-read-rest-of-2 : tie.Need-shared-slice-read-rest-of-2
+shared-slice-read-rest-of-2 c = search needs
+
+shared-slice-read-rest-of-3 : tie.Need-shared-slice-read-rest-of-3
+shared-slice-read-rest-of-3 c = search needs
+
+rest-of-requires : tie.Need-rest-of-requires
+rest-of-requires c κs = laws.count-of (c .before .before .before .before .before .args .state .now) (c .before .before .before .ram-of .result .now) (c .before .before .before .before .before .args .n) (c .before .before .before .ram-of .ensures) (c .before .before .before .before .before .pre .1)
 
 returns : tie.Need-returns
-returns c = laws.rest-is (c .before .before .before .before .before .args .state .now) (c .before .before .before .load .result) (c .before .before .before .load .ensures) (c .before .before .ram-of .result .now) (c .next-ram .result) (c .before .before .ram-of .ensures) (c .next-ram .ensures)
+returns c = laws.rest-is (c .before .before .before .before .before .before .args .state .now) (c .before .before .before .before .ram-of .result .now) (c .rest-of .result) (c .before .before .before .before .ram-of .ensures) (c .rest-of .ensures)
 
 pub rest-of-spec : {M : Type 1} → statement M
 rest-of-spec =
     tie.close
-    (tie.spec load-requires ram-of-requires shared-slice-read-next-ram next-ram-requires returns)
+    (tie.spec
+    ram-of-requires
+    shared-slice-read-rest-of
+    shared-slice-read-rest-of-2
+    shared-slice-read-rest-of-3
+    rest-of-requires
+    returns)

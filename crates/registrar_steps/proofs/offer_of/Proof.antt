@@ -1,40 +1,61 @@
 -- `registrar_steps::offer_of` meets its contract. Assumes nothing.
 use borrow.Author.Needs.{needs}
 use mathlib.Core.Path.{sym, ap, _∙_}
-use Rattle.laws.specs.Bools.{false≢true}
-use Rattle.chunks.specs.Chunks.{empty}
+use Rattle.layout.specs.Layout.{entriesOf}
+use Rattle.registrar_steps.specs.Steps.{seen}
+use Rattle.registrar_steps.specs.Laws as laws
 use Rattle.registrar_steps.proofs.offer_of.Statement.{statement}
 use Rattle.registrar_steps.proofs.offer_of.Tie as tie
 
 get-requires : tie.Need-get-requires
 get-requires c κs = search needs
 
+stop-of-requires : tie.Need-stop-of-requires
+stop-of-requires c κs = search needs
+
 returns : tie.Need-returns
-returns c = (rw (sym (c .before .get .ensures) ∙ c .if1 .taken), λ e f. false≢true (sym e))
+returns c = laws.offer-registered (seen (c .before .before .before .before .before .before .args .g) (entriesOf (c .before .before .before .before .before .before .args .ram .now)) (c .before .before .before .before .before .before .args .registered .now) (c .before .before .before .before .before .before .args .failed .now)) (c .before .before .before .before .before .before .args .c) (c .stop-of .result) (sym (c .before .before .get .ensures) ∙ c .before .if1 .taken) (c .stop-of .ensures)
+
+mul-start : tie.Need-mul-start
+mul-start c = search needs
 
 get-requires-2 : tie.Need-get-requires-2
 get-requires-2 c κs = search needs
 
+stop-of-requires-2 : tie.Need-stop-of-requires-2
+stop-of-requires-2 c κs = search needs
+
 returns-2 : tie.Need-returns-2
-returns-2 c = (rw (sym (c .before .before .before .get .ensures) ∙ c .before .before .if1 .left, sym (c .before .get2 .ensures) ∙ c .if2 .taken), λ e f. false≢true (sym f ∙ sym (c .before .get2 .ensures) ∙ c .if2 .taken))
+returns-2 c = laws.offer-failed (seen (c .before .before .before .before .before .before .before .before .args .g) (entriesOf (c .before .before .before .before .before .before .before .before .args .ram .now)) (c .before .before .before .before .before .before .before .before .args .registered .now) (c .before .before .before .before .before .before .before .before .args .failed .now)) (c .before .before .before .before .before .before .before .before .args .c) (c .stop-of2 .result) (sym (c .before .before .before .before .get .ensures) ∙ c .before .before .before .if1 .left) (sym (c .before .before .get2 .ensures) ∙ c .before .if2 .taken) (c .stop-of2 .ensures)
 
-mul-next-ram : tie.Need-mul-next-ram
-mul-next-ram c = search needs
+chunk-ram-requires : tie.Need-chunk-ram-requires
+chunk-ram-requires c κs = search needs
 
-next-ram-requires : tie.Need-next-ram-requires
-next-ram-requires c κs = search needs
+stop-of-requires-3 : tie.Need-stop-of-requires-3
+stop-of-requires-3 c κs = search needs
 
 returns-3 : tie.Need-returns-3
-returns-3 c = (rw (sym (c .before .before .before .before .before .get .ensures) ∙ c .before .before .before .before .if1 .left, sym (c .before .before .before .get2 .ensures) ∙ c .before .before .if2 .left) (ap empty (c .before .next-ram .ensures)), λ e f. c .before .next-ram .ensures)
+returns-3 c = laws.offer-none (seen (c .before .before .before .before .before .before .before .before .before .before .before .args .g) (entriesOf (c .before .before .before .before .before .before .before .before .before .before .before .args .ram .now)) (c .before .before .before .before .before .before .before .before .before .before .before .args .registered .now) (c .before .before .before .before .before .before .before .before .before .before .before .args .failed .now)) (c .before .before .before .before .before .before .before .before .before .before .before .args .c) (c .stop-of3 .result) (sym (c .before .before .before .before .before .before .before .get .ensures) ∙ c .before .before .before .before .before .before .if1 .left) (sym (c .before .before .before .before .before .get2 .ensures) ∙ c .before .before .before .before .if2 .left) (c .before .before .before .chunk-ram .result) (c .before .before .before .chunk-ram .ensures) (c .before .if3 .taken) (c .stop-of3 .ensures)
+
+stop-of-requires-4 : tie.Need-stop-of-requires-4
+stop-of-requires-4 c κs = search needs
+
+returns-4 : tie.Need-returns-4
+returns-4 c = laws.offer-some (seen (c .before .before .before .before .before .before .before .before .before .before .before .args .g) (entriesOf (c .before .before .before .before .before .before .before .before .before .before .before .args .ram .now)) (c .before .before .before .before .before .before .before .before .before .before .before .args .registered .now) (c .before .before .before .before .before .before .before .before .before .before .before .args .failed .now)) (c .before .before .before .before .before .before .before .before .before .before .before .args .c) (c .stop-of4 .result) (sym (c .before .before .before .before .before .before .before .get .ensures) ∙ c .before .before .before .before .before .before .if1 .left) (sym (c .before .before .before .before .before .get2 .ensures) ∙ c .before .before .before .before .if2 .left) (c .before .before .before .chunk-ram .result) (c .before .before .before .chunk-ram .ensures) (c .before .if3 .left) (c .stop-of4 .ensures)
 
 pub offer-of-spec : {M : Type 1} → statement M
 offer-of-spec =
     tie.close
     (tie.spec
     get-requires
+    stop-of-requires
     returns
+    mul-start
     get-requires-2
+    stop-of-requires-2
     returns-2
-    mul-next-ram
-    next-ram-requires
-    returns-3)
+    chunk-ram-requires
+    stop-of-requires-3
+    returns-3
+    stop-of-requires-4
+    returns-4)

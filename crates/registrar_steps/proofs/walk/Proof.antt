@@ -3,19 +3,17 @@ use native.Mathlib.Omega.{arith}
 use borrow.Author.Needs.{needs}
 use mathlib.Core.Path.{_≡_, refl, sym, _∙_}
 use Prim.Native.Nat.{_-_}
-use borrow.Author.Tests.{not-true, not-false}
 use Rattle.layout.specs.Layout.{entriesOf}
-use Rattle.registrar_steps.specs.Steps.{seen, passes}
-use Rattle.chunks.specs.Chunks.{firstNot}
-use Rattle.chunks.specs.Scan as scan
+use Rattle.registrar_steps.specs.Steps.{seen, stopAt}
+use Rattle.registrar_steps.specs.Laws as laws
 use Rattle.registrar_steps.proofs.walk.Statement.{statement}
 use Rattle.registrar_steps.proofs.walk.Tie as tie
 
 abbrev Inv-loop : tie.InvT-loop
-Inv-loop ram g registered failed from to nothing c₀ c = firstNot (passes (seen g (entriesOf ram) registered failed)) c to ≡ firstNot (passes (seen g (entriesOf ram) registered failed)) from to
+Inv-loop ram g registered failed from to c₀ c = stopAt (seen g (entriesOf ram) registered failed) c to ≡ stopAt (seen g (entriesOf ram) registered failed) from to
 
 abbrev μ-loop : tie.MeasureT-loop
-μ-loop ram g registered failed from to nothing c₀ c = to - c
+μ-loop ram g registered failed from to c₀ c = to - c
 
 loop-holds : tie.Need-loop-holds Inv-loop μ-loop
 loop-holds c = refl
@@ -24,10 +22,7 @@ offer-of-requires : tie.Need-offer-of-requires Inv-loop μ-loop
 offer-of-requires c κs = c .before .before .before .before .before .pre (c .before .loop .c) (c .loop-test .taken)
 
 returns : tie.Need-returns Inv-loop μ-loop
-returns c =
-    let h = c .before .before .before .before .before .loop in
-    let o = c .before .before .before .offer-of in
-    (sym (scan.first-stop (passes (seen (c .before .before .before .before .before .before .before .before .before .args .g) (entriesOf (c .before .before .before .before .before .before .before .before .before .args .ram .now)) (c .before .before .before .before .before .before .before .before .before .args .registered .now) (c .before .before .before .before .before .before .before .before .before .args .failed .now))) (h .c) (c .before .before .before .before .before .before .before .before .before .args .to) (omega arith) (sym (o .ensures .0) ∙ not-true _ (c .before .if1 .taken))) ∙ h .inv, λ l f. o .ensures .1 (not-true _ (c .before .if1 .taken)) f)
+returns c = laws.stop-hit (seen (c .before .before .before .before .before .before .before .before .args .g) (entriesOf (c .before .before .before .before .before .before .before .before .args .ram .now)) (c .before .before .before .before .before .before .before .before .args .registered .now) (c .before .before .before .before .before .before .before .before .args .failed .now)) (c .before .before .before .before .loop .c) (c .before .before .before .before .before .before .before .before .args .to) (c .before .before .offer-of .result) (c .before .before .offer-of .ensures) (c .before .before .before .loop-test .taken) (c .if1 .taken) ∙ c .before .before .before .before .loop .inv
 
 add-c : tie.Need-add-c Inv-loop μ-loop
 add-c c = search needs
@@ -36,15 +31,13 @@ loop-less : tie.Need-loop-less Inv-loop μ-loop
 loop-less c = search needs
 
 loop-again : tie.Need-loop-again Inv-loop μ-loop
-loop-again c =
-    let h = c .before .before .before .before .loop in
-    let o = c .before .before .offer-of in
-    sym (scan.first-step (passes (seen (c .before .before .before .before .before .before .before .before .args .g) (entriesOf (c .before .before .before .before .before .before .before .before .args .ram .now)) (c .before .before .before .before .before .before .before .before .args .registered .now) (c .before .before .before .before .before .before .before .before .args .failed .now))) (h .c) (c .before .before .before .before .before .before .before .before .args .to) (omega arith) (sym (o .ensures .0) ∙ not-false _ (c .if1 .left))) ∙ h .inv
+loop-again c = sym (laws.stop-miss (seen (c .before .before .before .before .before .before .before .before .args .g) (entriesOf (c .before .before .before .before .before .before .before .before .args .ram .now)) (c .before .before .before .before .before .before .before .before .args .registered .now) (c .before .before .before .before .before .before .before .before .args .failed .now)) (c .before .before .before .before .loop .c) (c .before .before .before .before .before .before .before .before .args .to) (c .before .before .offer-of .result) (c .before .before .offer-of .ensures) (c .before .before .before .loop-test .taken) (c .if1 .left)) ∙ c .before .before .before .before .loop .inv
+
+stop-of-requires : tie.Need-stop-of-requires Inv-loop μ-loop
+stop-of-requires c κs = search needs
 
 returns-2 : tie.Need-returns-2 Inv-loop μ-loop
-returns-2 c =
-    let h = c .before .loop in
-    (sym (scan.first-end (passes (seen (c .before .before .before .before .before .args .g) (entriesOf (c .before .before .before .before .before .args .ram .now)) (c .before .before .before .before .before .args .registered .now) (c .before .before .before .before .before .args .failed .now))) (h .c) (c .before .before .before .before .before .args .to) (omega arith)) ∙ h .inv, λ l f. absurd (omega arith))
+returns-2 c = c .stop-of .ensures ∙ laws.stop-end (seen (c .before .before .before .before .before .before .args .g) (entriesOf (c .before .before .before .before .before .before .args .ram .now)) (c .before .before .before .before .before .before .args .registered .now) (c .before .before .before .before .before .before .args .failed .now)) (c .before .before .loop .c) (c .before .before .before .before .before .before .args .to) (omega arith) ∙ c .before .before .loop .inv
 
 pub walk-spec : {M : Type 1} → statement M
 walk-spec =
@@ -58,4 +51,5 @@ walk-spec =
     add-c
     loop-less
     loop-again
+    stop-of-requires
     returns-2)

@@ -1,0 +1,81 @@
+-- `registrar::answer` meets its contract. Assumes nothing.
+use borrow.Author.Needs.{needs}
+use native.Mathlib.Omega.{arith}
+use Rattle.registrar.specs.Laws as laws
+use Rattle.registrar.proofs.answer.Statement.{statement}
+use Rattle.registrar.proofs.answer.Tie as tie
+
+shared-slice-read-if1 : tie.Need-shared-slice-read-if1
+shared-slice-read-if1 c = search needs
+
+shared-slice-read-wrapping-add-u64 : tie.Need-shared-slice-read-wrapping-add-u64
+shared-slice-read-wrapping-add-u64 c = search needs
+
+shared-slice-read-wrapping-add-u64-2 : tie.Need-shared-slice-read-wrapping-add-u64-2
+shared-slice-read-wrapping-add-u64-2 c = search needs
+
+wrapping-add-u64-requires : tie.Need-wrapping-add-u64-requires
+wrapping-add-u64-requires c κs = search needs
+
+shared-slice-read-wrapping-add-u64-3 : tie.Need-shared-slice-read-wrapping-add-u64-3
+shared-slice-read-wrapping-add-u64-3 c = search needs
+
+shared-slice-read-wrapping-add-u64-4 : tie.Need-shared-slice-read-wrapping-add-u64-4
+shared-slice-read-wrapping-add-u64-4 c = search needs
+
+wrapping-add-u64-requires-2 : tie.Need-wrapping-add-u64-requires-2
+wrapping-add-u64-requires-2 c κs = search needs
+
+simple-requires : tie.Need-simple-requires
+simple-requires c κs = search needs
+
+returns : tie.Need-returns
+returns c =
+    let a = c .before .before .before .before .before .before .before .before .before .before .args in
+    laws.answer-asked (a .state .now) (a .n) (a .count) (a .until) (a .c) (c .simple .result) (c .before .before .before .before .wrapping-add-u64 .result) (c .before .wrapping-add-u642 .result) (c .before .before .before .before .before .before .before .if1 .taken) (c .before .before .before .before .wrapping-add-u64 .ensures) (c .before .wrapping-add-u642 .ensures) (c .simple .ensures)
+
+least-requires : tie.Need-least-requires
+least-requires c κs = search needs
+
+shared-slice-read-simple : tie.Need-shared-slice-read-simple
+shared-slice-read-simple c = search needs
+
+mul-simple : tie.Need-mul-simple
+mul-simple c = omega (arith, c .before .before .before .before .before .before .pre .1 (omega (arith, c .before .before .least .ensures, c .before .if2 .taken)))
+
+simple-requires-2 : tie.Need-simple-requires-2
+simple-requires-2 c κs = search needs
+
+returns-2 : tie.Need-returns-2
+returns-2 c =
+    let a = c .before .before .before .before .before .before .before .args in
+    laws.answer-failed (a .state .now) (a .n) (a .count) (a .until) (a .c) (c .simple2 .result) (c .before .before .before .before .if1 .left) (c .before .before .before .least .result) (c .before .before .before .least .ensures) (c .before .before .if2 .taken) (c .simple2 .ensures)
+
+simple-requires-3 : tie.Need-simple-requires-3
+simple-requires-3 c κs = search needs
+
+returns-3 : tie.Need-returns-3
+returns-3 c =
+    let a = c .before .before .before .before .before .before .args in
+    laws.answer-done (a .state .now) (a .n) (a .count) (a .until) (a .c) (c .simple3 .result) (c .before .before .before .if1 .left) (c .before .before .least .result) (c .before .before .least .ensures) (c .before .if2 .left) (c .simple3 .ensures)
+
+pub answer-spec : {M : Type 1} → statement M
+answer-spec =
+    tie.close
+    (tie.spec
+    shared-slice-read-if1
+    shared-slice-read-wrapping-add-u64
+    shared-slice-read-wrapping-add-u64-2
+    wrapping-add-u64-requires
+    shared-slice-read-wrapping-add-u64-3
+    shared-slice-read-wrapping-add-u64-4
+    wrapping-add-u64-requires-2
+    simple-requires
+    returns
+    least-requires
+    shared-slice-read-simple
+    mul-simple
+    simple-requires-2
+    returns-2
+    simple-requires-3
+    returns-3)

@@ -1,0 +1,45 @@
+-- `registrar::ask` meets its contract. Assumes nothing.
+use borrow.Author.Needs.{needs}
+use mathlib.Core.Path.{ap, ap₂, _∙_}
+use Prim.Native.Nat.{ℕ}
+use Rattle.registrar_steps.specs.declared.Request.{Request}
+use Rattle.registrar_state.specs.World.{simple, withRequest}
+use Rattle.registrar.proofs.ask.Statement.{statement}
+use Rattle.registrar.proofs.ask.Tie as tie
+
+slice-read-offset : tie.Need-slice-read-offset
+slice-read-offset c = search needs
+
+piece-requires : tie.Need-piece-requires
+piece-requires c κs = search needs
+
+save-requires : tie.Need-save-requires
+save-requires c κs = search needs
+
+wrapping-add-u64-requires : tie.Need-wrapping-add-u64-requires
+wrapping-add-u64-requires c κs = search needs
+
+wrapping-add-u64-requires-2 : tie.Need-wrapping-add-u64-requires-2
+wrapping-add-u64-requires-2 c κs = search needs
+
+simple-requires : tie.Need-simple-requires
+simple-requires c κs = search needs
+
+same-length : tie.Need-same-length
+same-length c = search needs
+
+returns : tie.Need-returns
+returns c = (c .before .before .before .before .before .save .ensures ∙ ap (λ (q : Request). withRequest q (c .before .before .before .before .before .before .before .before .before .before .args .state .now)) (c .before .before .before .before .before .before .piece .ensures), c .simple .ensures ∙ ap₂ (λ (x y : ℕ). simple 0 1 0 x y 0) (c .before .before .wrapping-add-u64 .ensures) (c .before .wrapping-add-u642 .ensures))
+
+pub ask-spec : {M : Type 1} → statement M
+ask-spec =
+    tie.close
+    (tie.spec
+    slice-read-offset
+    piece-requires
+    save-requires
+    wrapping-add-u64-requires
+    wrapping-add-u64-requires-2
+    simple-requires
+    same-length
+    returns)

@@ -1,0 +1,77 @@
+-- `registrar::go_on` meets its contract. Assumes nothing.
+use borrow.Author.Needs.{needs}
+use native.Mathlib.Omega.{arith}
+use Prim.Native.Nat.{min}
+use Rattle.registrar_state.specs.World.{world, seenIn}
+use Rattle.registrar_steps.specs.Laws.{stop-below}
+use Rattle.registrar.specs.Laws as laws
+use Rattle.registrar.proofs.go_on.Statement.{statement}
+use Rattle.registrar.proofs.go_on.Tie as tie
+
+register-stop-requires : tie.Need-register-stop-requires
+register-stop-requires c κs = search needs
+
+set-chunks-requires : tie.Need-set-chunks-requires
+set-chunks-requires c κs = search needs
+
+add-piece : tie.Need-add-piece
+add-piece c =
+    let a = c .before .before .before .before .before .before .before .before .before .before .before .before .before .args in
+    let t = c .before .before .before .before .before .before .before .register-stop in
+    omega (arith, stop-below (seenIn (world (a .state .now) (a .registered .now) (a .failed .now))) (a .from) (min (a .until) (a .n)) (t .result) (t .ensures .0) (c .before .if1 .taken), c .before .before .before .before .before .before .before .before .before .before .before .before .before .fits .n)
+
+piece-requires : tie.Need-piece-requires
+piece-requires c κs = search needs
+
+save-requires : tie.Need-save-requires
+save-requires c κs = search needs
+
+same-length : tie.Need-same-length
+same-length c = search needs
+
+same-length-2 : tie.Need-same-length-2
+same-length-2 c = search needs
+
+returns : tie.Need-returns
+returns c =
+    let a = c .before .before .before .before .before .before .before .before .before .before .before .before .before .before .before .before .before .args in
+    let w = world (a .state .now) (a .registered .now) (a .failed .now) in
+    let t = c .before .before .before .before .before .before .before .before .before .before .before .register-stop in
+    (laws.go-asked w (a .n) (a .count) (a .from) (a .until) (c .before .before .before .before .before .before .before .before .before .before .before .before .before .before .before .before .before .pre .1) (t .result) (t .ensures .0) _ _ (c .before .before .before .before .before .before .before .before .before .set-chunks .ensures) (c .before .before .before .piece .result) (c .before .before .before .before .before .if1 .taken) (c .before .before .before .piece .ensures) (c .before .before .save .ensures), t .ensures .1)
+
+idle-requires : tie.Need-idle-requires
+idle-requires c κs = search needs
+
+save-requires-2 : tie.Need-save-requires-2
+save-requires-2 c κs = search needs
+
+same-length-3 : tie.Need-same-length-3
+same-length-3 c = search needs
+
+same-length-4 : tie.Need-same-length-4
+same-length-4 c = search needs
+
+returns-2 : tie.Need-returns-2
+returns-2 c =
+    let a = c .before .before .before .before .before .before .before .before .before .before .before .before .before .before .before .before .before .args in
+    let w = world (a .state .now) (a .registered .now) (a .failed .now) in
+    let t = c .before .before .before .before .before .before .before .before .before .before .before .register-stop in
+    (laws.go-ended w (a .n) (a .count) (a .from) (a .until) (c .before .before .before .before .before .before .before .before .before .before .before .before .before .before .before .before .before .pre .1) (t .result) (t .ensures .0) _ _ (c .before .before .before .before .before .before .before .before .before .set-chunks .ensures) (c .before .before .before .idle .result) (c .before .before .before .before .before .if1 .left) (c .before .before .before .idle .ensures) (c .before .before .save2 .ensures), t .ensures .1)
+
+pub go-on-spec : {M : Type 1} → statement M
+go-on-spec =
+    tie.close
+    (tie.spec
+    register-stop-requires
+    set-chunks-requires
+    add-piece
+    piece-requires
+    save-requires
+    same-length
+    same-length-2
+    returns
+    idle-requires
+    save-requires-2
+    same-length-3
+    same-length-4
+    returns-2)

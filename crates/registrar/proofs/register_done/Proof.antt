@@ -1,0 +1,70 @@
+-- `registrar::register_done` meets its contract. Assumes nothing.
+use borrow.Author.Needs.{needs}
+use mathlib.Core.Path.{_∙_}
+use Rattle.registrar_state.specs.World.{world}
+use Rattle.registrar.specs.Laws as laws
+use Rattle.registrar.proofs.register_done.Statement.{statement}
+use Rattle.registrar.proofs.register_done.Tie as tie
+
+load-requires : tie.Need-load-requires
+load-requires c κs = search needs
+
+rest-of-requires : tie.Need-rest-of-requires
+rest-of-requires c κs = search needs
+
+ask-requires : tie.Need-ask-requires
+ask-requires c κs = search needs
+
+same-length : tie.Need-same-length
+same-length c = search needs
+
+returns : tie.Need-returns
+returns c =
+    let a = c .before .before .before .before .before .before .before .before .before .before .before .before .before .args in
+    let w = world (a .state .now) (a .registered .now) (a .failed .now) in
+    laws.done-rest w (c .before .before .before .before .before .before .before .before .load .result) (c .before .before .before .before .before .before .before .before .load .ensures) (c .before .before .before .before .before .before .rest-of .result) _ (c .before .before .ask .result) (c .before .before .before .before .before .before .before .before .before .before .before .before .before .pre .2) (c .before .before .before .before .before .before .rest-of .ensures) (c .before .before .before .before .if1 .taken) (c .before .before .ask .ensures .0) (c .before .before .ask .ensures .1)
+
+set-chunks-requires : tie.Need-set-chunks-requires
+set-chunks-requires c κs = search needs
+
+go-on-requires : tie.Need-go-on-requires
+go-on-requires c κs = search needs
+
+answer-requires : tie.Need-answer-requires
+answer-requires c κs =
+    let a = c .before .before .before .before .before .before .before .before .before .before .before .before .before .before .before .before .before .before .before .before .before .args in
+    let w = world (a .state .now) (a .registered .now) (a .failed .now) in
+    let v = world (a .state .now) (c .before .before .before .before .before .before .before .before .before .before .set-chunks .last .0) (a .failed .now) in
+    let o = c .before .before .before .before .before .go-on in
+    laws.go-kept v (a .n) (c .before .before .before .before .before .before .before .before .before .before .before .before .before .before .before .before .load .result .count) (c .before .before .before .before .before .before .before .before .before .before .before .before .before .before .before .before .load .result .to) (c .before .before .before .before .before .before .before .before .before .before .before .before .before .before .before .before .load .result .until) (c .before .before .before .before .before .before .before .before .before .before .before .before .before .before .before .before .before .before .before .before .before .pre .1) _ _ (o .result) (o .ensures .0) (c .before .before .before .before .before .before .before .before .before .before .before .before .before .before .before .before .before .before .before .before .before .pre .0) (o .ensures .1)
+
+same-length-2 : tie.Need-same-length-2
+same-length-2 c = search needs
+
+same-length-3 : tie.Need-same-length-3
+same-length-3 c = search needs
+
+returns-2 : tie.Need-returns-2
+returns-2 c =
+    let a = c .before .before .before .before .before .before .before .before .before .before .before .before .before .before .before .before .before .before .before .before .before .before .args in
+    let w = world (a .state .now) (a .registered .now) (a .failed .now) in
+    let v = world (a .state .now) (c .before .before .before .before .before .before .before .before .before .before .before .set-chunks .last .0) (a .failed .now) in
+    let o = c .before .before .before .before .before .before .go-on in
+    laws.go-answered v (a .n) (c .before .before .before .before .before .before .before .before .before .before .before .before .before .before .before .before .before .load .result .count) (c .before .before .before .before .before .before .before .before .before .before .before .before .before .before .before .before .before .load .result .to) (c .before .before .before .before .before .before .before .before .before .before .before .before .before .before .before .before .before .load .result .until) (c .before .before .before .before .before .before .before .before .before .before .before .before .before .before .before .before .before .before .before .before .before .before .pre .1) _ _ (o .result) (c .answer .result) (o .ensures .0) (c .answer .ensures)
+    ∙ laws.done-register w (c .before .before .before .before .before .before .before .before .before .before .before .before .before .before .before .before .before .load .result) (c .before .before .before .before .before .before .before .before .before .before .before .before .before .before .before .before .before .load .ensures) (laws.none-left (a .state .now) (c .before .before .before .before .before .before .before .before .before .before .before .before .before .before .before .rest-of .result) (c .before .before .before .before .before .before .before .before .before .before .before .before .before .before .before .rest-of .ensures) (c .before .before .before .before .before .before .before .before .before .before .before .before .before .if1 .left) (c .before .before .before .before .before .before .before .before .before .before .before .before .before .before .before .before .before .before .before .before .before .before .pre .2)) _ (c .before .before .before .before .before .before .before .before .before .before .before .set-chunks .ensures) (c .before .before .before .before .before .before .before .before .before .before .before .before .before .before .before .before .before .before .before .before .before .before .pre .2)
+
+pub register-done-spec : {M : Type 1} → statement M
+register-done-spec =
+    tie.close
+    (tie.spec
+    load-requires
+    rest-of-requires
+    ask-requires
+    same-length
+    returns
+    set-chunks-requires
+    go-on-requires
+    answer-requires
+    same-length-2
+    same-length-3
+    returns-2)

@@ -1,0 +1,22 @@
+-- `registrar_steps::is_whole` meets its contract. Assumes nothing.
+use native.Mathlib.Omega.{arith}
+use borrow.Author.Tests.{leb-true}
+use Rattle.laws.specs.Bools.{false≢true}
+use Rattle.registrar_steps.specs.Laws as laws
+use Rattle.registrar_steps.proofs.is_whole.Statement.{statement}
+use Rattle.registrar_steps.proofs.is_whole.Tie as tie
+
+returns : tie.Need-returns
+returns c = λ h. false≢true h
+
+mul-start : tie.Need-mul-start
+mul-start c = omega (arith, c .before .pre (c .if1 .left))
+
+returns-2 : tie.Need-returns-2
+returns-2 c = λ h. false≢true h
+
+returns-3 : tie.Need-returns-3
+returns-3 c = λ h. laws.whole-ends (c .before .before .args .c) (c .before .before .args .g) (c .before .before .args .x) (c .if2 .left) (leb-true _ _ h)
+
+pub is-whole-spec : {M : Type 1} → statement M
+is-whole-spec = tie.close (tie.spec returns mul-start returns-2 returns-3)
