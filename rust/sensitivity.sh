@@ -81,6 +81,7 @@ tell() { echo "| $number | $1 | $2 | $3 |"; }
 cell() { echo "\`$(tr '\n' ' ' <<<"$1" | sed 's/  */ /g; s/ *$//; s/|/\\|/g')\`"; }
 
 cp "$source"/*.rs "$copy/"
+chmod u+w "$copy"/*.rs
 run >/dev/null || { echo "sensitivity.sh: the source as it is shows a difference" >&2; exit 2; }
 
 echo '| | file | edit | shrunk to |'

@@ -352,7 +352,7 @@ fn keeps(phase: Phase) -> Next
     }
 }
 
-// From here on the table is what the contracts speak of; only the end of a run is read from it.
+// Up to `done` the table is what the contracts speak of; only the end of a run is read from it.
 
 // Sharing, from the run at a place on.
 fn share_run(set: Settings, q: Request, t: &[u64], at: u64) -> Next

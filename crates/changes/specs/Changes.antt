@@ -89,7 +89,7 @@ doneOf tracked at.Wait q t next = ask at.Flush q (Flush (q .flush)) Keep
 doneOf tracked at.Flush q t next = ask at.TlbWait q (TlbWait (q .vtl)) Keep
 doneOf tracked at.TlbWait q t next = finish (Done (q .count))
 
--- Wait, Flush and TlbWait: they follow each other, then the call ends; no map and no entry is written (law `flush-done`)
+-- Wait, Flush and TlbWait: they follow each other, then the call ends; no map and no entry is written (law `flush-done` of `protections`)
 abbrev pub isFlushing : Stage → Bool
 isFlushing at.Idle = false
 isFlushing at.Halted = false
@@ -101,6 +101,7 @@ isFlushing at.Wait = true
 isFlushing at.Flush = true
 isFlushing at.TlbWait = true
 
+-- the stage that follows one of them, Idle at the end
 abbrev pub flushStage : Stage → Stage
 flushStage at.Idle = at.Idle
 flushStage at.Halted = at.Idle
@@ -112,6 +113,7 @@ flushStage at.Wait = at.Flush
 flushStage at.Flush = at.TlbWait
 flushStage at.TlbWait = at.Idle
 
+-- by the stage that follows, the change that is left and the answer; only Flush, TlbWait and Idle follow
 abbrev pub flushChange : Stage → Change → Change
 flushChange at.Idle q = noChange
 flushChange at.Halted q = noChange

@@ -94,7 +94,7 @@ statusOf ProtectDefault1 = 19
 abbrev pub statusIn : List ℕ → ℕ
 statusIn s = cond (isChanging s) 19 (statusOf (phaseIn s))
 
--- whether an answer is taken; it is 21 where nothing waits, and a failure of what cannot fail is too
+-- whether an answer is taken: not where halted (20), nor where nothing waits or what cannot fail is said to have failed (21)
 abbrev pub takes : Phase → Bool → Bool
 takes Idle failed = false
 takes Halted failed = false

@@ -24,7 +24,6 @@ use acceptor::Writes;
 use changes::Stage;
 use pages::PageRun;
 use permissions::GuestVtl;
-use permissions::HvMapGpaFlags;
 use protector_state::Reply;
 
 // The tables of one VTL.

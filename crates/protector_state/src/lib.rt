@@ -10,7 +10,6 @@ ghost use Rattle.permissions.specs.Rmpadjust.{operandOf};
 ghost use Rattle.protector_state.specs.State.{stateLen, phaseNumber, firstPhases, phaseOf, phaseIn, requestOf, withRequest, optionOf, settingsOf, ramOf, builtState};
 ghost use Rattle.protector_state.specs.Reply.{finished, plain, onVtl, onRun, protects, modifies, askedOf, endedOf, flatOf};
 use acceptor::Answer;
-use acceptor::Next;
 use acceptor::Operation;
 use acceptor::Phase;
 use acceptor::Request;

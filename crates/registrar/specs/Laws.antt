@@ -26,6 +26,7 @@ use Rattle.registrar_steps.specs.Laws.{register-stopped}
 use Rattle.registrar_state.specs.declared.Reply.{Reply}
 use Rattle.registrar_state.specs.World.{World, world, Outcome, outcome, requestOf, withRequest, offsetOf, granularityOf, entriesIn, seenIn, builtState, simple, flatOf, decided, buildRefusal, callRefusal, chunksFit, registerRefusal, allRefusal, marked, carriedOut, registerPlan, isKnown, answerRefusal, restOf, hasRest, takenTo, donePlan, afterTaken}
 use Rattle.registrar_state.specs.Laws.{known-kept}
+use Rattle.registrar.specs.Stored.{Stored, answerOf}
 
 -- ---- a call refused, and one carried out
 
@@ -126,10 +127,6 @@ pub plan-made : (w : World) (p q : Plan) (s m : List ℕ) (r : Reply) → q ≡ 
     → r ≡ flatOf (q .answer) → outcome s m (w .failed) r ≡ carriedOut w p
 plan-made w p q s m r e hs hm hr = let here : outcome s m (w .failed) r ≡ carriedOut w q = cc in here ∙ ap (carriedOut w) e
 
--- what a plan of `register` stores and marks, and where it stops
-abbrev pub Stored : World → Plan → List ℕ → List ℕ → ℕ → Type 0
-Stored w p s m c = (s ≡ withRequest (p .request) (w .state)) × (m ≡ marked (p .from) (p .to) (w .registered)) × (c ≡ p .to)
-
 stored : (w : World) (p q : Plan) (s m : List ℕ) (c : ℕ) → q ≡ p → s ≡ withRequest (q .request) (w .state) → m ≡ marked (q .from) (q .to) (w .registered) → c ≡ q .to → Stored w p s m c
 stored w p q s m c e hs hm hc =
     (hs ∙ ap (λ (p : Plan). withRequest (p .request) (w .state)) e, hm ∙ ap (λ (p : Plan). marked (p .from) (p .to) (w .registered)) e, hc ∙ ap (λ (p : Plan). p .to) e)
@@ -158,12 +155,6 @@ module _ (w : World) (n count from until : ℕ) (hn : n ≡ chunkCount (granular
         go false e =
             stored w planned (ends from (a .chunk) (Done count)) s m (a .chunk)
             (sym (rw (ne-eqb (a .what) 1 h, e)) ∙ stopped-is) (hs ∙ ap (λ (q : Request). withRequest q (w .state)) hi) hm refl
-
--- what is answered then, of the words that are stored
-abbrev pub answerOf : List ℕ → ℕ → ℕ → ℕ → ℕ → Reply
-answerOf s n count until c =
-    cond (eqb (getD s 0 0) 1) (simple 0 1 0 ((offsetOf s + getD s 4 0) % 2 ^ 64) ((offsetOf s + getD s 5 0) % 2 ^ 64) 0)
-    (cond (ltb c (min until n)) (simple 23 0 count 0 0 (c * granularityOf s)) (simple 0 0 count 0 0 0))
 
 module _ (s : List ℕ) (n count until c : ℕ) (r : Reply) where
   pub answer-asked : (x y : ℕ) → getD s 0 0 ≡ 1 → x ≡ (offsetOf s + getD s 4 0) % 2 ^ 64 → y ≡ (offsetOf s + getD s 5 0) % 2 ^ 64 → r ≡ simple 0 1 0 x y 0 → r ≡ answerOf s n count until c

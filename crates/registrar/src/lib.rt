@@ -6,7 +6,7 @@ ghost use Rattle.layout.specs.Layout.{spans};
 ghost use Rattle.chunks.specs.Chunks.{chunkCount};
 ghost use Rattle.registrar_steps.specs.Steps.{askedOf, pieceOf, registerFrom, allFrom};
 ghost use Rattle.registrar_state.specs.World.{world, outcome, withRequest, offsetOf, granularityOf, entriesIn, seenIn, flatOf, builtState, carriedOut, buildOf, registerOf, allOf, failedOf, donePlan, afterTaken, doneOf};
-ghost use Rattle.registrar.specs.Laws.{Stored, answerOf};
+ghost use Rattle.registrar.specs.Stored.{Stored, answerOf};
 use layout::MemoryRange;
 use registrar_state::Reply;
 use registrar_steps::Answer;
@@ -60,8 +60,8 @@ pub extern "C" fn registrar_build(
     registrar_state::simple(0, 0, 0, 0, 0, 0)
 }
 
-// From chunk `from` on, of a request that ends before chunk `until`: what is to be marked and stored. Gives the chunk
-// where it stops.
+// From chunk `from` on, of a request that ends before chunk `until`: marks and stores what follows. Gives the chunk where it
+// stops.
 fn go_on(
     state: &mut [u64],
     registered: &mut [u64],

@@ -148,7 +148,7 @@ fn lengths_fit(n: u64, registered: &[u64], failed: &[u64]) -> bool
     }
 }
 
-// How many chunks there are: 0 where the state block has another length.
+// How many chunks there are. Of a state block of another length nothing is said: every call is refused by 4 then.
 pub fn chunk_count(state: &[u64]) -> u64
     ensures { λ r. ⌜ (length (now (state .entry)) ≡ 108 → r ≡ chunkCount (granularityOf (now (state .entry))) (entriesIn (now (state .entry)))) ⌝ }
 {

@@ -76,7 +76,8 @@ registerFrom s offset n c until =
     (asks offset c t (pieceOf n t (t + 1) until (ramFrom (s .granularity) (s .entries) t (t * s .granularity)))))
     (ends c t (Done n))
 
--- the same in numbers, as the code finds it: 0 at the end, 1 at a chunk with RAM to ask for, 2 at one that failed before
+-- the same in numbers, as the code finds it: 0 at the end (of one chunk: nothing to ask for), 1 at a chunk with RAM to ask for, 2 at one that
+-- failed before
 abbrev pub stop : ℕ → ℕ → ℕ → ℕ → Stop
 stop what c x y = record { what = what; chunk = c; start = x; end = y }
 
@@ -88,14 +89,14 @@ offerOf s c =
     (cond (bitAt 64 (s .failed) c) (stop 2 c (c * s .granularity) 0)
     (cond (empty r) (stop 0 c 0 0) (stop 1 c (r .start) (r .end))))
 
--- from chunk c to before e
+-- where a walk from chunk c to before e stops
 unfoldable pub stopAt : Seen → ℕ → ℕ → Stop
 stopAt s c e =
     let t : ℕ = firstNot (passes s) c e in
     let r : MemoryRange = ramFrom (s .granularity) (s .entries) t (t * s .granularity) in
     cond (ltb t e) (cond (bitAt 64 (s .failed) t) (stop 2 t (t * s .granularity) 0) (stop 1 t (r .start) (r .end))) (stop 0 t 0 0)
 
--- its plan
+-- the plan of such a stop
 abbrev pub stopPlan : ℕ → ℕ → ℕ → ℕ → Stop → Plan
 stopPlan offset n c until a =
     cond (eqb (a .what) 1) (asks offset c (a .chunk) (pieceOf n (a .chunk) (a .chunk + 1) until (range (a .start) (a .end))))

@@ -41,7 +41,8 @@ pub enum Answer {
     Refused(u64),
 }
 
-// Where `register` stops: 0 at the end, 1 at a chunk with RAM to ask for, 2 at one that failed before, with its address.
+// Where `register` stops: 0 at the end, 1 at a chunk with RAM to ask for, 2 at one that failed before, with its address. Of one
+// chunk 0 is that it asks for nothing.
 pub struct Stop {
     pub what: u64,
     pub chunk: u64,
@@ -117,7 +118,7 @@ fn walk(ram: &[u64], g: u64, registered: &[u64], failed: &[u64], from: u64, to: 
     stop_of(0, c, 0, 0)
 }
 
-// From chunk `from` on, of a request that ends before chunk `until`, where there are n chunks.
+// Where `register` stops, from chunk `from` on, of a request that ends before chunk `until`, where there are n chunks.
 pub fn register_from(
     ram: &[u64],
     g: u64,
@@ -133,7 +134,7 @@ pub fn register_from(
     walk(ram, g, registered, failed, from, numbers::least(until, n))
 }
 
-// Whether chunk c, of n, ends at address x or before. May be false where n is not above c.
+// Whether chunk c, of n, ends at address x or before. Is false where c isn't one of the n.
 fn is_whole(c: u64, g: u64, n: u64, x: u64) -> bool
     requires { ⌜ (c < n → c * g < 2 ^ 64) ⌝ }
     ensures { λ r. ⌜ (r ≡ true → (c + 1) * g ≤ x) ⌝ }

@@ -4,7 +4,7 @@ use mathlib.Core.Path.{ap, ap₂, _∙_}
 use Rattle.changes.specs.declared.Stage.{Stage}
 use Rattle.changes.specs.declared.Change.{Change}
 use Rattle.changes.specs.Changes.{flushStage, flushChange}
-use Rattle.change_state.specs.State.{changeIn, withChange}
+use Rattle.change_state.specs.State.{withChange}
 use Rattle.protections.specs.Flush.{flushReply}
 use Rattle.protections.proofs.flush_done.Statement.{statement}
 use Rattle.protections.proofs.flush_done.Tie as tie

@@ -1,6 +1,6 @@
 -- `registrar_steps::offer_of` meets its contract. Assumes nothing.
 use borrow.Author.Needs.{needs}
-use mathlib.Core.Path.{sym, ap, _∙_}
+use mathlib.Core.Path.{sym, _∙_}
 use Rattle.layout.specs.Layout.{entriesOf}
 use Rattle.registrar_steps.specs.Steps.{seen}
 use Rattle.registrar_steps.specs.Laws as laws
