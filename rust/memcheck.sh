@@ -17,7 +17,8 @@ memcheck=(valgrind --quiet --error-exitcode=99 --leak-check=full
     --show-leak-kinds=definite --errors-for-leak-kinds=definite)
 release() { cargo build --offline --quiet --release "$@"; }
 
-release -p differential --bin differential -p port
+release -p differential --bin differential
+release -p port
 echo "== the protector's entries, $calls calls"
 "${memcheck[@]}" "$built"/differential --part raw --calls "$calls" --seed "$seed" | tail -n 2
 
