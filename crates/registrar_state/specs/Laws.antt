@@ -2,7 +2,7 @@
 use native.Mathlib.Omega.{arith}
 use native.Mathlib.Decide.{decLt}
 use mathlib.Core.Path.{_≡_, refl, sym, ap, ap₂, _∙_}
-use mathlib.Core.Bool.{Bool, true, false, _||_, _&&_}
+use mathlib.Core.Bool.{Bool, true, false, cond, _||_, _&&_}
 use mathlib.Core.List.{List, [], _∷_, _++_}
 use Prim.Native.Nat.{ℕ, _+_, _-_, _*_, _/_, _%_, _^_, _≤_, _<_, min, max}
 use lib.Dec.{eqb, leb}
@@ -25,7 +25,7 @@ use Rattle.registrar_steps.specs.declared.Plan.{Plan}
 use Rattle.registrar_steps.specs.declared.Stop.{Stop}
 use Rattle.registrar_steps.specs.Steps.{Seen, seen, idle, isIdle, ends, ramFrom, passes, stopAt, allFrom}
 use Rattle.registrar_steps.specs.Laws.{register-done}
-use Rattle.registrar_state.specs.World.{World, outcome, requestOf, requestWords, withRequest, offsetOf, granularityOf, ramOf, entriesIn, seenIn, flatOf, lengthsFit, buildRefusal, callRefusal, chunksFit, marked, carriedOut, registerPlan, isKnown, restOf}
+use Rattle.registrar_state.specs.World.{World, outcome, requestOf, requestWords, withRequest, offsetOf, granularityOf, ramOf, entriesIn, seenIn, flatOf, lengthsFit, buildRefusal, callRefusal, countIn, chunksFit, marked, carriedOut, registerPlan, isKnown, restOf}
 
 -- ---- the request's words
 
@@ -191,6 +191,15 @@ rest-is s ram r h f = f ∙ ap (λ (l : List ℕ). ramFrom (granularityOf s) (en
 -- the count, of the layout's words
 pub count-is : (s ram : List ℕ) (n : ℕ) → ram ≡ ramOf s → n ≡ chunkCount (granularityOf s) (entriesOf ram) → n ≡ chunkCount (granularityOf s) (entriesIn s)
 count-is s ram n h e = e ∙ ap (λ (l : List ℕ). chunkCount (granularityOf s) (entriesOf l)) h
+
+pub count-in : (s : List ℕ) (n : ℕ) → n ≡ countIn s → length s ≡ 108 → n ≡ chunkCount (granularityOf s) (entriesIn s)
+count-in s n e h = e ∙ ap (λ (b : Bool). cond b (chunkCount (granularityOf s) (entriesIn s)) 0) (eq-eqb (length s) 108 h)
+
+pub count-known : (s : List ℕ) (n : ℕ) → length s ≡ 108 → n ≡ chunkCount (granularityOf s) (entriesIn s) → n ≡ countIn s
+count-known s n h e = e ∙ sym (ap (λ (b : Bool). cond b (chunkCount (granularityOf s) (entriesIn s)) 0) (eq-eqb (length s) 108 h))
+
+pub count-none : (s : List ℕ) → (length s ≡ 108 → ⊥) → 0 ≡ countIn s
+count-none s h = sym (ap (λ (b : Bool). cond b (chunkCount (granularityOf s) (entriesIn s)) 0) (ne-eqb (length s) 108 h))
 
 pub count-of : (s ram : List ℕ) (n : ℕ) → ram ≡ ramOf s → n ≡ chunkCount (granularityOf s) (entriesIn s) → n ≡ chunkCount (granularityOf s) (entriesOf ram)
 count-of s ram n h e = e ∙ ap (λ (l : List ℕ). chunkCount (granularityOf s) (entriesOf l)) (sym h)

@@ -136,6 +136,10 @@ callRefusal w rest =
     (unless (lengthsFit (granularityOf (w .state)) (entriesIn (w .state)) (w .registered) (w .failed)) 4
     rest))
 
+-- how many chunks there are, by the state block; a block of another length has none
+abbrev pub countIn : List ℕ → ℕ
+countIn s = cond (eqb (length s) 108) (chunkCount (granularityOf s) (entriesIn s)) 0
+
 -- of the chunks from first to before end: there are none, or none past the last
 abbrev pub chunksFit : List ℕ → ℕ → ℕ → Bool
 chunksFit s first end = leb end first || leb end (chunkCount (granularityOf s) (entriesIn s))

@@ -6,7 +6,7 @@ ghost use lib.Dec.{eqb, leb};
 ghost use lib.ListN.{length};
 ghost use Rattle.layout.specs.Layout.{spans};
 ghost use Rattle.chunks.specs.Chunks.{up, chunkCount, isPower};
-ghost use Rattle.registrar_state.specs.World.{world, simple, flatUnaligned, requestOf, withRequest, offsetOf, granularityOf, ramOf, entriesIn, seenIn, flatOf, buildRefusal, callRefusal, chunksFit, allRefusal, isKnown, answerRefusal, restOf};
+ghost use Rattle.registrar_state.specs.World.{world, simple, flatUnaligned, requestOf, withRequest, offsetOf, granularityOf, ramOf, entriesIn, seenIn, flatOf, buildRefusal, callRefusal, countIn, chunksFit, allRefusal, isKnown, answerRefusal, restOf};
 ghost use Rattle.registrar_steps.specs.Steps.{stopAt, allFrom};
 ghost use Rattle.laws.specs.Refusal.{unless};
 use layout::MemoryRange;
@@ -148,9 +148,9 @@ fn lengths_fit(n: u64, registered: &[u64], failed: &[u64]) -> bool
     }
 }
 
-// How many chunks there are. Of a state block of another length nothing is said: every call is refused by 4 then.
+// How many chunks there are: 0 where the state block has another length.
 pub fn chunk_count(state: &[u64]) -> u64
-    ensures { λ r. ⌜ (length (now (state .entry)) ≡ 108 → r ≡ chunkCount (granularityOf (now (state .entry))) (entriesIn (now (state .entry)))) ⌝ }
+    ensures { λ r. ⌜ r ≡ countIn (now (state .entry)) ⌝ }
 {
     if state.len() != 108 {
         return 0;
@@ -160,7 +160,7 @@ pub fn chunk_count(state: &[u64]) -> u64
 
 // 4, 19, 4 for a call, else 0.
 fn call_refusal(state: &[u64], registered: &[u64], failed: &[u64], n: u64) -> u64
-    requires { ⌜ (length (now state) ≡ 108 → n ≡ chunkCount (granularityOf (now state)) (entriesIn (now state))) ⌝ }
+    requires { ⌜ n ≡ countIn (now state) ⌝ }
     ensures { λ r. ⌜ r ≡ callRefusal (world (now (state .entry)) (now (registered .entry)) (now (failed .entry))) 0 ⌝ }
 {
     if state.len() != 108 {
@@ -201,7 +201,7 @@ pub fn register_refusal(
     first: u64,
     end: u64,
 ) -> u64
-    requires { ⌜ (length (now state) ≡ 108 → n ≡ chunkCount (granularityOf (now state)) (entriesIn (now state))) ⌝ }
+    requires { ⌜ n ≡ countIn (now state) ⌝ }
     ensures { λ r. ⌜ r ≡ callRefusal (world (now (state .entry)) (now (registered .entry)) (now (failed .entry))) (unless (chunksFit (now (state .entry)) first end) 9 0) ⌝ }
 {
     let k = call_refusal(state, registered, failed, n);
@@ -229,7 +229,7 @@ pub fn all_refusal(
     alignment: u64,
     ignore: u64,
 ) -> u64
-    requires { ⌜ (length (now state) ≡ 108 → n ≡ chunkCount (granularityOf (now state)) (entriesIn (now state))) ⌝ }
+    requires { ⌜ n ≡ countIn (now state) ⌝ }
     ensures { λ r. ⌜ r ≡ allRefusal (world (now (state .entry)) (now (registered .entry)) (now (failed .entry))) alignment ignore ⌝ }
 {
     let k = call_refusal(state, registered, failed, n);
@@ -247,7 +247,7 @@ pub fn all_refusal(
 }
 
 pub fn answer_refusal(state: &[u64], registered: &[u64], failed: &[u64], n: u64) -> u64
-    requires { ⌜ (length (now state) ≡ 108 → n ≡ chunkCount (granularityOf (now state)) (entriesIn (now state))) ⌝ }
+    requires { ⌜ n ≡ countIn (now state) ⌝ }
     ensures { λ r. ⌜ r ≡ answerRefusal (world (now (state .entry)) (now (registered .entry)) (now (failed .entry))) ⌝ }
 {
     if state.len() != 108 {

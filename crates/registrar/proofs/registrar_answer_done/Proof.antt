@@ -2,6 +2,7 @@
 use borrow.Author.Needs.{needs}
 use native.Mathlib.Omega.{arith}
 use Rattle.registrar_state.specs.World.{world, doneOf}
+use Rattle.registrar_state.specs.Laws.{count-in}
 use Rattle.registrar.specs.Laws as laws
 use Rattle.registrar.proofs.registrar_answer_done.Statement.{statement}
 use Rattle.registrar.proofs.registrar_answer_done.Tie as tie
@@ -45,7 +46,7 @@ register-done-requires c κs =
     let w = world (a .state .now) (a .registered .now) (a .failed .now) in
     let n = c .before .before .before .before .before .before .answer-refusal in
     let long = laws.answer-long w (n .result) (c .before .before .before .before .before .if1 .left) (n .ensures) in
-    (long, c .before .before .before .before .before .before .before .before .before .before .chunk-count .ensures long, c .before .before .before .if2 .taken)
+    (long, count-in (a .state .now) _ (c .before .before .before .before .before .before .before .before .before .before .chunk-count .ensures) long, c .before .before .before .if2 .taken)
 
 same-length-4 : tie.Need-same-length-4
 same-length-4 c = search needs

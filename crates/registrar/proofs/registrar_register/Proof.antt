@@ -2,6 +2,7 @@
 use borrow.Author.Needs.{needs}
 use mathlib.Core.Path.{ap, _∙_}
 use Rattle.registrar_state.specs.World.{world, carriedOut, registerOf}
+use Rattle.registrar_state.specs.Laws.{count-in}
 use Rattle.registrar.specs.Laws as laws
 use Rattle.registrar.proofs.registrar_register.Statement.{statement}
 use Rattle.registrar.proofs.registrar_register.Tie as tie
@@ -91,7 +92,7 @@ go-on-requires c κs =
     let n = c .before .before .before .before .before .before .before .before .register-refusal in
     let nh = laws.touched-refusal w (a .address) (a .len) (g .result) (f .result) (e .result) (g .ensures) (f .ensures) (e .ensures) (n .result) (n .ensures) in
     let long = laws.register-long w (n .result) (c .before .before .before .before .before .before .before .if1 .left) (a .address) (a .len) nh in
-    (long, c .before .before .before .before .before .before .before .before .before .before .before .before .chunk-count .ensures long)
+    (long, count-in (a .state .now) _ (c .before .before .before .before .before .before .before .before .before .before .before .before .chunk-count .ensures) long)
 
 answer-requires : tie.Need-answer-requires
 answer-requires c κs =
@@ -104,7 +105,7 @@ answer-requires c κs =
     let nh = laws.touched-refusal w (a .address) (a .len) (g .result) (f .result) (e .result) (g .ensures) (f .ensures) (e .ensures) (n .result) (n .ensures) in
     let long = laws.register-long w (n .result) (c .before .before .before .before .before .before .before .before .before .before .before .before .before .if1 .left) (a .address) (a .len) nh in
     let o = c .before .before .before .before .before .go-on in
-    laws.go-kept w (c .before .before .before .before .before .before .before .before .before .before .before .before .before .before .before .before .before .before .chunk-count .result) 0 (f .result) (e .result) (c .before .before .before .before .before .before .before .before .before .before .before .before .before .before .before .before .before .before .chunk-count .ensures long) _ _ (o .result) (o .ensures .0) long (o .ensures .1)
+    laws.go-kept w (c .before .before .before .before .before .before .before .before .before .before .before .before .before .before .before .before .before .before .chunk-count .result) 0 (f .result) (e .result) (count-in (a .state .now) _ (c .before .before .before .before .before .before .before .before .before .before .before .before .before .before .before .before .before .before .chunk-count .ensures) long) _ _ (o .result) (o .ensures .0) long (o .ensures .1)
 
 same-length-7 : tie.Need-same-length-7
 same-length-7 c = search needs
@@ -127,7 +128,7 @@ returns-3 c =
     let nh = laws.touched-refusal w (a .address) (a .len) (g .result) (f .result) (e .result) (g .ensures) (f .ensures) (e .ensures) (n .result) (n .ensures) in
     let long = laws.register-long w (n .result) (c .before .before .before .before .before .before .before .before .before .before .before .before .before .before .if1 .left) (a .address) (a .len) nh in
     let o = c .before .before .before .before .before .before .go-on in
-    laws.call-answered w (n .result) _ nh _ _ (c .before .before .before .before .before .before .before .before .before .before .before .before .before .before .if1 .left) (laws.go-answered w (c .before .before .before .before .before .before .before .before .before .before .before .before .before .before .before .before .before .before .before .chunk-count .result) 0 (f .result) (e .result) (c .before .before .before .before .before .before .before .before .before .before .before .before .before .before .before .before .before .before .before .chunk-count .ensures long) _ _ (o .result) (c .answer .result) (o .ensures .0) (c .answer .ensures) ∙ ap (carriedOut w) (laws.touched-plan w (a .address) (a .len) (g .result) (f .result) (e .result) (g .ensures) (f .ensures) (e .ensures)))
+    laws.call-answered w (n .result) _ nh _ _ (c .before .before .before .before .before .before .before .before .before .before .before .before .before .before .if1 .left) (laws.go-answered w (c .before .before .before .before .before .before .before .before .before .before .before .before .before .before .before .before .before .before .before .chunk-count .result) 0 (f .result) (e .result) (count-in (a .state .now) _ (c .before .before .before .before .before .before .before .before .before .before .before .before .before .before .before .before .before .before .before .chunk-count .ensures) long) _ _ (o .result) (c .answer .result) (o .ensures .0) (c .answer .ensures) ∙ ap (carriedOut w) (laws.touched-plan w (a .address) (a .len) (g .result) (f .result) (e .result) (g .ensures) (f .ensures) (e .ensures)))
 
 pub registrar-register-spec : {M : Type 1} → statement M
 registrar-register-spec =

@@ -5,7 +5,7 @@ use Rattle.registrar_state.proofs.chunk_count.Statement.{statement}
 use Rattle.registrar_state.proofs.chunk_count.Tie as tie
 
 returns : tie.Need-returns
-returns c = search needs
+returns c = laws.count-none (c .before .before .args .state .now) (c .if1 .taken)
 
 ram-of-requires : tie.Need-ram-of-requires
 ram-of-requires c κs = search needs
@@ -17,7 +17,8 @@ chunk-count-requires : tie.Need-chunk-count-requires
 chunk-count-requires c κs = search needs
 
 returns-2 : tie.Need-returns-2
-returns-2 c = λ h. laws.count-is (c .before .before .before .before .before .args .state .now) (c .before .before .ram-of .result .now) (c .chunk-count .result) (c .before .before .ram-of .ensures) (c .chunk-count .ensures)
+returns-2 c =
+    laws.count-known (c .before .before .before .before .before .args .state .now) _ (c .before .before .before .if1 .left) (laws.count-is (c .before .before .before .before .before .args .state .now) (c .before .before .ram-of .result .now) (c .chunk-count .result) (c .before .before .ram-of .ensures) (c .chunk-count .ensures))
 
 pub chunk-count-spec : {M : Type 1} → statement M
 chunk-count-spec =

@@ -17,10 +17,10 @@ chunks-fit-requires : tie.Need-chunks-fit-requires
 chunks-fit-requires c κs = search needs
 
 returns-2 : tie.Need-returns-2
-returns-2 c = laws.call-passed (world (c .before .before .before .before .before .before .before .args .state .now) (c .before .before .before .before .before .before .before .args .registered .now) (c .before .before .before .before .before .before .before .args .failed .now)) (c .before .before .before .call-refusal .result) (c .before .before .before .call-refusal .ensures) _ _ (c .before .before .if1 .left) (passes _ _ _ _ (sym (laws.fit-is (c .before .before .before .before .before .before .before .args .first) (c .before .before .before .before .before .before .before .args .end) (c .before .before .before .before .before .before .before .args .n) (c .before .before .before .before .before .before .before .args .state .now) _ (c .before .before .before .before .before .before .before .pre (laws.call-long (world (c .before .before .before .before .before .before .before .args .state .now) (c .before .before .before .before .before .before .before .args .registered .now) (c .before .before .before .before .before .before .before .args .failed .now)) (c .before .before .before .call-refusal .result) (c .before .before .before .call-refusal .ensures) (c .before .before .if1 .left))) (c .before .chunks-fit .ensures)) ∙ c .if2 .taken) refl)
+returns-2 c = laws.call-passed (world (c .before .before .before .before .before .before .before .args .state .now) (c .before .before .before .before .before .before .before .args .registered .now) (c .before .before .before .before .before .before .before .args .failed .now)) (c .before .before .before .call-refusal .result) (c .before .before .before .call-refusal .ensures) _ _ (c .before .before .if1 .left) (passes _ _ _ _ (sym (laws.fit-is (c .before .before .before .before .before .before .before .args .first) (c .before .before .before .before .before .before .before .args .end) (c .before .before .before .before .before .before .before .args .n) (c .before .before .before .before .before .before .before .args .state .now) _ (laws.count-in (c .before .before .before .before .before .before .before .args .state .now) _ (c .before .before .before .before .before .before .before .pre) (laws.call-long (world (c .before .before .before .before .before .before .before .args .state .now) (c .before .before .before .before .before .before .before .args .registered .now) (c .before .before .before .before .before .before .before .args .failed .now)) (c .before .before .before .call-refusal .result) (c .before .before .before .call-refusal .ensures) (c .before .before .if1 .left))) (c .before .chunks-fit .ensures)) ∙ c .if2 .taken) refl)
 
 returns-3 : tie.Need-returns-3
-returns-3 c = laws.call-passed (world (c .before .before .before .before .before .before .before .args .state .now) (c .before .before .before .before .before .before .before .args .registered .now) (c .before .before .before .before .before .before .before .args .failed .now)) (c .before .before .before .call-refusal .result) (c .before .before .before .call-refusal .ensures) _ _ (c .before .before .if1 .left) (refuses _ _ _ (sym (laws.fit-is (c .before .before .before .before .before .before .before .args .first) (c .before .before .before .before .before .before .before .args .end) (c .before .before .before .before .before .before .before .args .n) (c .before .before .before .before .before .before .before .args .state .now) _ (c .before .before .before .before .before .before .before .pre (laws.call-long (world (c .before .before .before .before .before .before .before .args .state .now) (c .before .before .before .before .before .before .before .args .registered .now) (c .before .before .before .before .before .before .before .args .failed .now)) (c .before .before .before .call-refusal .result) (c .before .before .before .call-refusal .ensures) (c .before .before .if1 .left))) (c .before .chunks-fit .ensures)) ∙ c .if2 .left))
+returns-3 c = laws.call-passed (world (c .before .before .before .before .before .before .before .args .state .now) (c .before .before .before .before .before .before .before .args .registered .now) (c .before .before .before .before .before .before .before .args .failed .now)) (c .before .before .before .call-refusal .result) (c .before .before .before .call-refusal .ensures) _ _ (c .before .before .if1 .left) (refuses _ _ _ (sym (laws.fit-is (c .before .before .before .before .before .before .before .args .first) (c .before .before .before .before .before .before .before .args .end) (c .before .before .before .before .before .before .before .args .n) (c .before .before .before .before .before .before .before .args .state .now) _ (laws.count-in (c .before .before .before .before .before .before .before .args .state .now) _ (c .before .before .before .before .before .before .before .pre) (laws.call-long (world (c .before .before .before .before .before .before .before .args .state .now) (c .before .before .before .before .before .before .before .args .registered .now) (c .before .before .before .before .before .before .before .args .failed .now)) (c .before .before .before .call-refusal .result) (c .before .before .before .call-refusal .ensures) (c .before .before .if1 .left))) (c .before .chunks-fit .ensures)) ∙ c .if2 .left))
 
 pub register-refusal-spec : {M : Type 1} → statement M
 register-refusal-spec =
