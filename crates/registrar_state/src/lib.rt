@@ -309,7 +309,7 @@ pub fn is_known(state: &[u64], registered: &[u64], first: u64, end: u64) -> bool
     end <= chunks::first_clear(registered, first, end)
 }
 
-// From chunk `from` on, of a request that ends before chunk `until`.
+// Where `register` stops, from chunk `from` on, of a request that ends before chunk `until`.
 pub fn register_stop(
     state: &[u64],
     registered: &[u64],
@@ -321,7 +321,7 @@ pub fn register_stop(
     requires { ⌜ (length (now state) ≡ 108) × (n ≡ chunkCount (granularityOf (now state)) (entriesIn (now state))) ⌝ }
     ensures { λ r. ⌜ (r ≡ stopAt (seenIn (world (now (state .entry)) (now (registered .entry)) (now (failed .entry)))) from (min until n)) × (r .chunk < min until n → r .chunk * granularityOf (now (state .entry)) < 2 ^ 64) ⌝ }
 {
-    registrar_steps::register_from(ram_of(state), state[10], registered, failed, n, from, until)
+    registrar_steps::stop_from(ram_of(state), state[10], registered, failed, n, from, until)
 }
 
 // From chunk c on, of a call that has asked `count` times.

@@ -119,7 +119,7 @@ fn walk(ram: &[u64], g: u64, registered: &[u64], failed: &[u64], from: u64, to: 
 }
 
 // Where `register` stops, from chunk `from` on, of a request that ends before chunk `until`, where there are n chunks.
-pub fn register_from(
+pub fn stop_from(
     ram: &[u64],
     g: u64,
     registered: &[u64],

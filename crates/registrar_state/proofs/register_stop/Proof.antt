@@ -8,16 +8,16 @@ use Rattle.registrar_state.proofs.register_stop.Tie as tie
 ram-of-requires : tie.Need-ram-of-requires
 ram-of-requires c κs = search needs
 
-shared-slice-read-register-from : tie.Need-shared-slice-read-register-from
-shared-slice-read-register-from c = search needs
+shared-slice-read-stop-from : tie.Need-shared-slice-read-stop-from
+shared-slice-read-stop-from c = search needs
 
-register-from-requires : tie.Need-register-from-requires
-register-from-requires c κs = laws.count-of (c .before .before .before .before .before .args .state .now) (c .before .ram-of .result .now) (c .before .before .before .before .before .args .n) (c .before .ram-of .ensures) (c .before .before .before .before .before .pre .1)
+stop-from-requires : tie.Need-stop-from-requires
+stop-from-requires c κs = laws.count-of (c .before .before .before .before .before .args .state .now) (c .before .ram-of .result .now) (c .before .before .before .before .before .args .n) (c .before .ram-of .ensures) (c .before .before .before .before .before .pre .1)
 
 returns : tie.Need-returns
-returns c = (laws.stop-planned (world (c .before .before .before .before .before .before .args .state .now) (c .before .before .before .before .before .before .args .registered .now) (c .before .before .before .before .before .before .args .failed .now)) (c .before .before .ram-of .result .now) (c .before .before .ram-of .ensures) (c .register-from .result) (c .before .before .before .before .before .before .args .from) _ (c .register-from .ensures .0), c .register-from .ensures .1)
+returns c = (laws.stop-planned (world (c .before .before .before .before .before .before .args .state .now) (c .before .before .before .before .before .before .args .registered .now) (c .before .before .before .before .before .before .args .failed .now)) (c .before .before .ram-of .result .now) (c .before .before .ram-of .ensures) (c .stop-from .result) (c .before .before .before .before .before .before .args .from) _ (c .stop-from .ensures .0), c .stop-from .ensures .1)
 
 pub register-stop-spec : {M : Type 1} → statement M
 register-stop-spec =
     tie.close
-    (tie.spec ram-of-requires shared-slice-read-register-from register-from-requires returns)
+    (tie.spec ram-of-requires shared-slice-read-stop-from stop-from-requires returns)

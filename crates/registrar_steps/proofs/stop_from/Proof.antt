@@ -1,12 +1,12 @@
--- `registrar_steps::register_from` meets its contract. Assumes nothing.
+-- `registrar_steps::stop_from` meets its contract. Assumes nothing.
 use borrow.Author.Needs.{needs}
 use mathlib.Core.Path.{refl, ap, _∙_}
 use Prim.Native.Nat.{min}
 use Rattle.layout.specs.Layout.{entriesOf}
 use Rattle.registrar_steps.specs.Steps.{seen, stopAt}
 use Rattle.registrar_steps.specs.Laws as laws
-use Rattle.registrar_steps.proofs.register_from.Statement.{statement}
-use Rattle.registrar_steps.proofs.register_from.Tie as tie
+use Rattle.registrar_steps.proofs.stop_from.Statement.{statement}
+use Rattle.registrar_steps.proofs.stop_from.Tie as tie
 
 least-requires : tie.Need-least-requires
 least-requires c κs = search needs
@@ -20,5 +20,5 @@ returns c =
     let a = c .before .before .before .before .before .args in
     (c .walk .ensures ∙ ap (stopAt (seen (a .g) (entriesOf (a .ram .now)) (a .registered .now) (a .failed .now)) (a .from)) (c .before .least .ensures), λ h. laws.walk-fits (a .ram .now) (a .g) (a .until) (a .n) (min (a .until) (a .n)) (c .walk .result .chunk) (λ j. c .before .before .before .before .shared-slice-known .given j .fits) (c .before .before .before .before .before .pre) refl h)
 
-pub register-from-spec : {M : Type 1} → statement M
-register-from-spec = tie.close (tie.spec least-requires walk-requires returns)
+pub stop-from-spec : {M : Type 1} → statement M
+stop-from-spec = tie.close (tie.spec least-requires walk-requires returns)
