@@ -15,7 +15,6 @@ use Rattle.permissions.specs.declared.IsolationType.{IsolationType}
 use Rattle.pages.specs.declared.PageRun.{PageRun}
 use Rattle.request.specs.Request.{runEnd}
 use Rattle.acceptor.specs.declared.Phase.{Phase}
-use Rattle.acceptor.specs.declared.Operation.the-variants.{Wait, Flush, TlbWait}
 use Rattle.acceptor.specs.declared.Request.{Request}
 use Rattle.acceptor.specs.declared.Step.{Step}
 use Rattle.acceptor.specs.Steps as acceptor
@@ -29,12 +28,13 @@ use Rattle.protector_state.specs.declared.Reply.{Reply}
 use Rattle.protector_state.specs.State.{stateLen, phaseIn, requestOf, settingsOf}
 use Rattle.protector_state.specs.Reply.{askedOf, flatOf}
 use Rattle.change_state.specs.State.{stageIn, isChanging, changeIn}
-use Rattle.protector.specs.World.{World, world, Outcome, fits, statusIn, takes, takesAt, takesIn, applied}
+use Rattle.protector.specs.World.{World, Outcome, fits, statusIn, takes, takesAt, takesIn, applied}
 use Rattle.protector.specs.Calls.{refusedBy, decided, carriedOut, carriedChange, answerRefusal, afterDone, afterFailed, visibilityDone, visibilityFailed, changeDone, changeFailed, answerDone, answerFailed}
 use Rattle.visibility_claims.specs.Whole.{Given, Succeeds, Fails}
 use Rattle.visibility_claims.specs.Calls.{answerOf, takenBy}
 use Rattle.visibility_claims.proofs.Calls.{few-done, few-failed}
 use Rattle.history.specs.Seen.{Seen, asks, lastAfter, isTaken, goesOn, seesTaken, seesAnswer}
+use Rattle.history.proofs.Took.{isShared, sharedIn}
 use Rattle.history.proofs.Right.{opened, isHalted, isQuiet, Right, Fits, Moves, made-right}
 use Rattle.history.proofs.Steps.{after, done-fits, failed-fits, done-moves, failed-moves}
 use Rattle.history.proofs.World.{Stands, settled, right-same, quiet-last, seen-last, stops, goes, quiet-names, changing-shut, stands-step, stands-change}
@@ -197,22 +197,22 @@ module _ (es : List MemoryRangeWithNode) (w : World) (o : Seen) (k : Stands es w
     abbrev i : IsolationType
     i = settingsOf (w .state) .isolation
 
-    visible : Fits i (w .pages) (opened p) (q .n) x → Moves p q (w .pages) (o .last) (after p q (w .pages) g (o .last)) x → x .request .n ≤ 512 → Leads (Stands es) o g (carriedOut w (w .pages) x)
+    visible : Fits i (w .pages) (opened p) (q .n) x → Moves p q (w .pages) (sharedIn o) (after p q (w .pages) g (sharedIn o)) x → x .request .n ≤ 512 → Leads (Stands es) o g (carriedOut w (w .pages) x)
     unfolding carriedOut applied
     visible f mv few =
         let r : Reply = flatOf i (x .answer) in
         let listed′ : List ℕ = cond (goesOn r) (o .listed) [] in
-        let before = subst (λ (h : Bool). Right (isRam es) (w .maps .private) (w .maps .shared) p q (w .pages) h (o .listed) (o .last)) free (k .right) in
+        let before = subst (λ (h : Bool). Right (isRam es) (w .maps .private) (w .maps .shared) p q (w .pages) h (o .listed) (sharedIn o)) free (k .right) in
         let here : goesOn r ≡ true → listed′ ≡ o .listed = λ e. ap (λ (b : Bool). cond b (o .listed) []) e in
         let made =
-        made-right (isRam es) (w .maps .private) (w .maps .shared) p q (w .pages) (o .listed) (o .last) (after p q (w .pages) g (o .last)) i x before f mv listed′
+        made-right (isRam es) (w .maps .private) (w .maps .shared) p q (w .pages) (o .listed) (sharedIn o) (after p q (w .pages) g (sharedIn o)) i x before f mv listed′
         (λ e. here (f .tells .stays e)) (λ e. here (or-right (asks r) _ (f .tells .halts ∙ e))) in
-        let same = right-same (lastAfter g o) (isHalted (x .phase)) (seen-last p g o q (w .pages) (k .names) (k .table)) made in
+        let same = right-same (λ z. isShared (lastAfter g o z)) (isHalted (x .phase)) (seen-last p g o q (w .pages) (k .names) (k .table)) made in
         record {
           not4 = f .tells .not4;
           not21 = f .tells .not21;
           stands = stands-step es (applied (w .pages) (x .writes) (w .maps)) (w .state) (w .pages) (w .tables) (seesTaken g r (w .pages) o) (x .phase) (x .request) few (k .layout)
-              (subst (λ (h : Bool). Right (isRam es) (applied (w .pages) (x .writes) (w .maps) .private) (applied (w .pages) (x .writes) (w .maps) .shared) (x .phase) (x .request) (w .pages) h listed′ (lastAfter g o)) (sym (f .tells .halts)) same)
+              (subst (λ (h : Bool). Right (isRam es) (applied (w .pages) (x .writes) (w .maps) .private) (applied (w .pages) (x .writes) (w .maps) .shared) (x .phase) (x .request) (w .pages) h listed′ (λ z. isShared (lastAfter g o z))) (sym (f .tells .halts)) same)
               (f .tells .halts) (f .tells .waits) (f .tells .names) (λ _. refl);
         }
 
@@ -222,13 +222,13 @@ module _ (es : List MemoryRangeWithNode) (w : World) (o : Seen) (k : Stands es w
     changed c x t =
         let r : Reply = flatOf i (x .answer) in
         let shut : opened p ≡ false = changing-shut (w .state) c in
-        let before = subst (λ (h : Bool). Right (isRam es) (w .maps .private) (w .maps .shared) p q (w .pages) h (o .listed) (o .last)) free (k .right) in
+        let before = subst (λ (h : Bool). Right (isRam es) (w .maps .private) (w .maps .shared) p q (w .pages) h (o .listed) (sharedIn o)) free (k .right) in
         let still : isQuiet (o .op) ≡ true = quiet-names p q (w .pages) (o .op) shut (k .names) in
         record {
           not4 = t .not4;
           not21 = t .not21;
           stands = stands-change es _ (w .state) (w .pages) _ (seesTaken g r (w .pages) o) (x .stage) (x .change) (k .layout)
-              (λ p′ q′ s. settled (lastAfter g o) p′ q′ (w .pages) _ _ shut s (quiet-last g o still) before) (t .halts) (t .waits) (t .quiet);
+              (λ p′ q′ s. settled (λ z. isShared (lastAfter g o z)) p′ q′ (w .pages) _ _ shut s (quiet-last g o still) before) (t .halts) (t .waits) (t .quiet);
         }
 
   few : requestOf (w .state) .n ≤ 512
@@ -244,7 +244,7 @@ module _ (es : List MemoryRangeWithNode) (w : World) (o : Seen) (k : Stands es w
       either (Stands es) w o (k .halts) k Succeeds (isChanging (w .state)) (changeDone w) (visibilityDone w) refl
       (λ c. changed Succeeds (acceptor.halt q′) free c _ (done-told (s .isolation) (s .tracked) (stageIn (w .state)) (changeIn (w .state)) (w .pages) _ (takes-change w true false c t)))
       (λ c. let y = takes-change w false false c t in
-      visible Succeeds (acceptor.doneOf s p′ q′ (w .pages)) free (done-fits s p′ q′ (w .pages) y) (done-moves s q′ (w .pages) (o .last) p′ y (λ j e h d. k .right .toward e j h d))
+      visible Succeeds (acceptor.doneOf s p′ q′ (w .pages)) free (done-fits s p′ q′ (w .pages) y) (done-moves s q′ (w .pages) (sharedIn o) p′ y (λ j e h d. k .right .toward e j h d))
       (few-done s (w .pages) p′ q′ y few))
 
   failed-leads : (code n : ℕ) → o .halted ≡ false → takesIn (w .state) true ≡ true → Leads (Stands es) o (Fails code n) (cond (isChanging (w .state)) (changeFailed w) (visibilityFailed w code n))
@@ -257,7 +257,7 @@ module _ (es : List MemoryRangeWithNode) (w : World) (o : Seen) (k : Stands es w
       (λ c. changed (Fails code n) (acceptor.halt q′) free c _ (failed-told (s .isolation) (stageIn (w .state)) (changeIn (w .state)) (takes-change w true true c t)))
       (λ c. let y = takes-change w false true c t in
       visible (Fails code n) (acceptor.failedOf s p′ q′ (w .pages) code n) free (failed-fits s p′ q′ (w .pages) code n y)
-      (failed-moves s q′ (w .pages) (o .last) p′ code n y (λ j e h d. k .right .toward e j h d) (λ e. k .right .once e)) (few-failed s (w .pages) p′ q′ code n y few))
+      (failed-moves s q′ (w .pages) (sharedIn o) p′ code n y (λ j e h d. k .right .toward e j h d) (λ e. k .right .once e)) (few-failed s (w .pages) p′ q′ code n y few))
 
   pub answer-stands : (g : Given) → Stands es (answerOf g w .world) (seesAnswer g (answerOf g w .reply) (answerOf g w .world .pages) o)
   unfolding answerDone answerFailed

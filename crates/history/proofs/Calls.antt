@@ -29,6 +29,7 @@ use Rattle.protector.specs.World.{World, world, Outcome, overlaysOf, locksOf, f
 use Rattle.protector.specs.Calls.{refusedBy, decided, carriedOut, carriedChange, pageRefusal, firstRefusal, visibilityRefusal, stopOf, askedFor, tableFor, visibilityTaken, visibilityOf}
 use Rattle.visibility_claims.proofs.Calls.{modify-pages}
 use Rattle.history.specs.Seen.{Seen, asks, seesCall}
+use Rattle.history.proofs.Took.{sharedIn}
 use Rattle.history.proofs.Bits.{among-own}
 use Rattle.history.proofs.Right.{opened, Right}
 use Rattle.history.proofs.Start.{among-take, repeats-take, among-pick, repeats-pick, holds, places-apart, first-all, ram-page, start-right}
@@ -98,8 +99,8 @@ module _ (es : List MemoryRangeWithNode) (w : World) (o : Seen) (k : Stands es w
     free : o .halted ≡ false
     free = k .halts ∙ ap (λ (n : ℕ). eqb n 20) idle
 
-    settled-right : Right (isRam es) (w .maps .private) (w .maps .shared) (phaseIn (w .state)) (requestOf (w .state)) (w .pages) false (o .listed) (o .last)
-    settled-right = subst (λ (h : Bool). Right (isRam es) (w .maps .private) (w .maps .shared) (phaseIn (w .state)) (requestOf (w .state)) (w .pages) h (o .listed) (o .last)) free (k .right)
+    settled-right : Right (isRam es) (w .maps .private) (w .maps .shared) (phaseIn (w .state)) (requestOf (w .state)) (w .pages) false (o .listed) (sharedIn o)
+    settled-right = subst (λ (h : Bool). Right (isRam es) (w .maps .private) (w .maps .shared) (phaseIn (w .state)) (requestOf (w .state)) (w .pages) h (o .listed) (sharedIn o)) free (k .right)
 
     -- another change starts
     pub change-starts : (s tables t : List ℕ) (x : ChangeStep) → entriesIn s ≡ entriesIn (w .state) → Told (settingsOf s .isolation) x → stops (x .stage) ≡ false
@@ -118,11 +119,11 @@ module _ (es : List MemoryRangeWithNode) (w : World) (o : Seen) (k : Stands es w
 
         go : (b : Bool) → asks r ≡ b → Stands es (T .world) (cond b o′ o)
         go true d =
-            stands-change es (T .world .maps) s t (T .world .tables) o′ (x .stage) (x .change) (e ∙ k .layout) (λ p q h. settled (o .last) p q t [] (o .halted) shut h (λ z. refl) settled-right)
+            stands-change es (T .world .maps) s t (T .world .tables) o′ (x .stage) (x .change) (e ∙ k .layout) (λ p q h. settled (sharedIn o) p q t [] (o .halted) shut h (λ z. refl) settled-right)
             (free ∙ sym on) (told .waits) (told .quiet)
         go false d =
             stands-change es (T .world .maps) s t (T .world .tables) o (x .stage) (x .change) (e ∙ k .layout)
-            (λ p q h. settled (o .last) p q t (o .listed) (o .halted) shut h (λ z. refl) settled-right) (free ∙ sym on)
+            (λ p q h. settled (sharedIn o) p q t (o .listed) (o .halted) shut h (λ z. refl) settled-right) (free ∙ sym on)
             (k .waits ∙ ap (λ (n : ℕ). eqb n 19) idle ∙ sym d ∙ told .waits) (quiet-names (phaseIn (w .state)) (requestOf (w .state)) (w .pages) (o .op) shut (k .names))
 
 -- ---- a visibility change
@@ -185,11 +186,11 @@ module _ (es : List MemoryRangeWithNode) (w : World) (o : Seen) (k : Stands es w
       let stopped : Bool = ltb stop (length (pagesOf l)) in
       let T = visibilityTaken w v b l in
       let made =
-      start-right (isRam es) (w .maps .private) (w .maps .shared) (phaseIn (w .state)) (requestOf (w .state)) (w .pages) (o .listed) (o .last) (settled-right es w o k (x .idle)) (shut es w o k (x .idle))
+      start-right (isRam es) (w .maps .private) (w .maps .shared) (phaseIn (w .state)) (requestOf (w .state)) (w .pages) (o .listed) (sharedIn o) (settled-right es w o k (x .idle)) (shut es w o k (x .idle))
       t (pagesOf l) (length Q) stop stopped (s .tracked) v apart in-ram named b (λ j h. ap P (page j h) ∙ holds P ps j h) in
       let o′ : Seen = record { op = T .reply; table = t; halted = o .halted; listed = pagesOf l; last = o .last; age = o .age } in
       stands-step es (T .world .maps) (w .state) t (w .tables) o′ at.Wait (asked v b (length Q) stop stopped) few (k .layout)
-      (subst (λ (h : Bool). Right (isRam es) (T .world .maps .private) (T .world .maps .shared) at.Wait (asked v b (length Q) stop stopped) t h (pagesOf l) (o .last)) (sym (free es w o k (x .idle))) made)
+      (subst (λ (h : Bool). Right (isRam es) (T .world .maps .private) (T .world .maps .shared) at.Wait (asked v b (length Q) stop stopped) t h (pagesOf l) (sharedIn o)) (sym (free es w o k (x .idle))) made)
       (free es w o k (x .idle)) refl refl (λ _. refl)
 
 pub visibility-stands : (es : List MemoryRangeWithNode) (w : World) (o : Seen) → Stands es w o → (vtl visibility : ℕ) (l : List ℕ)

@@ -4,7 +4,6 @@ use mathlib.Core.Path.{_≡_, refl, sym, ap, _∙_, subst, fun-ext}
 use mathlib.Core.List.{List}
 use mathlib.Core.Bool.{Bool, true, false, cond, _&&_}
 use native.Mathlib.Omega.{arith}
-use denote.Ref.{now}
 use lib.ListN.{length, replicate, length-replicate, length-append}
 use lib.Seq.{take-at}
 use lib.Dec.{eqb, ltb}
@@ -22,14 +21,16 @@ use Rattle.mapping.specs.Maps.{fresh, marksFit, permissionLen, permissionsFit}
 use Rattle.mapping.proofs.Marks.{fresh-page}
 use Rattle.protector_state.specs.declared.Reply.{Reply}
 use Rattle.protector_state.specs.State.{stateLen, firstPhases, phaseOf, builtState, settingsOf, ramOf, entriesIn}
-use Rattle.protector.specs.World.{World, world, Outcome, pagesLen, tablesLen}
+use Rattle.protector.specs.World.{World, Outcome, pagesLen, tablesLen}
 use Rattle.protector.specs.Calls.{refusedBy, buildFits, buildRefusal, buildTaken, buildOf}
-use Rattle.history.specs.Seen.{Seen, unseen}
+use Rattle.history.specs.Seen.{Seen, Took, tookAs, unseen}
 use Rattle.history.specs.Marks.{Has, readOff, Settled}
-use Rattle.history.specs.History.{BuildCall, History}
+use Rattle.history.specs.Made.{Built}
+use Rattle.history.specs.History.{History}
 use Rattle.history.proofs.Bits.{clash}
 use Rattle.history.specs.Answered.{given, ClaimFrom, Claim}
 use Rattle.history.proofs.Calls.{status}
+use Rattle.history.proofs.Is.{build-is}
 use Rattle.history.proofs.Strays.{Whole}
 use Rattle.history.proofs.Histories.{Lent}
 use Rattle.history.proofs.Restart.{settled-hold, settled-lent}
@@ -147,7 +148,7 @@ module _ (u : World) (ram : List ℕ) (i t r : ℕ) (z : buildRefusal ram i t r 
 
   taken-unseen : readOff (buildTaken u ram i t r .world .maps) ≡ unseen
   unfolding buildTaken
-  taken-unseen = ap (λ (f : ℕ → Bool). record { op = unseen .op; table = unseen .table; halted = false; listed = unseen .listed; last = f; age = unseen .age }) (fun-ext (λ z. fresh-bare es (length (u .maps .shared)) z))
+  taken-unseen = ap (λ (f : ℕ → Took). record { op = unseen .op; table = unseen .table; halted = false; listed = unseen .listed; last = f; age = unseen .age }) (fun-ext (λ z. ap tookAs (fresh-bare es (length (u .maps .shared)) z)))
 
 -- a build whose reply has no number of a refusal was taken
 pub build-taken : (u w : World) (ram : List ℕ) (i t r : ℕ) (reply : Reply) → given w reply ≡ buildOf u ram i t r → reply .number ≡ 0
@@ -164,48 +165,42 @@ build-taken u w ram i t r reply e d = go (eqb n 0) refl e
 
 -- ---- a build that was taken
 
-module _ {u w : World} (b : BuildCall u w) (d : b .result .number ≡ 0) where
-  abbrev ram : List ℕ
-  ram = now (b .args .0)
-
-  build-is : given w (b .result) ≡ buildOf u ram (b .args .1 .0) (b .args .1 .1 .0) (b .args .1 .1 .1 .0)
-  build-is = rw (b .left, b .given) (b .contract)
-
-  was : (buildRefusal ram (b .args .1 .0) (b .args .1 .1 .0) (b .args .1 .1 .1 .0) (buildFits (mapLen (entriesOf ram)) (b .args .1 .1 .0) u) ≡ 0) × (buildTaken u ram (b .args .1 .0) (b .args .1 .1 .0) (b .args .1 .1 .1 .0) .world ≡ w)
-  was = build-taken u w ram (b .args .1 .0) (b .args .1 .1 .0) (b .args .1 .1 .1 .0) (b .result) build-is d
+module _ {ram : List ℕ} {i t r : ℕ} {u w : World} {reply : Reply} (b : Built ram i t r u w reply) (d : reply .number ≡ 0) where
+  was : (buildRefusal ram i t r (buildFits (mapLen (entriesOf ram)) t u) ≡ 0) × (buildTaken u ram i t r .world ≡ w)
+  was = build-taken u w ram i t r reply (build-is b) d
 
   -- the world that it leaves is settled, and what is read off its marks is what is seen at a build: one start among those that Restart is about
   pub built-settled : Settled w
-  built-settled = subst (λ (w : World). Settled w) (was .1) (taken-settled u ram (b .args .1 .0) (b .args .1 .1 .0) (b .args .1 .1 .1 .0) (was .0))
+  built-settled = subst (λ (w : World). Settled w) (was .1) (taken-settled u ram i t r (was .0))
 
   pub built-unseen : readOff (w .maps) ≡ unseen
-  built-unseen = subst (λ (w : World). readOff (w .maps) ≡ unseen) (was .1) (taken-unseen u ram (b .args .1 .0) (b .args .1 .1 .0) (b .args .1 .1 .1 .0) (was .0))
+  built-unseen = subst (λ (w : World). readOff (w .maps) ≡ unseen) (was .1) (taken-unseen u ram i t r (was .0))
 
   same-entries : entriesIn (w .state) ≡ entriesOf ram
-  same-entries = subst (λ (w : World). entriesIn (w .state) ≡ entriesOf ram) (was .1) (taken-entries u ram (b .args .1 .0) (b .args .1 .1 .0) (b .args .1 .1 .1 .0) (was .0))
+  same-entries = subst (λ (w : World). entriesIn (w .state) ≡ entriesOf ram) (was .1) (taken-entries u ram i t r (was .0))
 
-  same-isolation : settingsOf (w .state) .isolation ≡ isolationOf (b .args .1 .0)
-  same-isolation = subst (λ (w : World). settingsOf (w .state) .isolation ≡ isolationOf (b .args .1 .0)) (was .1) (taken-isolation u ram (b .args .1 .0) (b .args .1 .1 .0) (b .args .1 .1 .1 .0) (was .0))
+  same-isolation : settingsOf (w .state) .isolation ≡ isolationOf i
+  same-isolation = subst (λ (w : World). settingsOf (w .state) .isolation ≡ isolationOf i) (was .1) (taken-isolation u ram i t r (was .0))
 
 -- THE CLAIM, of every list of calls of the protector's entries from a build that was taken, refused calls among them, wherever it stops: each call gave what
 -- its definition gives of what it was lent; the marks are what the hypervisor last took; and on SNP a page is marked private only if it was never returned,
 -- or validated and then zeroed since its return
-module _ {u w v : World} {o : Seen} (b : BuildCall u w) (d : b .result .number ≡ 0) (h : History w unseen v o) where
-  pub calls-hold : Claim b h
+module _ {ram : List ℕ} {i t r : ℕ} {u w v : World} {reply : Reply} {o : Seen} (b : Built ram i t r u w reply) (d : reply .number ≡ 0) (h : History w unseen v o) where
+  pub calls-hold : Claim ram i t r u reply h
   calls-hold =
       record {
-        built = build-is b d;
+        built = build-is b;
         calls =
-            subst (λ (a : Seen). (h : History w a v o) → ClaimFrom (entriesOf (now (b .args .0))) (isolationOf (b .args .1 .0)) h) (built-unseen b d)
-            (subst (λ (es : List MemoryRangeWithNode). (h : History w (readOff (w .maps)) v o) → ClaimFrom es (isolationOf (b .args .1 .0)) h) (same-entries b d)
+            subst (λ (a : Seen). (h : History w a v o) → ClaimFrom (entriesOf ram) (isolationOf i) h) (built-unseen b d)
+            (subst (λ (es : List MemoryRangeWithNode). (h : History w (readOff (w .maps)) v o) → ClaimFrom es (isolationOf i) h) (same-entries b d)
             (subst (λ (i : IsolationType). (h : History w (readOff (w .maps)) v o) → ClaimFrom (entriesIn (w .state)) i h) (same-isolation b d) (λ h. settled-hold w (built-settled b d) h)))
             h;
       }
 
   -- the invariant stands, and what was last left has its lengths
-  pub lent-holds : Lent (entriesOf (now (b .args .0))) v o
+  pub lent-holds : Lent (entriesOf ram) v o
   lent-holds =
-      subst (λ (a : Seen). History w a v o → Lent (entriesOf (now (b .args .0))) v o) (built-unseen b d)
+      subst (λ (a : Seen). History w a v o → Lent (entriesOf ram) v o) (built-unseen b d)
       (λ h. subst (λ (es : List MemoryRangeWithNode). Lent es v o) (same-entries b d) (settled-lent w (built-settled b d) h)) h
 
   pub lengths-hold : Whole v

@@ -4,27 +4,18 @@ use Prim.Native.Nat.{ℕ, zero, suc, _+_, _≤_, _<_}
 use mathlib.Core.Path.{_≡_, refl, sym, ap, ap₂, _∙_, subst}
 use mathlib.Core.List.{List, [], _∷_, _++_, map, append-nil, append-assoc}
 use mathlib.Core.Bool.{Bool, true, false, cond, not, _||_}
-use denote.Ref.{now}
 use lib.ListN.{length, replicate, length-replicate}
 use lib.Dec.{eqb}
-use borrow.Author.Tests.{eqb-true, ne-eqb}
-use Rattle.laws.specs.Refusal.{unless, passed}
+use borrow.Author.Tests.{eqb-true}
 use Rattle.layout.specs.declared.MemoryRangeWithNode.{MemoryRangeWithNode}
 use Rattle.layout.specs.Layout.{entriesOf}
-use Rattle.permissions.specs.Flags.{vtlOf, boolOf}
-use Rattle.pages.specs.Pages.{pagesOf}
 use Rattle.acceptor.specs.declared.Phase.{Phase}
 use Rattle.acceptor.specs.declared.Phase.the-variants as phase
 use Rattle.protector_state.specs.declared.Reply.{Reply}
-use Rattle.protector_state.specs.State.{stateLen, phaseIn, entriesIn}
+use Rattle.protector_state.specs.State.{phaseIn, entriesIn}
 use Rattle.change_state.specs.State.{stageIn, isChanging}
-use Rattle.protector.specs.World.{World, world, Outcome, fits, statusOf, statusIn, takes, takesAt}
-use Rattle.protector.specs.Calls.{refusedBy, decided, visibilityRefusal, visibilityTaken, visibilityOf, visibilityDone, visibilityFailed, changeDone, changeFailed, answerDone, answerFailed}
-use Rattle.vtl_protections.specs.Calls.{protectionRefusal, protectionTaken, protectionOf, defaultRefusal, stored, defaultTaken, defaultOf}
-use Rattle.overlay_tests.specs.Refusals.{registerRefusal, unregisterRefusal}
-use Rattle.overlay_pages.specs.Calls.{currentIn, registerTaken, registerOf, unregisterTaken, unregisterOf}
-use Rattle.locked_pages.specs.Calls.{Kept, ended, lockRefusal, lockTaken, lockOf, unlockTaken, unlockOf}
-use Rattle.vtl1_protections.specs.Calls.{Enabled, stateRefusal, enableRefusal, enableOf}
+use Rattle.protector.specs.World.{World, Outcome, fits, statusOf, takes, takesAt}
+use Rattle.protector.specs.Calls.{answerDone}
 use Rattle.visibility_claims.specs.Whole.{Given, Succeeds, Fails}
 use Rattle.visibility_claims.specs.Calls.{answerOf, takenBy}
 use Rattle.visibility_claims.specs.Ends.{leftIn, underWay, afterAll, takenOf, unrefused}
@@ -32,90 +23,23 @@ use Rattle.visibility_claims.proofs.Ends as claims
 use Rattle.visibility_claims.proofs.Refusals.{answer-takes}
 use Rattle.history.specs.Seen.{Seen, unseen, asks, isWaiting, isTaken, seesCall, seesAnswer}
 use Rattle.history.specs.Marks.{readOff, Settled}
-use Rattle.history.specs.History as at
-use Rattle.history.specs.History.{History, BuildCall, DoneCall, Stray, LockCall, UnlockCall, EnableCall}
+use Rattle.history.specs.Call.{Call, Do, Read, Answer, Result, Gave, sees}
+use Rattle.history.specs.Made.{Made, Built}
+use Rattle.history.specs.History.{History, none, call, stray, callsIn, Stray}
 use Rattle.history.specs.Answered.{given}
-use Rattle.history.specs.Ends.{Course, start, answer, other, courseOf, takenIn, heardIn, Falls, Meanwhile, Event, Answer, events, Answers, Ends, Heard, insisting, Told, RequestEnds}
+use Rattle.history.specs.Ends.{Course, start, answer, other, courseOf, takenIn, heardIn, Falls, Meanwhile, Answers, Ends, Heard, insisting, Told, RequestEnds}
 use Rattle.history.proofs.Bits.{clash}
 use Rattle.history.proofs.World.{Stands}
 use Rattle.history.proofs.Answers.{taken-seen}
-use Rattle.history.proofs.Calls.{status}
-use Rattle.history.proofs.Others.{protection-idle, default-idle, call-idle}
-use Rattle.history.proofs.Strays.{Whole, untaken-seen}
+use Rattle.history.proofs.Strays.{Whole}
 use Rattle.history.proofs.Wholes.{answer-long}
-use Rattle.history.proofs.Histories.{visibility-is, done-is, failed-is, protection-is, default-is, register-is, unregister-is, Lent, lent-kept, stands-kept, history-keeps}
+use Rattle.history.proofs.Is.{is}
+use Rattle.history.proofs.Refused.{stray-untaken, busy-quiet}
+use Rattle.history.proofs.Histories.{Lent, lent-kept, stands-kept, history-keeps}
 use Rattle.history.proofs.Claim.{lent-holds}
-use Rattle.history.proofs.Answered.{lock-is, unlock-is, enable-is}
 use Rattle.history.proofs.Restart.{settled-stands, settled-lent}
-use Rattle.history.proofs.ExistsAny.{any-call, build8, build8-taken, shared8, share8, share8-asks}
-
--- ---- while a request is under way every call that may write, but an answer, is refused, and changes nothing
-
-busy : (n : ℕ) → eqb n 19 ≡ true → n ≡ 0 → ⊥
-busy n e z = clash (eqb n 19) e (ap (λ n. eqb n 19) z)
-
-kept-by : (x y : World) (n : ℕ) (T : Outcome) (r : Reply) → (n ≡ 0 → ⊥) → given y r ≡ decided x n T → y ≡ x
-kept-by x y n T r f e = ap (λ (X : Outcome). X .world) (e ∙ ap (λ (b : Bool). cond b T (refusedBy x n)) (ne-eqb n 0 f))
-
-idle : (s : List ℕ) (rest : ℕ) → unless (eqb (length s) stateLen) 4 (unless (eqb (statusIn s) 0) (statusIn s) rest) ≡ 0 → statusIn s ≡ 0
-idle s rest z = status (statusIn s) _ (passed (eqb (length s) stateLen) 3 _ z .1) .0
-
-visibility-idle : (s : List ℕ) (fit : Bool) (t : List ℕ) (vtl share : ℕ) (l : List ℕ) → visibilityRefusal s fit t vtl share l ≡ 0 → statusIn s ≡ 0
-unfolding visibilityRefusal
-visibility-idle s fit t vtl share l z = idle s _ z
-
-lock-idle : (s : List ℕ) (n vtl : ℕ) (l : List ℕ) → lockRefusal s n vtl l ≡ 0 → statusIn s ≡ 0
-unfolding lockRefusal
-lock-idle s n vtl l z = idle s _ z
-
-enable-idle : (s : List ℕ) → enableRefusal s ≡ 0 → statusIn s ≡ 0
-unfolding enableRefusal stateRefusal
-enable-idle s z = passed (eqb (length s) stateLen) 3 _ (status _ _ z .0) .1
-
-module _ (x y : World) (r : Reply) (b : underWay x ≡ true) where
-  visibility-keeps : (vtl share : ℕ) (l : List ℕ) → given y r ≡ visibilityOf x vtl share l → y ≡ x
-  unfolding visibilityOf
-  visibility-keeps vtl share l e = kept-by x y (visibilityRefusal (x .state) (fits x) (x .tables) vtl share l) (visibilityTaken x (vtlOf vtl) (boolOf share) l) r (λ z. busy _ b (visibility-idle (x .state) (fits x) (x .tables) vtl share l z)) e
-
-  protection-keeps : (vtl flags : ℕ) (l : List ℕ) → given y r ≡ protectionOf x vtl flags l → y ≡ x
-  unfolding protectionOf
-  protection-keeps vtl flags l e = kept-by x y (protectionRefusal (x .state) (fits x) (x .maps .shared) (x .tables) vtl flags l) (protectionTaken x (vtlOf vtl) flags l) r (λ z. busy _ b (protection-idle x vtl flags l z)) e
-
-  default-keeps : (vtl flags : ℕ) → given y r ≡ defaultOf x vtl flags → y ≡ x
-  unfolding defaultOf
-  default-keeps vtl flags e = kept-by x y (defaultRefusal (x .state) (fits x) vtl flags) (defaultTaken (stored x (vtlOf vtl) flags) (vtlOf vtl) flags) r (λ z. busy _ b (default-idle x vtl flags z)) e
-
-  register-keeps : (vtl p source checked new : ℕ) → given y r ≡ registerOf x vtl p source checked new → y ≡ x
-  unfolding registerOf registerRefusal
-  register-keeps vtl p source checked new e = kept-by x y (registerRefusal (x .state) (fits x) (x .maps .shared) (x .tables) (currentIn x (vtlOf vtl) p source) vtl p source checked new) (registerTaken x (vtlOf vtl) p source new) r (λ z. busy _ b (call-idle x vtl _ z)) e
-
-  unregister-keeps : (vtl p : ℕ) → given y r ≡ unregisterOf x vtl p → y ≡ x
-  unfolding unregisterOf unregisterRefusal
-  unregister-keeps vtl p e = kept-by x y (unregisterRefusal (x .state) (fits x) (x .tables) vtl p) (unregisterTaken x (vtlOf vtl) p) r (λ z. busy _ b (call-idle x vtl _ z)) e
-
-lock-tables : (s t : List ℕ) (vtl : ℕ) (l : List ℕ) → eqb (statusIn s) 19 ≡ true → lockOf s t vtl l .tables ≡ t
-unfolding lockOf
-lock-tables s t vtl l b = ap (λ (b : Bool). cond b (lockTaken t (vtlOf vtl) (pagesOf l)) (ended t (lockRefusal s (length t) vtl l)) .tables) (ne-eqb (lockRefusal s (length t) vtl l) 0 (λ z. busy _ b (lock-idle s (length t) vtl l z)))
-
-lock-keeps : (x y : World) (c : LockCall x y) → underWay x ≡ true → y ≡ x
-lock-keeps x y c b =
-    c .left ∙ ap (λ (t : List ℕ). world (x .maps) (x .state) (x .pages) t) (sym (ap (λ (v : World). v .tables) (c .left)) ∙ ap (λ (k : Kept). k .tables) (lock-is c) ∙ lock-tables (x .state) (x .tables) (c .args .1 .1 .0) (now (c .args .1 .1 .1 .0)) b)
-
-unlock-tables : (s t : List ℕ) (vtl : ℕ) (l : List ℕ) → eqb (statusIn s) 19 ≡ true → unlockOf s t vtl l .tables ≡ t
-unfolding unlockOf
-unlock-tables s t vtl l b = ap (λ (b : Bool). cond b (unlockTaken t (vtlOf vtl) (pagesOf l)) (ended t (lockRefusal s (length t) vtl l)) .tables) (ne-eqb (lockRefusal s (length t) vtl l) 0 (λ z. busy _ b (lock-idle s (length t) vtl l z)))
-
-unlock-keeps : (x y : World) (c : UnlockCall x y) → underWay x ≡ true → y ≡ x
-unlock-keeps x y c b =
-    c .left ∙ ap (λ (t : List ℕ). world (x .maps) (x .state) (x .pages) t) (sym (ap (λ (v : World). v .tables) (c .left)) ∙ ap (λ (k : Kept). k .tables) (unlock-is c) ∙ unlock-tables (x .state) (x .tables) (c .args .1 .1 .0) (now (c .args .1 .1 .1 .0)) b)
-
-enable-state : (s : List ℕ) → eqb (statusIn s) 19 ≡ true → enableOf s .state ≡ s
-unfolding enableOf
-enable-state s b = rw (ne-eqb (enableRefusal s) 0 (λ z. busy _ b (enable-idle s z)))
-
-enable-keeps : (x y : World) (c : EnableCall x y) → underWay x ≡ true → y ≡ x
-enable-keeps x y c b =
-    c .left ∙ ap (λ (s : List ℕ). world (x .maps) s (x .pages) (x .tables)) (sym (ap (λ (v : World). v .state) (c .left)) ∙ ap (λ (k : Enabled). k .state) (enable-is c) ∙ enable-state (x .state) b)
+use Rattle.history.proofs.Exists.{any-call}
+use Rattle.history.proofs.Eight.{build8, build8-taken, sharing8, asking8, share8, share8-asks}
 
 -- ---- answers
 
@@ -169,58 +93,32 @@ module _ (es : List MemoryRangeWithNode) (u : World) (o : Seen) (k : Stands es u
 
   -- one that is lent something of another length isn't taken
   stray-falls : (x y : World) (g : Given) (r : Reply) → Stray u x → given y r ≡ answerOf g x → Steps u r
-  unfolding answerDone answerFailed
-  stray-falls x y Succeeds r s e =
-      (λ b. clash _ b (ap (λ (X : Outcome). isTaken o (X .reply)) e ∙ untaken-seen u x o (k .halts) false (cond (isChanging (x .state)) (changeDone x) (visibilityDone x)) s), λ _. refl)
-  stray-falls x y (Fails code n) r s e =
-      (λ b. clash _ b (ap (λ (X : Outcome). isTaken o (X .reply)) e ∙ untaken-seen u x o (k .halts) true (cond (isChanging (x .state)) (changeFailed x) (visibilityFailed x code n)) s), λ _. refl)
+  stray-falls x y g r s e = (λ b. clash _ b (ap (λ (X : Outcome). isTaken o (X .reply)) e ∙ stray-untaken u x s o (k .halts) g), λ _. refl)
 
 -- ---- each call of a list, from any world that meets the invariant
 
+-- what an answer gave, as its outcome
+pub answer-is : {g : Given} {u v : World} {r : Reply} → Made (Answer g) u v r → given v r ≡ answerOf g u
+answer-is m = ap (λ (X : Gave Reply). given (X .world) (X .answer)) (is m)
+
 module _ (es : List MemoryRangeWithNode) {w : World} {a : Seen} (k : Stands es w a) where
-  at-stop : {v : World} {o : Seen} → History w a v o → Stands es v o
+  pub at-stop : {v : World} {o : Seen} → History w a v o → Stands es v o
   at-stop h = history-keeps (Stands es) (stands-kept es) h k
 
-  waiting : {v : World} {o : Seen} (h : History w a v o) → isWaiting o ≡ true → underWay v ≡ true
+  pub waiting : {v : World} {o : Seen} (h : History w a v o) → isWaiting o ≡ true → underWay v ≡ true
   waiting h b = sym (at-stop h .waits) ∙ b
 
   pub steps-fall : {v : World} {o : Seen} (h : History w a v o) → Falls (courseOf h)
   unfolding courseOf Falls
-  steps-fall at.none = tt
-  steps-fall (at.done {u} {v} {o} h c) = let f = answer-falls es u o (at-stop h) Succeeds v (c .result) (done-is c) in (steps-fall h, f .0, f .1, answer-begins es u o (at-stop h) Succeeds v (c .result) _ (done-is c) (at-stop (at.done h c)))
-  steps-fall (at.failed {u} {v} {o} h c) = let f = answer-falls es u o (at-stop h) (Fails (c .args .1 .1 .1 .1 .1 .1 .1 .1 .1 .0) (c .args .1 .1 .1 .1 .1 .1 .1 .1 .1 .1 .0)) v (c .result) (failed-is c) in (steps-fall h, f .0, f .1, answer-begins es u o (at-stop h) (Fails (c .args .1 .1 .1 .1 .1 .1 .1 .1 .1 .0) (c .args .1 .1 .1 .1 .1 .1 .1 .1 .1 .1 .0)) v (c .result) _ (failed-is c) (at-stop (at.failed h c)))
-  steps-fall (at.strayDone {u} {x} {y} {o} h c s) = let f = stray-falls es u o (at-stop h) x y Succeeds (c .result) s (done-is c) in (steps-fall h, f .0, f .1, stray-begins es u o (at-stop h) _ (at-stop (at.strayDone h c s)))
-  steps-fall (at.strayFailed {u} {x} {y} {o} h c s) = let f = stray-falls es u o (at-stop h) x y (Fails (c .args .1 .1 .1 .1 .1 .1 .1 .1 .1 .0) (c .args .1 .1 .1 .1 .1 .1 .1 .1 .1 .1 .0)) (c .result) s (failed-is c) in (steps-fall h, f .0, f .1, stray-begins es u o (at-stop h) _ (at-stop (at.strayFailed h c s)))
-  steps-fall (at.visibility {u} {v} h c) = (steps-fall h, λ b. visibility-keeps u v (c .result) (waiting h b) (c .args .1 .1 .1 .1 .1 .1 .1 .1 .1 .0) (c .args .1 .1 .1 .1 .1 .1 .1 .1 .1 .1 .0) (now (c .args .1 .1 .1 .1 .1 .1 .1 .1 .1 .1 .1 .0)) (visibility-is c))
-  steps-fall (at.protection {u} {v} h c) = (steps-fall h, λ b. protection-keeps u v (c .result) (waiting h b) (c .args .1 .1 .1 .1 .1 .1 .1 .1 .1 .0) (c .args .1 .1 .1 .1 .1 .1 .1 .1 .1 .1 .0) (now (c .args .1 .1 .1 .1 .1 .1 .1 .1 .1 .1 .1 .0)) (protection-is c))
-  steps-fall (at.default {u} {v} h c) = (steps-fall h, λ b. default-keeps u v (c .result) (waiting h b) (c .args .1 .1 .1 .1 .1 .1 .1 .1 .1 .0) (c .args .1 .1 .1 .1 .1 .1 .1 .1 .1 .1 .0) (default-is c))
-  steps-fall (at.register {u} {v} h c) = (steps-fall h, λ b. register-keeps u v (c .result) (waiting h b) (c .args .1 .1 .1 .1 .1 .1 .1 .1 .1 .0) (c .args .1 .1 .1 .1 .1 .1 .1 .1 .1 .1 .0) (c .args .1 .1 .1 .1 .1 .1 .1 .1 .1 .1 .1 .0) (c .args .1 .1 .1 .1 .1 .1 .1 .1 .1 .1 .1 .1 .0) (c .args .1 .1 .1 .1 .1 .1 .1 .1 .1 .1 .1 .1 .1 .0) (register-is c))
-  steps-fall (at.unregister {u} {v} h c) = (steps-fall h, λ b. unregister-keeps u v (c .result) (waiting h b) (c .args .1 .1 .1 .1 .1 .1 .1 .1 .1 .0) (c .args .1 .1 .1 .1 .1 .1 .1 .1 .1 .1 .0) (unregister-is c))
-  steps-fall (at.lock {u} {v} h c) = (steps-fall h, λ b. lock-keeps u v c (waiting h b))
-  steps-fall (at.unlock {u} {v} h c) = (steps-fall h, λ b. unlock-keeps u v c (waiting h b))
-  steps-fall (at.enable {u} {v} h c) = (steps-fall h, λ b. enable-keeps u v c (waiting h b))
-  steps-fall (at.tellEnabled h c) = (steps-fall h, λ b. refl)
-  steps-fall (at.tellDefault h c) = (steps-fall h, λ b. refl)
-  steps-fall (at.isOverlay h c) = (steps-fall h, λ b. refl)
-  steps-fall (at.query h c) = (steps-fall h, λ b. refl)
-  steps-fall (at.fault h c) = (steps-fall h, λ b. refl)
-  steps-fall (at.lower h c) = (steps-fall h, λ b. refl)
-  steps-fall (at.access h c) = (steps-fall h, λ b. refl)
-  steps-fall (at.strayVisibility h c s) = (steps-fall h, λ b. refl)
-  steps-fall (at.strayProtection h c s) = (steps-fall h, λ b. refl)
-  steps-fall (at.strayDefault h c s) = (steps-fall h, λ b. refl)
-  steps-fall (at.strayRegister h c s) = (steps-fall h, λ b. refl)
-  steps-fall (at.strayUnregister h c s) = (steps-fall h, λ b. refl)
-  steps-fall (at.strayLock h c s) = (steps-fall h, λ b. refl)
-  steps-fall (at.strayUnlock h c s) = (steps-fall h, λ b. refl)
-  steps-fall (at.strayEnable h c s) = (steps-fall h, λ b. refl)
-  steps-fall (at.strayTellEnabled h c) = (steps-fall h, λ b. refl)
-  steps-fall (at.strayTellDefault h c) = (steps-fall h, λ b. refl)
-  steps-fall (at.strayIsOverlay h c) = (steps-fall h, λ b. refl)
-  steps-fall (at.strayQuery h c) = (steps-fall h, λ b. refl)
-  steps-fall (at.strayFault h c) = (steps-fall h, λ b. refl)
-  steps-fall (at.strayLower h c) = (steps-fall h, λ b. refl)
-  steps-fall (at.strayAccess h c) = (steps-fall h, λ b. refl)
+  steps-fall none = tt
+  steps-fall (call {u} h (Do d) r m) = (steps-fall h, λ b. ap (λ (X : Gave Reply). X .world) (is m) ∙ busy-quiet d u (waiting h b) .keeps)
+  steps-fall (call h (Read q) r m) = (steps-fall h, λ b. ap (λ (X : Gave (Result (Read q))). X .world) (is m))
+  steps-fall (call {u} {v} {o} h (Answer g) r m) =
+      let f = answer-falls es u o (at-stop h) g v r (answer-is m) in (steps-fall h, f .0, f .1, answer-begins es u o (at-stop h) g v r _ (answer-is m) (at-stop (call h (Answer g) r m)))
+  steps-fall (stray h (Do d) r m s) = (steps-fall h, λ b. refl)
+  steps-fall (stray h (Read q) r m s) = (steps-fall h, λ b. refl)
+  steps-fall (stray {u} {x} {y} {o} h (Answer g) r m s) =
+      let f = stray-falls es u o (at-stop h) x y g r s (answer-is m) in (steps-fall h, f .0, f .1, stray-begins es u o (at-stop h) _ (at-stop (stray h (Answer g) r m s)))
 
 -- ---- and the whole of it
 
@@ -284,27 +182,18 @@ module _ (es : List MemoryRangeWithNode) {w v : World} {a o : Seen} (k : Stands 
 -- ---- lists of answers alone
 
 -- from where h stops, gs in turn
-record Further (v : World) (o : Seen) (l : List Event) (w : World) (gs : List Given) : Type 0 where
+record Further (v : World) (o : Seen) (l : List Call) (w : World) (gs : List Given) : Type 0 where
   seen : Seen
   calls : History v o (afterAll w gs) seen
-  alone : events (courseOf calls) ≡ l ++ map Answer gs
+  alone : callsIn calls ≡ l ++ map Answer gs
   meanwhile : Meanwhile (courseOf calls)
 
-further : {v w : World} {o p : Seen} (h : History v o w p) → Meanwhile (courseOf h) → (gs : List Given) → Further v o (events (courseOf h)) w gs
-unfolding afterAll courseOf events Meanwhile
-further {p = p} h m [] = record { seen = p; calls = h; alone = sym (append-nil (events (courseOf h))); meanwhile = m }
-further {w = w} h m (Succeeds ∷ gs) =
-    let x = further (at.done h (any-call w .done)) m gs in
-    record { seen = x .seen; calls = x .calls; alone = x .alone ∙ append-assoc (events (courseOf h)) (Answer Succeeds ∷ []) (map Answer gs); meanwhile = x .meanwhile }
-further {w = w} h m (Fails code n ∷ gs) =
-    let c = any-call w .failed code n in
-    let x = further (at.failed h (c .0)) m gs in
-    record {
-      seen = x .seen;
-      calls = x .calls;
-      alone = x .alone ∙ append-assoc (events (courseOf h)) _ (map Answer gs) ∙ ap₂ (λ (a b : ℕ). events (courseOf h) ++ (Answer (Fails a b) ∷ map Answer gs)) (c .1 .0) (c .1 .1);
-      meanwhile = x .meanwhile;
-    }
+further : {v w : World} {o p : Seen} (h : History v o w p) → Meanwhile (courseOf h) → (gs : List Given) → Further v o (callsIn h) w gs
+unfolding afterAll courseOf callsIn Meanwhile
+further {p = p} h m [] = record { seen = p; calls = h; alone = sym (append-nil (callsIn h)); meanwhile = m }
+further {w = w} h m (g ∷ gs) =
+    let x = further (call h (Answer g) (answerOf g w .reply) (any-call w .made (Answer g))) m gs in
+    record { seen = x .seen; calls = x .calls; alone = x .alone ∙ append-assoc (callsIn h) (Answer g ∷ []) (map Answer gs); meanwhile = x .meanwhile }
 
 -- done after each that isn't taken
 insisting-over : (w : World) → Whole w → (gs : List Given) → (underWay w ≡ true → leftIn w ≤ length gs) → underWay (afterAll w (insisting w gs)) ≡ false
@@ -346,14 +235,14 @@ stands-told : (es : List MemoryRangeWithNode) (v : World) (o : Seen) → Stands 
 stands-told es v o k = record { waits = k .waits; takes = taken-seen es v o k }
 
 -- while a request is under way done is taken
-done-answers : (es : List MemoryRangeWithNode) (v : World) (o : Seen) → Lent es v o → {x : World} (c : DoneCall v x) → isWaiting o ≡ true → isTaken o (c .result) ≡ true
-done-answers es v o k c b = ap (λ (X : Outcome). isTaken o (X .reply)) (done-is c) ∙ taken-seen es v o (k .stands) Succeeds ∙ claims.done-taken v (k .whole .long) (k .whole .fit) (sym (k .stands .waits) ∙ b)
+done-answers : (es : List MemoryRangeWithNode) (v : World) (o : Seen) → Lent es v o → {x : World} {r : Reply} → Made (Answer Succeeds) v x r → isWaiting o ≡ true → isTaken o r ≡ true
+done-answers es v o k m b = ap (λ (X : Outcome). isTaken o (X .reply)) (answer-is m) ∙ taken-seen es v o (k .stands) Succeeds ∙ claims.done-taken v (k .whole .long) (k .whole .fit) (sym (k .stands .waits) ∙ b)
 
 module _ (es : List MemoryRangeWithNode) (v : World) (o : Seen) (k : Lent es v o) where
   giving : (gs : List Given) → Answers v o gs
-  unfolding courseOf events Meanwhile
+  unfolding courseOf callsIn Meanwhile
   giving gs =
-      let x = further at.none tt gs in
+      let x = further none tt gs in
       record { world = afterAll v gs; seen = x .seen; calls = x .calls; alone = x .alone; enough = request-ends es (k .stands) (x .calls) (x .meanwhile) }
 
   ending : (gs : List Given) → underWay (afterAll v gs) ≡ false → Ends v o gs
@@ -361,12 +250,12 @@ module _ (es : List MemoryRangeWithNode) (v : World) (o : Seen) (k : Lent es v o
   ending gs e = record { answers = giving gs; over = at-stop es (k .stands) (giving gs .calls) .waits ∙ e }
 
   -- done so many times
-  done-heard : {x y : World} {p : Seen} → Lent es x p → (c : DoneCall x y) → (isTaken p (c .result) || not (isWaiting p)) ≡ true
-  done-heard {x} {p = p} s c = go (isWaiting p) refl
+  done-heard : {x y : World} {p : Seen} {r : Reply} → Lent es x p → Made (Answer Succeeds) x y r → (isTaken p r || not (isWaiting p)) ≡ true
+  done-heard {x} {p = p} {r = r} s m = go (isWaiting p) refl
     where
-      go : (b : Bool) → isWaiting p ≡ b → (isTaken p (c .result) || not b) ≡ true
-      go true b = ap (λ (t : Bool). t || false) (done-answers es x p s c b)
-      go false b = or-true (isTaken p (c .result))
+      go : (b : Bool) → isWaiting p ≡ b → (isTaken p r || not b) ≡ true
+      go true b = ap (λ (t : Bool). t || false) (done-answers es x p s m b)
+      go false b = or-true (isTaken p r)
         where
           or-true : (b : Bool) → (b || true) ≡ true
           or-true true = refl
@@ -374,16 +263,17 @@ module _ (es : List MemoryRangeWithNode) (v : World) (o : Seen) (k : Lent es v o
 
   hearing : (n : ℕ) → Heard v o n
   unfolding courseOf Meanwhile heardIn
-  hearing zero = record { world = v; seen = o; calls = at.none; meanwhile = tt; heard = refl }
+  hearing zero = record { world = v; seen = o; calls = none; meanwhile = tt; heard = refl }
   hearing (suc n) =
       let x = hearing n in
-      let c = any-call (x .world) .done in
+      let X : Outcome = answerDone (x .world) in
+      let m = any-call (x .world) .made (Answer Succeeds) in
       record {
-        world = answerDone (x .world) .world;
-        seen = seesAnswer Succeeds (c .result) (answerDone (x .world) .world .pages) (x .seen);
-        calls = at.done (x .calls) c;
+        world = X .world;
+        seen = seesAnswer Succeeds (X .reply) (X .world .pages) (x .seen);
+        calls = call (x .calls) (Answer Succeeds) (X .reply) m;
         meanwhile = x .meanwhile;
-        heard = ap₂ (λ (b : Bool) (n : ℕ). cond b 1 0 + n) (done-heard (history-keeps (Lent es) (lent-kept es) (x .calls) k) c) (x .heard) ∙ one-more n;
+        heard = ap₂ (λ (b : Bool) (n : ℕ). cond b 1 0 + n) (done-heard (history-keeps (Lent es) (lent-kept es) (x .calls) k) m) (x .heard) ∙ one-more n;
       }
     where
       one-more : (n : ℕ) → 1 + n ≡ suc n
@@ -398,7 +288,7 @@ module _ (es : List MemoryRangeWithNode) (v : World) (o : Seen) (k : Lent es v o
         still = λ h m. still-fewer es (k .stands) h m;
         ends = λ h m. request-ends es (k .stands) h m;
         heard = hearing;
-        done-taken = λ c b. done-answers es v o k c b;
+        done-taken = λ m b. done-answers es v o k m b;
         given = giving;
         insisted = λ gs e. ending (insisting v gs) (insisting-over v (k .whole) gs (λ _. e));
         unrefused-end = λ gs r e. ending gs (claims.every-request-ends v gs r e);
@@ -406,8 +296,8 @@ module _ (es : List MemoryRangeWithNode) (v : World) (o : Seen) (k : Lent es v o
       }
 
 -- THE CLAIM, wherever a list of calls from a build stops
-pub every-request-ends : {u w v : World} {o : Seen} (b : BuildCall u w) → b .result .number ≡ 0 → History w unseen v o → RequestEnds v o
-every-request-ends {v = v} {o = o} b d h = lent-ends (entriesOf (now (b .args .0))) v o (lent-holds b d h)
+pub every-request-ends : {ram : List ℕ} {i t r : ℕ} {u w v : World} {reply : Reply} {o : Seen} → Built ram i t r u w reply → reply .number ≡ 0 → History w unseen v o → RequestEnds v o
+every-request-ends {ram} {v = v} {o = o} b d h = lent-ends (entriesOf ram) v o (lent-holds b d h)
 
 -- and wherever one stops from a world that is settled
 pub settled-told : {w v : World} {o : Seen} → Settled w → History w (readOff (w .maps)) v o → Told v o
@@ -422,10 +312,10 @@ asked-waits : (ps : List ℕ) (r : Reply) (p : List ℕ) (o : Seen) → asks r �
 asked-waits ps r p o e = ap (λ (b : Bool). isWaiting (cond b (record { op = r; table = p; halted = o .halted; listed = ps; last = o .last; age = o .age }) o)) e ∙ e
 
 abbrev seen8 : Seen
-seen8 = seesCall (pagesOf (now (share8 .args .1 .1 .1 .1 .1 .1 .1 .1 .1 .1 .1 .0))) (share8 .result) (shared8 .pages) unseen
+seen8 = sees sharing8 (asking8 .reply) (asking8 .world .pages) unseen
 
 pub share8-waits : isWaiting seen8 ≡ true
-share8-waits = asked-waits _ (share8 .result) (shared8 .pages) unseen share8-asks
+share8-waits = asked-waits _ (asking8 .reply) (asking8 .world .pages) unseen share8-asks
 
-pub share8-ends : RequestEnds shared8 seen8
-share8-ends = every-request-ends build8 build8-taken (at.visibility at.none share8)
+pub share8-ends : RequestEnds (asking8 .world) seen8
+share8-ends = every-request-ends build8 build8-taken (call none sharing8 (asking8 .reply) share8)

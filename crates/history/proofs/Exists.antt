@@ -1,72 +1,135 @@
--- No list of calls is cut short for want of a call: whatever is lent and given, each of these contracts has a result and buffers at exit. Assumes
--- nothing.
+-- No list of calls is cut short for want of a call: of any world, fit or not, and with any arguments, every entry of the protector has a call with just these, and
+-- something of another length may be lent to it, whatever was last left. Assumes nothing.
+use native.Mathlib.Omega.{arith}
+use mathlib.Core.Path.{_≡_, refl, ap, subst}
+use mathlib.Core.Bool.{Bool, true, false, _&&_}
+use mathlib.Core.List.{List, []}
 use Prim.Native.Nat.{ℕ}
-use mathlib.Core.Path.{_≡_, refl, sym, ap}
-use mathlib.Core.List.{List}
-use mathlib.Core.Bool.{Bool, true, false, cond}
+use lib.ListN.{length}
 use contract.Lifetimes.{Lfts}
-use borrow.Fn.Kinds.{Dens}
-use denote.Ref.{now, at-last}
-use lib.Dec.{eqb}
-use Rattle.permissions.specs.Flags.{vtlOf, boolOf}
-use Rattle.mapping.specs.Maps.{maps}
-use Rattle.protector.specs.World.{World, world, Outcome, outcome, fits}
-use Rattle.protector.specs.Calls.{refusedBy, carriedOut, visibilityRefusal, visibilityTaken, visibilityOf, answerDone, answerFailed}
-use Rattle.history.specs.History.{VisibilityCall, DoneCall, FailedCall}
-use Rattle.underhill_mem.proofs.protector_change_host_visibility.Kinds as kVisibility
-use Rattle.underhill_mem.proofs.protector_answer_done.Kinds as kDone
-use Rattle.underhill_mem.proofs.protector_answer_failed.Kinds as kFailed
+use Rattle.layout.specs.declared.MemoryRangeWithNode.{MemoryRangeWithNode}
+use Rattle.layout.specs.Layout.{mapLen}
+use Rattle.mapping.specs.Maps.{marksFit, permissionLen, permissionsFit}
+use Rattle.protector_state.specs.State.{settingsOf, entriesIn}
+use Rattle.protector.specs.World.{World, Outcome}
+use Rattle.protector.specs.Calls.{visibilityOf, answerDone, answerFailed, buildOf}
+use Rattle.vtl_protections.specs.Calls.{protectionOf, defaultOf}
+use Rattle.overlay_pages.specs.Calls.{registerOf, unregisterOf}
+use Rattle.locked_pages.specs.Calls.{Kept, lockOf, unlockOf}
+use Rattle.vtl1_protections.specs.Calls.{Enabled, enableOf}
+use Rattle.queries.specs.Queries as queries
+use Rattle.queries.specs.Queries.{queryOf}
+use Rattle.visibility_claims.specs.Whole.{Given, Succeeds, Fails}
+use Rattle.history.specs.Call.{Act, Visibility, Protection, Default, Register, Unregister, Lock, Unlock, Enable, TellEnabled, TellDefault, IsOverlay, Query, Fault, Lower, Access, Reader, Call, Do, Read, Answer, Result, does, tells, gives}
+use Rattle.history.specs.Made.{Run, Seven, Nine, Made, visibility, done, failed, protection, default, register, unregister, lock, unlock, enable, tellEnabled, tellDefault, isOverlay, query, fault, lower, access, Built, build}
+use Rattle.history.specs.History.{block, other, lockBlock, lockTables}
+use Rattle.history.specs.Callable.{Callable, Strays}
+use Rattle.history.specs.Answered.{given}
+use Rattle.history.proofs.Spared.{visibility-same, protection-same, default-same, register-same, unregister-same}
 
--- a visibility change spares the tables
-pub visibility-tables : (w : World) (vtl share : ℕ) (l : List ℕ) → visibilityOf w vtl share l .world .tables ≡ w .tables
-unfolding visibilityOf visibilityTaken carriedOut
-visibility-tables w vtl share l = go (eqb n 0)
+-- ---- a world as it is lent
+
+abbrev lend : List ℕ → Run
+lend l = record { ptr = (0, 0); name = 0; now = l }
+
+abbrev seven : {X : Type 0} → World → X → Seven X
+seven w x = (lend (w .maps .private), (lend (w .maps .shared), (lend (w .maps .permissions .read), (lend (w .maps .permissions .write), (lend (w .maps .permissions .kernel), (lend (w .maps .permissions .user), (lend (w .state), x)))))))
+
+abbrev nine : {X : Type 0} → World → X → Nine X
+nine w x = seven w (lend (w .pages), (lend (w .tables), x))
+
+abbrev lasting7 : Lfts 7
+lasting7 = ([], ([], ([], ([], ([], ([], ([], tt)))))))
+
+abbrev lasting9 : Lfts 9
+lasting9 = ([], ([], lasting7))
+
+abbrev lasting10 : Lfts 10
+lasting10 = ([], lasting9)
+
+-- what is lent for reading alone is what is left there
+left-same : (c : Call) (r : Result c) (w : World) {v x : World} → v ≡ x → Made c w v r → Made c w x r
+left-same c r w e m = subst (λ (v : World). Made c w v r) e m
+
+-- ---- every call
+
+act-made : (a : Act) (w : World) → Made (Do a) w (does a w .world) (does a w .answer)
+act-made (Visibility vtl share list) w =
+    let X : Outcome = visibilityOf w vtl share list in
+    let e = visibility-same w vtl share list in
+    left-same (Do (Visibility vtl share list)) (X .reply) w e (visibility lasting10 (nine w (vtl, (share, (lend list, tt)))) (X .reply) (nine (X .world) (vtl, (share, (lend list, tt)))) (ap (λ (v : World). given v (X .reply)) e))
+act-made (Protection vtl flags list) w =
+    let X : Outcome = protectionOf w vtl flags list in
+    let e = protection-same w vtl flags list in
+    left-same (Do (Protection vtl flags list)) (X .reply) w e (protection lasting10 (nine w (vtl, (flags, (lend list, tt)))) (X .reply) (nine (X .world) (vtl, (flags, (lend list, tt)))) (ap (λ (v : World). given v (X .reply)) e))
+act-made (Default vtl flags) w =
+    let X : Outcome = defaultOf w vtl flags in
+    let e = default-same w vtl flags in
+    left-same (Do (Default vtl flags)) (X .reply) w e (default lasting9 (nine w (vtl, (flags, tt))) (X .reply) (nine (X .world) (vtl, (flags, tt))) (ap (λ (v : World). given v (X .reply)) e))
+act-made (Register vtl page source checked new) w =
+    let X : Outcome = registerOf w vtl page source checked new in
+    let e = register-same w vtl page source checked new in
+    left-same (Do (Register vtl page source checked new)) (X .reply) w e
+    (register lasting9 (nine w (vtl, (page, (source, (checked, (new, tt)))))) (X .reply) (nine (X .world) (vtl, (page, (source, (checked, (new, tt)))))) (ap (λ (v : World). given v (X .reply)) e))
+act-made (Unregister vtl page) w =
+    let X : Outcome = unregisterOf w vtl page in
+    let e = unregister-same w vtl page in
+    left-same (Do (Unregister vtl page)) (X .reply) w e (unregister lasting9 (nine w (vtl, (page, tt))) (X .reply) (nine (X .world) (vtl, (page, tt))) (ap (λ (v : World). given v (X .reply)) e))
+act-made (Lock vtl list) w =
+    let k : Kept = lockOf (w .state) (w .tables) vtl list in
+    lock (w .maps) (w .pages) ([], ([], ([], tt))) (lend (w .state), (lend (w .tables), (vtl, (lend list, tt)))) (k .reply) (lend (w .state), (lend (k .tables), (vtl, (lend list, tt)))) refl
+act-made (Unlock vtl list) w =
+    let k : Kept = unlockOf (w .state) (w .tables) vtl list in
+    unlock (w .maps) (w .pages) ([], ([], ([], tt))) (lend (w .state), (lend (w .tables), (vtl, (lend list, tt)))) (k .reply) (lend (w .state), (lend (k .tables), (vtl, (lend list, tt)))) refl
+act-made Enable w =
+    let k : Enabled = enableOf (w .state) in
+    enable (w .maps) (w .pages) (w .tables) ([], tt) (lend (w .state), tt) (k .reply) (lend (k .state), tt) refl
+
+read-made : (q : Reader) (w : World) → Made (Read q) w w (tells q w)
+read-made TellEnabled w = tellEnabled (w .maps) (w .pages) (w .tables) ([], tt) (lend (w .state), tt) (tells TellEnabled w) (lend (w .state), tt) refl
+read-made TellDefault w = tellDefault (w .maps) (w .pages) (w .tables) ([], tt) (lend (w .state), tt) (tells TellDefault w) (lend (w .state), tt) refl
+read-made (IsOverlay vtl page) w =
+    isOverlay (w .maps) (w .pages) ([], ([], tt)) (lend (w .state), (lend (w .tables), (vtl, (page, tt)))) (tells (IsOverlay vtl page) w) (lend (w .state), (lend (w .tables), (vtl, (page, tt)))) refl
+read-made (Query list out) w =
+    let q : queries.Query = queryOf (w .state) (w .maps .shared) list out in
+    query (w .maps .private) (w .maps .permissions) (w .pages) (w .tables) ([], ([], ([], ([], tt)))) (lend (w .state), (lend (w .maps .shared), (lend list, (lend out, tt)))) (q .reply)
+    (lend (w .state), (lend (w .maps .shared), (lend list, (lend (q .out), tt)))) refl
+read-made (Fault mapping view address writes failure) w =
+    fault (w .pages) (w .tables) lasting7 (seven w (mapping, (view, (address, (writes, (failure, tt)))))) (tells (Fault mapping view address writes failure) w) (seven w (mapping, (view, (address, (writes, (failure, tt)))))) refl
+read-made (Lower vtl page) w = lower (w .pages) (w .tables) lasting7 (seven w (vtl, (page, tt))) (tells (Lower vtl page) w) (seven w (vtl, (page, tt))) refl
+read-made (Access page) w = access (w .pages) (w .tables) lasting7 (seven w (page, tt)) (tells (Access page) w) (seven w (page, tt)) refl
+
+answer-made : (g : Given) (w : World) → Made (Answer g) w (gives (Answer g) w .world) (gives (Answer g) w .answer)
+answer-made Succeeds w = let X : Outcome = answerDone w in done lasting9 (nine w tt) (X .reply) (nine (X .world) tt) refl
+answer-made (Fails code n) w = let X : Outcome = answerFailed w code n in failed lasting9 (nine w (code, (n, tt))) (X .reply) (nine (X .world) (code, (n, tt))) refl
+
+pub any-call : (w : World) → Callable w
+any-call w = record { made = made; built = built }
   where
-    n : ℕ
-    n = visibilityRefusal (w .state) (fits w) (w .tables) vtl share l
+    made : (c : Call) → Made c w (gives c w .world) (gives c w .answer)
+    made (Do a) = act-made a w
+    made (Read q) = read-made q w
+    made (Answer g) = answer-made g w
 
-    go : (b : Bool) → cond b (visibilityTaken w (vtlOf vtl) (boolOf share) l) (refusedBy w n) .world .tables ≡ w .tables
-    go true = refl
-    go false = refl
+    built : (ram : List ℕ) (isolation tracked release : ℕ) → let X = buildOf w ram isolation tracked release in Built ram isolation tracked release w (X .world) (X .reply)
+    built ram isolation tracked release =
+        let X : Outcome = buildOf w ram isolation tracked release in
+        build lasting10 (lend ram, (isolation, (tracked, (release, nine w tt)))) (X .reply) (lend ram, (isolation, (tracked, (release, nine (X .world) tt)))) refl
 
-unfoldable pub visibility-may : (κs : Lfts 10) (a : Dens κs kVisibility.ps) → let w = world (maps (now (a .0)) (now (a .1 .0)) (now (a .1 .1 .0)) (now (a .1 .1 .1 .0)) (now (a .1 .1 .1 .1 .0)) (now (a .1 .1 .1 .1 .1 .0))) (now (a .1 .1 .1 .1 .1 .1 .0)) (now (a .1 .1 .1 .1 .1 .1 .1 .0)) (now (a .1 .1 .1 .1 .1 .1 .1 .1 .0)) in VisibilityCall w (visibilityOf w (a .1 .1 .1 .1 .1 .1 .1 .1 .1 .0) (a .1 .1 .1 .1 .1 .1 .1 .1 .1 .1 .0) (now (a .1 .1 .1 .1 .1 .1 .1 .1 .1 .1 .1 .0)) .world)
-visibility-may κs a =
-    let w : World = world (maps (now (a .0)) (now (a .1 .0)) (now (a .1 .1 .0)) (now (a .1 .1 .1 .0)) (now (a .1 .1 .1 .1 .0)) (now (a .1 .1 .1 .1 .1 .0))) (now (a .1 .1 .1 .1 .1 .1 .0)) (now (a .1 .1 .1 .1 .1 .1 .1 .0)) (now (a .1 .1 .1 .1 .1 .1 .1 .1 .0)) in
-    let x : Outcome = visibilityOf w (a .1 .1 .1 .1 .1 .1 .1 .1 .1 .0) (a .1 .1 .1 .1 .1 .1 .1 .1 .1 .1 .0) (now (a .1 .1 .1 .1 .1 .1 .1 .1 .1 .1 .1 .0)) in
+-- ---- something of another length, whatever was last left
+
+pub any-stray : (u : World) → Strays u
+any-stray u =
     record {
-      κs = κs;
-      args = a;
-      result = x .reply;
-      exit = (at-last (a .0) (x .world .maps .private), (at-last (a .1 .0) (x .world .maps .shared), (at-last (a .1 .1 .0) (x .world .maps .permissions .read), (at-last (a .1 .1 .1 .0) (x .world .maps .permissions .write), (at-last (a .1 .1 .1 .1 .0) (x .world .maps .permissions .kernel), (at-last (a .1 .1 .1 .1 .1 .0) (x .world .maps .permissions .user), (at-last (a .1 .1 .1 .1 .1 .1 .0) (x .world .state), (at-last (a .1 .1 .1 .1 .1 .1 .1 .0) (x .world .pages), (a .1 .1 .1 .1 .1 .1 .1 .1 .0, (a .1 .1 .1 .1 .1 .1 .1 .1 .1 .0, (a .1 .1 .1 .1 .1 .1 .1 .1 .1 .1 .0, (a .1 .1 .1 .1 .1 .1 .1 .1 .1 .1 .1 .0, tt))))))))))));
-      contract = ap (λ (t : List ℕ). outcome (x .world .maps) (x .world .state) (x .world .pages) t (x .reply)) (sym (visibility-tables w (a .1 .1 .1 .1 .1 .1 .1 .1 .1 .0) (a .1 .1 .1 .1 .1 .1 .1 .1 .1 .1 .0) (now (a .1 .1 .1 .1 .1 .1 .1 .1 .1 .1 .1 .0))));
-      given = refl;
-      left = ap (λ (t : List ℕ). world (x .world .maps) (x .world .state) (x .world .pages) t) (visibility-tables w (a .1 .1 .1 .1 .1 .1 .1 .1 .1 .0) (a .1 .1 .1 .1 .1 .1 .1 .1 .1 .1 .0) (now (a .1 .1 .1 .1 .1 .1 .1 .1 .1 .1 .1 .0)));
+      no-block = block (λ e. absurd (omega (arith, e)));
+      no-pages = other refl (none (marksFit (mapLen es) (length (u .maps .private)) (length (u .maps .shared)) && permissionsFit (permissionLen (mapLen es) (settingsOf (u .state) .tracked)) (length (u .maps .permissions .read)) (length (u .maps .permissions .write)) (length (u .maps .permissions .kernel)) (length (u .maps .permissions .user))));
+      no-lock-block = lockBlock (λ e. absurd (omega (arith, e)));
+      no-lock-tables = lockTables refl (λ e. absurd (omega (arith, e)));
     }
+  where
+    es : List MemoryRangeWithNode
+    es = entriesIn (u .state)
 
-unfoldable pub done-may : (κs : Lfts 9) (a : Dens κs kDone.ps) → let w = world (maps (now (a .0)) (now (a .1 .0)) (now (a .1 .1 .0)) (now (a .1 .1 .1 .0)) (now (a .1 .1 .1 .1 .0)) (now (a .1 .1 .1 .1 .1 .0))) (now (a .1 .1 .1 .1 .1 .1 .0)) (now (a .1 .1 .1 .1 .1 .1 .1 .0)) (now (a .1 .1 .1 .1 .1 .1 .1 .1 .0)) in DoneCall w (answerDone w .world)
-done-may κs a =
-    let w : World = world (maps (now (a .0)) (now (a .1 .0)) (now (a .1 .1 .0)) (now (a .1 .1 .1 .0)) (now (a .1 .1 .1 .1 .0)) (now (a .1 .1 .1 .1 .1 .0))) (now (a .1 .1 .1 .1 .1 .1 .0)) (now (a .1 .1 .1 .1 .1 .1 .1 .0)) (now (a .1 .1 .1 .1 .1 .1 .1 .1 .0)) in
-    let x : Outcome = answerDone w in
-    record {
-      κs = κs;
-      args = a;
-      result = x .reply;
-      exit = (at-last (a .0) (x .world .maps .private), (at-last (a .1 .0) (x .world .maps .shared), (at-last (a .1 .1 .0) (x .world .maps .permissions .read), (at-last (a .1 .1 .1 .0) (x .world .maps .permissions .write), (at-last (a .1 .1 .1 .1 .0) (x .world .maps .permissions .kernel), (at-last (a .1 .1 .1 .1 .1 .0) (x .world .maps .permissions .user), (at-last (a .1 .1 .1 .1 .1 .1 .0) (x .world .state), (at-last (a .1 .1 .1 .1 .1 .1 .1 .0) (x .world .pages), (at-last (a .1 .1 .1 .1 .1 .1 .1 .1 .0) (x .world .tables), tt)))))))));
-      contract = refl;
-      given = refl;
-      left = refl;
-    }
-
-unfoldable pub failed-may : (κs : Lfts 9) (a : Dens κs kFailed.ps) → let w = world (maps (now (a .0)) (now (a .1 .0)) (now (a .1 .1 .0)) (now (a .1 .1 .1 .0)) (now (a .1 .1 .1 .1 .0)) (now (a .1 .1 .1 .1 .1 .0))) (now (a .1 .1 .1 .1 .1 .1 .0)) (now (a .1 .1 .1 .1 .1 .1 .1 .0)) (now (a .1 .1 .1 .1 .1 .1 .1 .1 .0)) in FailedCall w (answerFailed w (a .1 .1 .1 .1 .1 .1 .1 .1 .1 .0) (a .1 .1 .1 .1 .1 .1 .1 .1 .1 .1 .0) .world)
-failed-may κs a =
-    let w : World = world (maps (now (a .0)) (now (a .1 .0)) (now (a .1 .1 .0)) (now (a .1 .1 .1 .0)) (now (a .1 .1 .1 .1 .0)) (now (a .1 .1 .1 .1 .1 .0))) (now (a .1 .1 .1 .1 .1 .1 .0)) (now (a .1 .1 .1 .1 .1 .1 .1 .0)) (now (a .1 .1 .1 .1 .1 .1 .1 .1 .0)) in
-    let x : Outcome = answerFailed w (a .1 .1 .1 .1 .1 .1 .1 .1 .1 .0) (a .1 .1 .1 .1 .1 .1 .1 .1 .1 .1 .0) in
-    record {
-      κs = κs;
-      args = a;
-      result = x .reply;
-      exit = (at-last (a .0) (x .world .maps .private), (at-last (a .1 .0) (x .world .maps .shared), (at-last (a .1 .1 .0) (x .world .maps .permissions .read), (at-last (a .1 .1 .1 .0) (x .world .maps .permissions .write), (at-last (a .1 .1 .1 .1 .0) (x .world .maps .permissions .kernel), (at-last (a .1 .1 .1 .1 .1 .0) (x .world .maps .permissions .user), (at-last (a .1 .1 .1 .1 .1 .1 .0) (x .world .state), (at-last (a .1 .1 .1 .1 .1 .1 .1 .0) (x .world .pages), (at-last (a .1 .1 .1 .1 .1 .1 .1 .1 .0) (x .world .tables), (a .1 .1 .1 .1 .1 .1 .1 .1 .1 .0, (a .1 .1 .1 .1 .1 .1 .1 .1 .1 .1 .0, tt)))))))))));
-      contract = refl;
-      given = refl;
-      left = refl;
-    }
+    none : (b : Bool) → (b && false) ≡ false
+    none true = refl
+    none false = refl

@@ -1,3 +1,4 @@
+pub mod Took
 pub mod Bits
 pub mod Right
 pub mod Steps
@@ -11,12 +12,16 @@ pub mod Aging
 pub mod Strays
 pub mod Lengths
 pub mod Wholes
+pub mod Is
+pub mod Refused
 pub mod Histories
 pub mod Answered
 pub mod Restart
 pub mod Claim
+pub mod Spared
 pub mod Exists
-pub mod ExistsOthers
-pub mod ExistsReaders
-pub mod ExistsAny
+pub mod Eight
 pub mod Ends
+pub mod Requests
+pub mod SeenTable
+pub mod Unasked

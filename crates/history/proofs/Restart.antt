@@ -27,7 +27,8 @@ use Rattle.history.specs.Answered.{ClaimFrom}
 use Rattle.history.specs.History.{History}
 use Rattle.history.proofs.Bits.{clash}
 use Rattle.history.proofs.Right.{Right, Names, opened}
-use Rattle.history.proofs.World.{Stands}
+use Rattle.history.proofs.Took.{isShared, sharedIn, shared-as, is-private, is-shared}
+use Rattle.history.proofs.World.{Stands, right-same}
 use Rattle.history.proofs.Ages.{Aged}
 use Rattle.history.proofs.Aging.{Snp}
 use Rattle.history.proofs.Answered.{answered, composed}
@@ -38,10 +39,12 @@ stands-marked : (es : List MemoryRangeWithNode) (w : World) (o : Seen) → Stand
 stands-marked es w o k =
     let g = k .right in
     record {
-      exact = λ z r off. g .full z r (λ j a b d y. clash (among (o .listed) z) (ap (among (o .listed)) (sym y) ∙ g .named a j b d) off) (λ _. off);
-      private-right = g .only-private;
-      shared-right = g .only-shared;
-      never-both = λ z a b. clash (o .last z) (g .only-shared z b) (g .only-private z a);
+      exact = λ z r off.
+          let f = g .full z r (λ j a b d y. clash (among (o .listed) z) (ap (among (o .listed)) (sym y) ∙ g .named a j b d) off) (λ _. off) in
+          (λ e. f .0 (ap isShared e), λ e. f .1 (ap isShared e));
+      private-right = λ z h. is-private (o .last z) (g .only-private z h);
+      shared-right = λ z h. is-shared (o .last z) (g .only-shared z h);
+      never-both = λ z a b. clash (sharedIn o z) (g .only-shared z b) (g .only-private z a);
       private-ram = g .private-ram;
       shared-ram = g .shared-ram;
     }
@@ -128,7 +131,8 @@ module _ (w : World) (k : Settled w) where
   settled-stands =
       record {
         layout = refl;
-        right = by-idle (λ (p : Phase). Right (isRam es) (w .maps .private) (w .maps .shared) p (requestOf (w .state)) (w .pages) false [] (λ z. bitAt 8 (w .maps .shared) z)) p rests right;
+        right = right-same (sharedIn (readOff (w .maps))) false (λ z. shared-as (bitAt 8 (w .maps .shared) z))
+            (by-idle (λ (p : Phase). Right (isRam es) (w .maps .private) (w .maps .shared) p (requestOf (w .state)) (w .pages) false [] (λ z. bitAt 8 (w .maps .shared) z)) p rests right);
         halts = sym (ap (λ (n : ℕ). eqb n 20) (k .idle));
         waits = sym (ap (λ (n : ℕ). eqb n 19) (k .idle));
         names = by-idle (λ (p : Phase). Names p (requestOf (w .state)) (w .pages) (readOff (w .maps) .op)) p rests refl;

@@ -2,24 +2,22 @@
 use Prim.Native.Nat.{ℕ}
 use mathlib.Core.Path.{_≡_, refl, sym, ap, _∙_, subst}
 use mathlib.Core.List.{List}
-use mathlib.Core.Bool.{Bool, true, false, cond}
+use mathlib.Core.Bool.{Bool, true, false, cond, not}
 use lib.ListN.{length}
 use lib.Dec.{eqb}
 use borrow.Author.Tests.{eqb-true, ne-eqb}
 use Rattle.laws.specs.Refusal.{unless, passed}
 use Rattle.permissions.specs.Flags.{vtlOf}
-use Rattle.protector_state.specs.declared.Reply.{Reply}
 use Rattle.protector_state.specs.State.{stateLen}
 use Rattle.protector.specs.World.{World, Outcome, tablesLen, fits, statusIn, takesIn}
 use Rattle.protector.specs.Calls.{refusedBy, decided, visibilityRefusal, answerRefusal}
 use Rattle.vtl_protections.specs.Calls.{defaultRefusal, protectionRefusal}
 use Rattle.overlay_tests.specs.Refusals.{callRefusal, registerRefusal, unregisterRefusal}
 use Rattle.overlay_pages.specs.Calls.{currentIn}
-use Rattle.pages.specs.Pages.{pagesOf}
-use Rattle.locked_pages.specs.Calls.{ended, lockRefusal, lockTaken, lockOf, unlockTaken, unlockOf}
-use Rattle.vtl1_protections.specs.Calls.{stateRefusal, enableRefusal, enableOf}
+use Rattle.locked_pages.specs.Calls.{lockRefusal}
+use Rattle.vtl1_protections.specs.Calls.{stateRefusal, enableRefusal}
 use Rattle.visibility_claims.specs.Whole.{Given}
-use Rattle.history.specs.Seen.{Seen, isTaken, seesTaken, seesAnswer, seesCall}
+use Rattle.history.specs.Seen.{Seen, isTaken, seesTaken, seesAnswer}
 use Rattle.history.specs.History.{Stray, block, other, StrayLock, lockBlock, lockTables}
 use Rattle.history.proofs.Bits.{clash}
 use Rattle.history.proofs.Answers.{chain, counts, chain-untaken}
@@ -65,17 +63,12 @@ pub unregister-whole : (x : World) (vtl p : ℕ) → unregisterRefusal (x .state
 unfolding unregisterRefusal
 unregister-whole x vtl p z = call-whole x vtl _ z
 
--- a call refused so
-module _ (u x : World) (n : ℕ) (T : Outcome) (f : n ≡ 0 → Whole x) (s : Stray u x) where
-  pub refused-stray : decided x n T ≡ refusedBy x n
-  refused-stray = ap (λ (b : Bool). cond b T (refusedBy x n)) (ne-eqb n 0 (λ z. not-whole u x s (f z)))
-
-  -- it writes nothing
-  pub call-kept : (y : World) (r : Reply) → record { world = y; reply = r } ≡ decided x n T → y ≡ x
-  call-kept y r e = ap (λ (X : Outcome). X .world) (e ∙ refused-stray)
-
-  pub call-stray : (K : Seen → Type 0) (o : Seen) (ps : List ℕ) → K o → K (seesCall ps (decided x n T .reply) (decided x n T .world .pages) o)
-  call-stray K o ps k = subst (λ (X : Outcome). K (seesCall ps (X .reply) (X .world .pages) o)) (sym refused-stray) k
+pub answer-whole : (x : World) (failed : Bool) → answerRefusal (x .state) (fits x) failed ≡ 0 → Whole x
+unfolding answerRefusal
+answer-whole x failed z =
+    let a = passed (eqb (length (x .state)) stateLen) 3 _ z in
+    let b = passed (not (eqb (statusIn (x .state)) 20)) 19 _ (a .1) in
+    record { long = eqb-true _ _ (a .0); fit = passed (fits x) 3 _ (b .1) .0 }
 
 -- an answer refused so
 module _ (u x : World) (o : Seen) (halts : o .halted ≡ eqb (statusIn (u .state)) 20) (failed : Bool) (T : Outcome) (s : Stray u x) where
@@ -112,9 +105,6 @@ module _ (u x : World) (o : Seen) (halts : o .halted ≡ eqb (statusIn (u .state
   unfolding answerRefusal
   refused-answer = ap (λ (b : Bool). cond b T (refusedBy x (chain A H (fits x) D))) taken-not
 
-  pub answer-kept : (y : World) (r : Reply) → record { world = y; reply = r } ≡ decided x (answerRefusal (x .state) (fits x) failed) T → y ≡ x
-  answer-kept y r e = ap (λ (X : Outcome). X .world) (e ∙ refused-answer)
-
   pub untaken-seen : isTaken o (decided x (answerRefusal (x .state) (fits x) failed) T .reply) ≡ false
   unfolding answerRefusal
   untaken-seen = ap (λ (X : Outcome). isTaken o (X .reply)) refused-answer ∙ untaken s
@@ -128,7 +118,7 @@ module _ (u x : World) (o : Seen) (halts : o .halted ≡ eqb (statusIn (u .state
 
 -- ---- locks and the setter, the same
 
-lock-refused : (u x : World) (vtl : ℕ) (l : List ℕ) → StrayLock u x → lockRefusal (x .state) (length (x .tables)) vtl l ≡ 0 → ⊥
+pub lock-refused : (u x : World) (vtl : ℕ) (l : List ℕ) → StrayLock u x → lockRefusal (x .state) (length (x .tables)) vtl l ≡ 0 → ⊥
 unfolding lockRefusal
 lock-refused u x vtl l s z =
     let a = passed (eqb (length (x .state)) stateLen) 3 _ z in
@@ -140,18 +130,6 @@ lock-refused u x vtl l s z =
     go (lockBlock f) d e = f d
     go (lockTables _ f) d e = f e
 
-pub lock-kept : (u x : World) (vtl : ℕ) (l : List ℕ) → StrayLock u x → lockOf (x .state) (x .tables) vtl l .tables ≡ x .tables
-unfolding lockOf
-lock-kept u x vtl l s =
-    ap (λ (b : Bool). cond b (lockTaken (x .tables) (vtlOf vtl) (pagesOf l)) (ended (x .tables) (lockRefusal (x .state) (length (x .tables)) vtl l)) .tables)
-    (ne-eqb (lockRefusal (x .state) (length (x .tables)) vtl l) 0 (lock-refused u x vtl l s))
-
-pub unlock-kept : (u x : World) (vtl : ℕ) (l : List ℕ) → StrayLock u x → unlockOf (x .state) (x .tables) vtl l .tables ≡ x .tables
-unfolding unlockOf
-unlock-kept u x vtl l s =
-    ap (λ (b : Bool). cond b (unlockTaken (x .tables) (vtlOf vtl) (pagesOf l)) (ended (x .tables) (lockRefusal (x .state) (length (x .tables)) vtl l)) .tables)
-    (ne-eqb (lockRefusal (x .state) (length (x .tables)) vtl l) 0 (lock-refused u x vtl l s))
-
-pub enable-kept : (s : List ℕ) → (length s ≡ stateLen → ⊥) → enableOf s .state ≡ s
-unfolding enableOf enableRefusal stateRefusal
-enable-kept s f = rw (ne-eqb (length s) stateLen f)
+pub enable-refused : (s : List ℕ) → (length s ≡ stateLen → ⊥) → enableRefusal s ≡ 0 → ⊥
+unfolding enableRefusal stateRefusal
+enable-refused s f z = f (eqb-true _ _ (passed (eqb (length s) stateLen) 3 _ (status _ _ z .0) .0))

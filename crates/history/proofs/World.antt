@@ -27,14 +27,15 @@ use Rattle.change_state.specs.State.{stageNumber, isChanging, withChange}
 use Rattle.protector.specs.World.{World, world, statusOf, statusIn}
 use Rattle.visibility_claims.specs.Whole.{Given}
 use Rattle.visibility_claims.proofs.Calls.{phase-read, request-read, no-change}
-use Rattle.history.specs.Seen.{Seen, isWaiting, isModify, processed, lastAfter}
+use Rattle.history.specs.Seen.{Seen, tookAs, isWaiting, isModify, processed, lastAfter}
+use Rattle.history.proofs.Took.{isShared, sharedIn, shared-either}
 use Rattle.history.proofs.Bits.{clash}
 use Rattle.history.proofs.Right.{opened, isHalted, isQuiet, Names, Right}
 use Rattle.history.proofs.Steps.{after}
 
 pub record Stands (es : List MemoryRangeWithNode) (w : World) (o : Seen) : Type 0 where
   pub layout : entriesIn (w .state) ≡ es
-  pub right : Right (isRam es) (w .maps .private) (w .maps .shared) (phaseIn (w .state)) (requestOf (w .state)) (w .pages) (o .halted) (o .listed) (o .last)
+  pub right : Right (isRam es) (w .maps .private) (w .maps .shared) (phaseIn (w .state)) (requestOf (w .state)) (w .pages) (o .halted) (o .listed) (sharedIn o)
   pub halts : o .halted ≡ eqb (statusIn (w .state)) 20
   pub waits : isWaiting o ≡ eqb (statusIn (w .state)) 19
   pub names : Names (phaseIn (w .state)) (requestOf (w .state)) (w .pages) (o .op)
@@ -92,17 +93,17 @@ quiet-modify r h = go (isModify r) refl
     go false e = e
     go true e = false≢true (sym (ap (λ (k : ℕ). isQuiet (record { number = r .number; code = r .code; index = r .index; count = r .count; operation = k; vtl = r .vtl; flags = r .flags; operand = r .operand; first = r .first; pages = r .pages; shared = r .shared })) (eqb-true (r .operation) 6 e)) ∙ h)
 
-pub quiet-last : (g : Given) (o : Seen) → isQuiet (o .op) ≡ true → (z : ℕ) → lastAfter g o z ≡ o .last z
-quiet-last g o h z = ap (λ (b : Bool). cond (b && among (take (processed g (o .op .pages)) (o .table)) z) (eqb (o .op .shared) 1) (o .last z)) (quiet-modify (o .op) h)
+pub quiet-last : (g : Given) (o : Seen) → isQuiet (o .op) ≡ true → (z : ℕ) → isShared (lastAfter g o z) ≡ sharedIn o z
+quiet-last g o h z = ap (λ (b : Bool). isShared (cond (b && among (take (processed g (o .op .pages)) (o .table)) z) (tookAs (eqb (o .op .shared) 1)) (o .last z))) (quiet-modify (o .op) h)
 
 modify-last : (g : Given) (o : Seen) (q : Request) (t : List ℕ) → o .op ≡ modifies (q .share) (q .n) → o .table ≡ t → (z : ℕ)
-    → lastAfter g o z ≡ cond (among (part t (processed g (q .n)) 0) z) (q .share) (o .last z)
-modify-last g o q t e d z = rw (e, d, digit-read (q .share))
+    → isShared (lastAfter g o z) ≡ cond (among (part t (processed g (q .n)) 0) z) (q .share) (sharedIn o z)
+modify-last g o q t e d z = rw (e, d, digit-read (q .share)) (shared-either (among (part t (processed g (q .n)) 0) z) (q .share) (o .last z))
 
-run-last : (g : Given) (o : Seen) (r : Reply) → o .op ≡ r → isModify r ≡ false → (z : ℕ) → lastAfter g o z ≡ o .last z
-run-last g o r e h z = ap (λ (b : Bool). cond (b && among (take (processed g (o .op .pages)) (o .table)) z) (eqb (o .op .shared) 1) (o .last z)) (ap (λ (x : Reply). isModify x) e ∙ h)
+run-last : (g : Given) (o : Seen) (r : Reply) → o .op ≡ r → isModify r ≡ false → (z : ℕ) → isShared (lastAfter g o z) ≡ sharedIn o z
+run-last g o r e h z = ap (λ (b : Bool). isShared (cond (b && among (take (processed g (o .op .pages)) (o .table)) z) (tookAs (eqb (o .op .shared) 1)) (o .last z))) (ap (λ (x : Reply). isModify x) e ∙ h)
 
-pub seen-last : (p : Phase) (g : Given) (o : Seen) (q : Request) (t : List ℕ) → Names p q t (o .op) → (opened p ≡ true → o .table ≡ t) → (z : ℕ) → lastAfter g o z ≡ after p q t g (o .last) z
+pub seen-last : (p : Phase) (g : Given) (o : Seen) (q : Request) (t : List ℕ) → Names p q t (o .op) → (opened p ≡ true → o .table ≡ t) → (z : ℕ) → isShared (lastAfter g o z) ≡ after p q t g (sharedIn o) z
 seen-last at.Idle g o q t n d z = quiet-last g o n z
 seen-last at.Halted g o q t n d z = quiet-last g o n z
 seen-last at.Wait g o q t n d z = quiet-last g o n z
@@ -259,7 +260,7 @@ changing-shut s h = between-phase (getD s 0 0) (leb-true 13 _ (and-left _ _ h))
 -- ---- what stands, once a step is made
 
 module _ (es : List MemoryRangeWithNode) (m : Maps) (s t tables : List ℕ) (o : Seen) where
-  pub stands-step : (p : Phase) (q : Request) → q .n ≤ 512 → entriesIn s ≡ es → Right (isRam es) (m .private) (m .shared) p q t (o .halted) (o .listed) (o .last) → o .halted ≡ isHalted p
+  pub stands-step : (p : Phase) (q : Request) → q .n ≤ 512 → entriesIn s ≡ es → Right (isRam es) (m .private) (m .shared) p q t (o .halted) (o .listed) (sharedIn o) → o .halted ≡ isHalted p
       → isWaiting o ≡ eqb (statusOf p) 19 → Names p q t (o .op) → (opened p ≡ true → o .table ≡ t) → Stands es (world m (withRequest p q s) t tables) o
   stands-step p q few e r h a n d =
       let p₀ : Phase = p in
@@ -267,8 +268,8 @@ module _ (es : List MemoryRangeWithNode) (m : Maps) (s t tables : List ℕ) (o :
       let b : requestOf (withRequest p q s) ≡ q = request-read p q (drop 10 s) few in
       record {
         layout = request-entries p q s ∙ e;
-        right = subst (λ (p : Phase). Right (isRam es) (m .private) (m .shared) p (requestOf (withRequest p₀ q s)) t (o .halted) (o .listed) (o .last)) (sym c)
-            (subst (λ (q : Request). Right (isRam es) (m .private) (m .shared) p q t (o .halted) (o .listed) (o .last)) (sym b) r);
+        right = subst (λ (p : Phase). Right (isRam es) (m .private) (m .shared) p (requestOf (withRequest p₀ q s)) t (o .halted) (o .listed) (sharedIn o)) (sym c)
+            (subst (λ (q : Request). Right (isRam es) (m .private) (m .shared) p q t (o .halted) (o .listed) (sharedIn o)) (sym b) r);
         halts = h ∙ sym (halted-status p) ∙ ap (λ (k : ℕ). eqb k 20) (sym (request-status p q s));
         waits = a ∙ ap (λ (k : ℕ). eqb k 19) (sym (request-status p q s));
         names = subst (λ (x : Phase). Names x (requestOf (withRequest p q s)) t (o .op)) (sym c) (subst (λ (x : Request). Names p x t (o .op)) (sym b) n);
@@ -276,7 +277,7 @@ module _ (es : List MemoryRangeWithNode) (m : Maps) (s t tables : List ℕ) (o :
       }
 
   -- of a change other than of visibility
-  pub stands-change : (g : Stage) (q : Change) → entriesIn s ≡ es → ((p : Phase) (q : Request) → opened p ≡ false → Right (isRam es) (m .private) (m .shared) p q t (o .halted) (o .listed) (o .last))
+  pub stands-change : (g : Stage) (q : Change) → entriesIn s ≡ es → ((p : Phase) (q : Request) → opened p ≡ false → Right (isRam es) (m .private) (m .shared) p q t (o .halted) (o .listed) (sharedIn o))
       → o .halted ≡ stops g → isWaiting o ≡ goes g → isQuiet (o .op) ≡ true → Stands es (world m (withChange g q s) t tables) o
   stands-change g q e r h a n =
       record {

@@ -2,16 +2,18 @@
 -- changes anything. Under way and taken are told from the calls and what they gave.
 use mathlib.Core.Path.{_≡_}
 use mathlib.Core.Bool.{Bool, true, false, cond, not, _||_}
-use mathlib.Core.List.{List, [], _∷_, _++_, map}
+use mathlib.Core.List.{List, [], _∷_, map}
 use Prim.Native.Nat.{ℕ, _+_, _≤_, _<_}
 use lib.ListN.{length, replicate}
+use Rattle.protector_state.specs.declared.Reply.{Reply}
 use Rattle.protector.specs.World.{World}
-use Rattle.visibility_claims.specs.Whole.{Given, Succeeds, Fails}
+use Rattle.visibility_claims.specs.Whole.{Given, Succeeds}
 use Rattle.visibility_claims.specs.Calls.{answerOf, takenBy}
 use Rattle.visibility_claims.specs.Ends.{leftIn, underWay, unrefused}
 use Rattle.history.specs.Seen.{Seen, isWaiting, isTaken}
-use Rattle.history.specs.History as at
-use Rattle.history.specs.History.{History, DoneCall}
+use Rattle.history.specs.Call.{Do, Read, Answer}
+use Rattle.history.specs.Made.{Made}
+use Rattle.history.specs.History.{History, none, call, stray, callsIn}
 
 -- what is told of a list of calls here: of an answer what was given, and whether it is seen to be taken; of any other call that it came
 pub data Course (w : World) (a : Seen) : World → Seen → Type 0 where
@@ -20,41 +22,13 @@ pub data Course (w : World) (a : Seen) : World → Seen → Type 0 where
   other : {u v : World} {o p : Seen} → Course w a u o → Course w a v p
 
 unfoldable pub courseOf : {w v : World} {a o : Seen} → History w a v o → Course w a v o
-courseOf at.none = start
-courseOf (at.done {u} {v} {o} h c) = answer (courseOf h) Succeeds (isTaken o (c .result))
-courseOf (at.failed {u} {v} {o} h c) = answer (courseOf h) (Fails (c .args .1 .1 .1 .1 .1 .1 .1 .1 .1 .0) (c .args .1 .1 .1 .1 .1 .1 .1 .1 .1 .1 .0)) (isTaken o (c .result))
-courseOf (at.strayDone {u} {x} {y} {o} h c s) = answer (courseOf h) Succeeds (isTaken o (c .result))
-courseOf (at.strayFailed {u} {x} {y} {o} h c s) = answer (courseOf h) (Fails (c .args .1 .1 .1 .1 .1 .1 .1 .1 .1 .0) (c .args .1 .1 .1 .1 .1 .1 .1 .1 .1 .1 .0)) (isTaken o (c .result))
-courseOf (at.visibility h c) = other (courseOf h)
-courseOf (at.protection h c) = other (courseOf h)
-courseOf (at.default h c) = other (courseOf h)
-courseOf (at.register h c) = other (courseOf h)
-courseOf (at.unregister h c) = other (courseOf h)
-courseOf (at.lock h c) = other (courseOf h)
-courseOf (at.unlock h c) = other (courseOf h)
-courseOf (at.enable h c) = other (courseOf h)
-courseOf (at.tellEnabled h c) = other (courseOf h)
-courseOf (at.tellDefault h c) = other (courseOf h)
-courseOf (at.isOverlay h c) = other (courseOf h)
-courseOf (at.query h c) = other (courseOf h)
-courseOf (at.fault h c) = other (courseOf h)
-courseOf (at.lower h c) = other (courseOf h)
-courseOf (at.access h c) = other (courseOf h)
-courseOf (at.strayVisibility h c s) = other (courseOf h)
-courseOf (at.strayProtection h c s) = other (courseOf h)
-courseOf (at.strayDefault h c s) = other (courseOf h)
-courseOf (at.strayRegister h c s) = other (courseOf h)
-courseOf (at.strayUnregister h c s) = other (courseOf h)
-courseOf (at.strayLock h c s) = other (courseOf h)
-courseOf (at.strayUnlock h c s) = other (courseOf h)
-courseOf (at.strayEnable h c s) = other (courseOf h)
-courseOf (at.strayTellEnabled h c) = other (courseOf h)
-courseOf (at.strayTellDefault h c) = other (courseOf h)
-courseOf (at.strayIsOverlay h c) = other (courseOf h)
-courseOf (at.strayQuery h c) = other (courseOf h)
-courseOf (at.strayFault h c) = other (courseOf h)
-courseOf (at.strayLower h c) = other (courseOf h)
-courseOf (at.strayAccess h c) = other (courseOf h)
+courseOf none = start
+courseOf (call h (Do a) r m) = other (courseOf h)
+courseOf (call h (Read q) r m) = other (courseOf h)
+courseOf (call {u} {v} {o} h (Answer g) r m) = answer (courseOf h) g (isTaken o r)
+courseOf (stray h (Do a) r m s) = other (courseOf h)
+courseOf (stray h (Read q) r m s) = other (courseOf h)
+courseOf (stray {u} {x} {y} {o} h (Answer g) r m s) = answer (courseOf h) g (isTaken o r)
 
 -- how many answers were taken
 unfoldable pub takenIn : {w v : World} {a o : Seen} → Course w a v o → ℕ
@@ -83,22 +57,13 @@ Meanwhile (other {u} {v} {o} h) = Meanwhile h × (isWaiting o ≡ true)
 
 -- ---- lists of answers alone
 
-pub data Event : Type 0 where
-  Answer : Given → Event
-  Other : Event
-
-unfoldable pub events : {w v : World} {a o : Seen} → Course w a v o → List Event
-events start = []
-events (answer h g b) = events h ++ (Answer g ∷ [])
-events (other h) = events h ++ (Other ∷ [])
-
 -- a list of calls from v, where o was seen: these answers in turn and no other call; if as many came as the number says, those refused while the request was
 -- under way not counted, nothing is under way
 pub record Answers (v : World) (o : Seen) (gs : List Given) : Type 0 where
   pub world : World
   pub seen : Seen
   pub calls : History v o world seen
-  pub alone : events (courseOf calls) ≡ map Answer gs
+  pub alone : callsIn calls ≡ map Answer gs
   pub enough : leftIn v ≤ heardIn (courseOf calls) → isWaiting seen ≡ false
 
 -- one at whose end nothing is under way
@@ -138,7 +103,7 @@ pub record RequestEnds (v : World) (o : Seen) : Type 0 where
   pub ends : {x : World} {p : Seen} (h : History v o x p) → Meanwhile (courseOf h) → leftIn v ≤ heardIn (courseOf h) → isWaiting p ≡ false
   pub heard : (n : ℕ) → Heard v o n
   -- while it is under way done is taken
-  pub done-taken : {x : World} (c : DoneCall v x) → isWaiting o ≡ true → isTaken o (c .result) ≡ true
+  pub done-taken : {x : World} {r : Reply} → Made (Answer Succeeds) v x r → isWaiting o ≡ true → isTaken o r ≡ true
   -- any answers can be given; and any so many, with done after each that isn't taken, end the request, as do so many of which none is refused
   pub given : (gs : List Given) → Answers v o gs
   pub insisted : (gs : List Given) → leftIn v ≤ length gs → Ends v o (insisting v gs)

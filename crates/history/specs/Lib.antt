@@ -1,6 +1,9 @@
 pub mod Seen
 pub mod Marks
+pub mod Call
+pub mod Made
 pub mod History
-pub mod Arguments
 pub mod Answered
+pub mod Callable
 pub mod Ends
+pub mod Requests

@@ -14,7 +14,7 @@ use lib.ListN.{length}
 use Rattle.protector_state.specs.State.{stateLen, ramOf, entriesIn}
 use Rattle.protector_state.specs.Reply.{finished}
 use Rattle.protector.specs.World.{World, fits, statusIn}
-use Rattle.history.specs.Seen.{Seen, Age, Never, Returned, Validated, Zeroed}
+use Rattle.history.specs.Seen.{Seen, Private, Shared, tookAs, Age, Never, Returned, Validated, Zeroed}
 
 -- a page's mark in a map
 abbrev pub Has : List ℕ → ℕ → Type 0
@@ -29,10 +29,10 @@ isSettled Zeroed = true
 
 pub record Marked (es : List MemoryRangeWithNode) (m : Maps) (o : Seen) : Type 0 where
   -- a RAM page not listed by the visibility change under way, nor by the one that halted
-  pub exact : (z : ℕ) → isRam es z ≡ true → among (o .listed) z ≡ false → (o .last z ≡ false → Has (m .private) z) × (o .last z ≡ true → Has (m .shared) z)
+  pub exact : (z : ℕ) → isRam es z ≡ true → among (o .listed) z ≡ false → (o .last z ≡ Private → Has (m .private) z) × (o .last z ≡ Shared → Has (m .shared) z)
   -- any page: a mark says what was last taken
-  pub private-right : (z : ℕ) → Has (m .private) z → o .last z ≡ false
-  pub shared-right : (z : ℕ) → Has (m .shared) z → o .last z ≡ true
+  pub private-right : (z : ℕ) → Has (m .private) z → o .last z ≡ Private
+  pub shared-right : (z : ℕ) → Has (m .shared) z → o .last z ≡ Shared
   pub never-both : (z : ℕ) → Has (m .private) z → Has (m .shared) z → ⊥
   pub private-ram : (z : ℕ) → Has (m .private) z → isRam es z ≡ true
   pub shared-ram : (z : ℕ) → Has (m .shared) z → isRam es z ≡ true
@@ -45,7 +45,7 @@ pub record Holds (es : List MemoryRangeWithNode) (i : IsolationType) (m : Maps) 
 -- ---- a list may begin where nothing is under way and each RAM page has one mark, as after a build: what was last taken is then read off the marks
 
 abbrev pub readOff : Maps → Seen
-readOff m = record { op = finished 0 0 0 0; table = []; halted = false; listed = []; last = λ z. bitAt 8 (m .shared) z; age = λ z. Never }
+readOff m = record { op = finished 0 0 0 0; table = []; halted = false; listed = []; last = λ z. tookAs (bitAt 8 (m .shared) z); age = λ z. Never }
 
 pub record Settled (w : World) : Type 0 where
   pub layout : refusalOf (ramOf (w .state)) ≡ 0

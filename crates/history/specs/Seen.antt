@@ -11,12 +11,46 @@ use Rattle.protector_state.specs.declared.Reply.{Reply}
 use Rattle.protector_state.specs.Reply.{finished}
 use Rattle.visibility_claims.specs.Whole.{Given, Succeeds, Fails}
 
+-- ---- the numbers that are looked at: of operations, as they cross; and of 01's refusals
+
+abbrev pub noOperation : ℕ
+noOperation = 0
+
+abbrev pub modifyOperation : ℕ
+modifyOperation = 6
+
+abbrev pub acceptOperation : ℕ
+acceptOperation = 7
+
+abbrev pub zeroOperation : ℕ
+zeroOperation = 8
+
+-- a lent buffer of wrong length; halted; an answer with nothing asked, or a failure of what cannot fail
+abbrev pub wrongLength : ℕ
+wrongLength = 4
+
+abbrev pub haltedNumber : ℕ
+haltedNumber = 20
+
+abbrev pub nothingAsked : ℕ
+nothingAsked = 21
+
+-- ---- what is seen
+
 -- of a page: never returned, or since its return nothing, validated, validated and then zeroed
 pub data Age : Type 0 where
   Never : Age
   Returned : Age
   Validated : Age
   Zeroed : Age
+
+-- how the hypervisor took a page
+pub data Took : Type 0 where
+  Private : Took
+  Shared : Took
+
+abbrev pub tookAs : Bool → Took
+tookAs b = cond b Shared Private
 
 pub record Seen : Type 0 where
   -- the reply of the last call or taken answer: the operation outstanding, or none where it asks for none
@@ -27,24 +61,24 @@ pub record Seen : Type 0 where
   pub halted : Bool
   -- the pages listed by the visibility change under way, or by the one that halted
   pub listed : List ℕ
-  -- what the hypervisor last took of a page: true as shared
-  pub last : ℕ → Bool
+  -- as what the hypervisor last took a page
+  pub last : ℕ → Took
   -- how far a page is since it was last returned
   pub age : ℕ → Age
 
 -- at a build
 abbrev pub unseen : Seen
-unseen = record { op = finished 0 0 0 0; table = []; halted = false; listed = []; last = λ z. false; age = λ z. Never }
+unseen = record { op = finished 0 0 0 0; table = []; halted = false; listed = []; last = λ z. Private; age = λ z. Never }
 
 abbrev pub asks : Reply → Bool
-asks r = not (eqb (r .operation) 0)
+asks r = not (eqb (r .operation) noOperation)
 
 -- a call is under way: its operation is outstanding
 abbrev pub isWaiting : Seen → Bool
 isWaiting o = asks (o .op)
 
 abbrev pub isModify : Reply → Bool
-isModify r = eqb (r .operation) 6
+isModify r = eqb (r .operation) modifyOperation
 
 -- how many of n pages an answer to Modify processed
 abbrev pub processed : Given → ℕ → ℕ
@@ -52,8 +86,8 @@ processed Succeeds n = n
 processed (Fails code k) n = min k n
 
 -- what Modify took, once a taken answer came to it
-abbrev pub lastAfter : Given → Seen → ℕ → Bool
-lastAfter g o z = cond (isModify (o .op) && among (take (processed g (o .op .pages)) (o .table)) z) (eqb (o .op .shared) 1) (o .last z)
+abbrev pub lastAfter : Given → Seen → ℕ → Took
+lastAfter g o z = cond (isModify (o .op) && among (take (processed g (o .op .pages)) (o .table)) z) (tookAs (eqb (o .op .shared) 1)) (o .last z)
 
 -- an Accept or a Zero that is done takes the pages of its run one step on, in that order
 abbrev pub accepted : Age → Age
@@ -78,21 +112,21 @@ inRun r z = between (r .first) (r .first + r .pages) z
 abbrev pub ageAfter : Given → Seen → ℕ → Age
 ageAfter g o z =
     cond (isModify (o .op) && among (take (processed g (o .op .pages)) (o .table)) z) (cond (eqb (o .op .shared) 1) Never Returned)
-    (cond (isDone g && (eqb (o .op .operation) 7 && inRun (o .op) z)) (accepted (o .age z))
-    (cond (isDone g && (eqb (o .op .operation) 8 && inRun (o .op) z)) (zeroed (o .age z))
+    (cond (isDone g && (eqb (o .op .operation) acceptOperation && inRun (o .op) z)) (accepted (o .age z))
+    (cond (isDone g && (eqb (o .op .operation) zeroOperation && inRun (o .op) z)) (zeroed (o .age z))
     (o .age z)))
 
--- an answer that came when nothing was halted, and gave neither 4 nor 21
+-- an answer that came when nothing was halted, and was refused neither for a length (4) nor as not asked for (21)
 abbrev pub isTaken : Seen → Reply → Bool
-isTaken o r = not (o .halted) && (not (eqb (r .number) 4) && not (eqb (r .number) 21))
+isTaken o r = not (o .halted) && (not (eqb (r .number) wrongLength) && not (eqb (r .number) nothingAsked))
 
 -- a taken answer that asks on, or gives 20, leaves the call under way or halted; any other ends it
 abbrev pub goesOn : Reply → Bool
-goesOn r = asks r || eqb (r .number) 20
+goesOn r = asks r || eqb (r .number) haltedNumber
 
 abbrev pub seesTaken : Given → Reply → List ℕ → Seen → Seen
 seesTaken g r p o =
-    record { op = r; table = p; halted = eqb (r .number) 20; listed = cond (goesOn r) (o .listed) []; last = lastAfter g o; age = ageAfter g o }
+    record { op = r; table = p; halted = eqb (r .number) haltedNumber; listed = cond (goesOn r) (o .listed) []; last = lastAfter g o; age = ageAfter g o }
 
 -- an answer g that gave r and left the pages run p
 abbrev pub seesAnswer : Given → Reply → List ℕ → Seen → Seen

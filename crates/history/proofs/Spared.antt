@@ -1,0 +1,139 @@
+-- What each call that may write spares of what it is lent. Assumes nothing.
+use Prim.Native.Nat.{ℕ, _+_, _-_}
+use mathlib.Core.Path.{_≡_, refl, ap}
+use mathlib.Core.List.{List}
+use mathlib.Core.Bool.{Bool, true, false, cond}
+use lib.Dec.{eqb, ltb}
+use lib.ListN.{length}
+use Rattle.permissions.specs.declared.GuestVtl.{GuestVtl}
+use Rattle.permissions.specs.Flags.{vtlOf, boolOf, bitsOf}
+use Rattle.pages.specs.Pages.{pagesOf}
+use Rattle.overlays.specs.Overlays.{isOverlay}
+use Rattle.changes.specs.declared.Entry.{Entry}
+use Rattle.changes.specs.declared.Entry.the-variants.{Keep}
+use Rattle.changes.specs.declared.Change.{Change}
+use Rattle.changes.specs.declared.ChangeStep.{ChangeStep}
+use Rattle.changes.specs.Changes.{protect, ask, wait, protectPages, changeOf, startNew, startOld}
+use Rattle.protector_state.specs.State.{settingsOf}
+use Rattle.protector.specs.World.{World, world, Outcome, overlaysOf, fits, entered}
+use Rattle.protector.specs.Calls.{refusedBy, carriedOut, carriedChange, visibilityRefusal, visibilityTaken, visibilityOf}
+use Rattle.vtl_protections.specs.Calls.{protectionRefusal, allListed, protectionStep, protectionTaken, protectionOf, defaultRefusal, storedDefault, stored, barred, renewedIn, defaultStarted, defaultTaken, defaultOf}
+use Rattle.overlay_tests.specs.Refusals.{registerRefusal, unregisterRefusal}
+use Rattle.overlay_pages.specs.Calls.{currentIn, entryIn, counting, registerTaken, registerOf, unregisterTaken, unregisterOf}
+use Rattle.history.specs.Made.{butTables, butMarksTables, butMarksPages}
+
+-- a visibility change spares the tables
+visibility-tables : (w : World) (vtl share : ℕ) (l : List ℕ) → visibilityOf w vtl share l .world .tables ≡ w .tables
+unfolding visibilityOf visibilityTaken carriedOut
+visibility-tables w vtl share l = go (eqb n 0)
+  where
+    n : ℕ
+    n = visibilityRefusal (w .state) (fits w) (w .tables) vtl share l
+
+    go : (b : Bool) → cond b (visibilityTaken w (vtlOf vtl) (boolOf share) l) (refusedBy w n) .world .tables ≡ w .tables
+    go true = refl
+    go false = refl
+
+pub record Spares (w : World) (X : Outcome) : Type 0 where
+  pub private : X .world .maps .private ≡ w .maps .private
+  pub shared : X .world .maps .shared ≡ w .maps .shared
+
+choose : (w : World) (b : Bool) (X Y : Outcome) → Spares w X → Spares w Y → Spares w (cond b X Y)
+choose w true X Y f g = f
+choose w false X Y f g = g
+
+spared : (w : World) (s tables t : List ℕ) (x : ChangeStep) → Spares w (carriedChange (world (w .maps) s (w .pages) tables) t x)
+unfolding carriedChange
+spared w s tables t x = record { private = refl; shared = refl }
+
+kept-by : (b : Bool) (X Y : Outcome) (f : World → List ℕ) (l : List ℕ) → f (X .world) ≡ l → f (Y .world) ≡ l → f (cond b X Y .world) ≡ l
+kept-by true X Y f l a c = a
+kept-by false X Y f l a c = c
+
+refused : (w : World) (n : ℕ) → Spares w (refusedBy w n)
+refused w n = record { private = refl; shared = refl }
+
+enters-none : (tracked : Bool) (q : Change) (t : List ℕ) (a : ℕ) → protectPages tracked q t a .entry ≡ Keep
+unfolding protectPages protect wait ask
+enters-none tracked q t a = go (ltb a (q .n)) _ _ refl refl
+  where
+    go : (b : Bool) (x y : ChangeStep) → x .entry ≡ Keep → y .entry ≡ Keep → cond b x y .entry ≡ Keep
+    go true x y e f = e
+    go false x y e f = f
+
+module _ (w : World) where
+  protection-spares : (vtl flags : ℕ) (l : List ℕ) → Spares w (protectionOf w vtl flags l)
+  unfolding protectionOf protectionTaken
+  protection-spares vtl flags l = choose w (eqb (protectionRefusal (w .state) (fits w) (w .maps .shared) (w .tables) vtl flags l) 0) _ _ (spared w (w .state) (w .tables) _ _) (refused w _)
+
+  protection-tables : (vtl flags : ℕ) (l : List ℕ) → protectionOf w vtl flags l .world .tables ≡ w .tables
+  unfolding protectionOf protectionTaken carriedChange entered
+  protection-tables vtl flags l =
+      let t : List ℕ = allListed l (w .pages) in
+      kept-by (eqb (protectionRefusal (w .state) (fits w) (w .maps .shared) (w .tables) vtl flags l) 0) (protectionTaken w (vtlOf vtl) flags l) _ (λ (w : World). w .tables) (w .tables)
+      (ap (λ (e : Entry). entered e (protectionStep (w .state) t (vtlOf vtl) flags (length (pagesOf l)) .change) (w .tables)) (enters-none (settingsOf (w .state) .tracked) (changeOf (vtlOf vtl) flags (length (pagesOf l))) t 0)) refl
+
+  default-spares : (vtl flags : ℕ) → Spares w (defaultOf w vtl flags)
+  unfolding defaultOf defaultTaken defaultStarted
+  default-spares vtl flags =
+      let v : GuestVtl = vtlOf vtl in
+      choose w (eqb (defaultRefusal (w .state) (fits w) vtl flags) 0) _ _
+      (choose w (barred (w .maps .private) (storedDefault (w .state) v flags) (w .tables) v) _ _ (record { private = refl; shared = refl }) (spared w (storedDefault (w .state) v flags) _ (w .pages) _)) (refused w _)
+
+  default-pages : (vtl flags : ℕ) → defaultOf w vtl flags .world .pages ≡ w .pages
+  unfolding defaultOf defaultTaken defaultStarted carriedChange
+  default-pages vtl flags =
+      let v : GuestVtl = vtlOf vtl in
+      kept-by (eqb (defaultRefusal (w .state) (fits w) vtl flags) 0) (defaultTaken (stored w v flags) v flags) _ (λ (w : World). w .pages) (w .pages)
+      (kept-by (barred (w .maps .private) (storedDefault (w .state) v flags) (w .tables) v) _ (defaultStarted (renewedIn (stored w v flags) v flags) v flags) (λ (w : World). w .pages) (w .pages) refl refl) refl
+
+  unregister-spares : (vtl p : ℕ) → Spares w (unregisterOf w vtl p)
+  unfolding unregisterOf unregisterTaken
+  unregister-spares vtl p =
+      choose w (eqb (unregisterRefusal (w .state) (fits w) (w .tables) vtl p) 0) _ _
+      (choose w (ltb 1 (entryIn (w .tables) (vtlOf vtl) p .«ref_count»)) _ _ (record { private = refl; shared = refl }) (spared w (w .state) (w .tables) (w .pages) _)) (refused w _)
+
+  unregister-pages : (vtl p : ℕ) → unregisterOf w vtl p .world .pages ≡ w .pages
+  unfolding unregisterOf unregisterTaken carriedChange
+  unregister-pages vtl p =
+      let v : GuestVtl = vtlOf vtl in
+      kept-by (eqb (unregisterRefusal (w .state) (fits w) (w .tables) vtl p) 0) (unregisterTaken w v p) _ (λ (w : World). w .pages) (w .pages)
+      (kept-by (ltb 1 (entryIn (w .tables) v p .«ref_count»)) (counting w v p (entryIn (w .tables) v p .«ref_count» - 1))
+      (carriedChange w (w .pages) (startOld (settingsOf (w .state) .tracked) v p (entryIn (w .tables) v p .«previous_permissions») (entryIn (w .tables) v p .«gpn_source»))) (λ (w : World). w .pages) (w .pages) refl refl) refl
+
+  register-spares : (vtl p source checked new : ℕ) → Spares w (registerOf w vtl p source checked new)
+  unfolding registerOf registerTaken
+  register-spares vtl p source checked new =
+      choose w (eqb (registerRefusal (w .state) (fits w) (w .maps .shared) (w .tables) (currentIn w (vtlOf vtl) p source) vtl p source checked new) 0) _ _
+      (choose w (isOverlay (overlaysOf (w .tables) (vtlOf vtl)) p) _ _ (record { private = refl; shared = refl }) (spared w (w .state) (w .tables) (w .pages) _)) (refused w _)
+
+  register-pages : (vtl p source checked new : ℕ) → registerOf w vtl p source checked new .world .pages ≡ w .pages
+  unfolding registerOf registerTaken carriedChange
+  register-pages vtl p source checked new =
+      let v : GuestVtl = vtlOf vtl in
+      kept-by (eqb (registerRefusal (w .state) (fits w) (w .maps .shared) (w .tables) (currentIn w v p source) vtl p source checked new) 0) (registerTaken w v p source new) _ (λ (w : World). w .pages) (w .pages)
+      (kept-by (isOverlay (overlaysOf (w .tables) v) p) (counting w v p (entryIn (w .tables) v p .«ref_count» + 1))
+      (carriedChange w (w .pages) (startNew (settingsOf (w .state) .tracked) v p source (bitsOf (currentIn w v p source)) new)) (λ (w : World). w .pages) (w .pages) refl refl) refl
+
+-- ---- so what is lent for reading alone is what it leaves there
+
+same : (v : World) (p s g t : List ℕ) → v .maps .private ≡ p → v .maps .shared ≡ s → v .pages ≡ g → v .tables ≡ t
+    → world (record { private = p; shared = s; permissions = v .maps .permissions }) (v .state) g t ≡ v
+same v p s g t a b c d = rw (← a, ← b, ← c, ← d)
+
+module _ (w : World) where
+  pub visibility-same : (vtl share : ℕ) (l : List ℕ) → let v = visibilityOf w vtl share l .world in butTables w v ≡ v
+  visibility-same vtl share l = same (visibilityOf w vtl share l .world) _ _ _ _ refl refl refl (visibility-tables w vtl share l)
+
+  pub protection-same : (vtl flags : ℕ) (l : List ℕ) → let v = protectionOf w vtl flags l .world in butMarksTables w v ≡ v
+  protection-same vtl flags l = let s = protection-spares w vtl flags l in same (protectionOf w vtl flags l .world) _ _ _ _ (s .private) (s .shared) refl (protection-tables w vtl flags l)
+
+  pub default-same : (vtl flags : ℕ) → let v = defaultOf w vtl flags .world in butMarksPages w v ≡ v
+  default-same vtl flags = let s = default-spares w vtl flags in same (defaultOf w vtl flags .world) _ _ _ _ (s .private) (s .shared) (default-pages w vtl flags) refl
+
+  pub register-same : (vtl p source checked new : ℕ) → let v = registerOf w vtl p source checked new .world in butMarksPages w v ≡ v
+  register-same vtl p source checked new =
+      let s = register-spares w vtl p source checked new in same (registerOf w vtl p source checked new .world) _ _ _ _ (s .private) (s .shared) (register-pages w vtl p source checked new) refl
+
+  pub unregister-same : (vtl p : ℕ) → let v = unregisterOf w vtl p .world in butMarksPages w v ≡ v
+  unregister-same vtl p = let s = unregister-spares w vtl p in same (unregisterOf w vtl p .world) _ _ _ _ (s .private) (s .shared) (unregister-pages w vtl p) refl

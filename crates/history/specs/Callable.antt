@@ -1,0 +1,21 @@
+-- That no list of calls is cut short for want of a call: with any arguments every entry has a call, whatever it is lent, as it is defined; and something of another
+-- length may be lent, whatever was last left.
+use mathlib.Core.List.{List, []}
+use Prim.Native.Nat.{ℕ}
+use Rattle.protector.specs.World.{World, world}
+use Rattle.protector.specs.Calls.{buildOf}
+use Rattle.history.specs.Call.{Call, gives}
+use Rattle.history.specs.Made.{Made, Built}
+use Rattle.history.specs.History.{Stray, StrayLock}
+
+-- every call, of a world of any lengths
+pub record Callable (w : World) : Type 0 where
+  pub made : (c : Call) → Made c w (gives c w .world) (gives c w .answer)
+  pub built : (ram : List ℕ) (isolation tracked release : ℕ) → let X = buildOf w ram isolation tracked release in Built ram isolation tracked release w (X .world) (X .reply)
+
+-- something of another length: no state block at all; or, beside the state block as it was left, no pages run, or no tables
+pub record Strays (u : World) : Type 0 where
+  pub no-block : Stray u (world (u .maps) [] (u .pages) (u .tables))
+  pub no-pages : Stray u (world (u .maps) (u .state) [] (u .tables))
+  pub no-lock-block : StrayLock u (world (u .maps) [] (u .pages) (u .tables))
+  pub no-lock-tables : StrayLock u (world (u .maps) (u .state) (u .pages) [])

@@ -1,0 +1,150 @@
+-- A call made: the entry's own contract, as the check reads it off the source, holds of its arguments, its result and the buffers as it returns. The call, what
+-- it is lent and what it leaves are read off these arguments here, in one place for each entry.
+use mathlib.Core.List.{List}
+use Prim.Native.Nat.{ℕ}
+use contract.Lifetimes.{Lfts}
+use borrow.Fn.Kinds.{Dens, endedOf}
+use denote.Triple.Clauses.{AtExit}
+use denote.Ref.{RefT, now}
+use Rattle.mapping.specs.Maps.{Maps, Permissions, maps}
+use Rattle.protector_state.specs.declared.Reply.{Reply}
+use Rattle.protector.specs.World.{World, world}
+use Rattle.queries.specs.declared.Value.{Value}
+use Rattle.queries.specs.Queries as queries
+use Rattle.visibility_claims.specs.Whole.{Succeeds, Fails}
+use Rattle.history.specs.Call.{Visibility, Protection, Default, Register, Unregister, Lock, Unlock, Enable, TellEnabled, TellDefault, IsOverlay, Query, Fault, Lower, Access, Call, Do, Read, Answer, Result}
+use Rattle.underhill_mem.proofs.protector_change_host_visibility.Reads as rVisibility
+use Rattle.underhill_mem.proofs.protector_change_host_visibility.Kinds as kVisibility
+use Rattle.underhill_mem.proofs.protector_answer_done.Reads as rDone
+use Rattle.underhill_mem.proofs.protector_answer_done.Kinds as kDone
+use Rattle.underhill_mem.proofs.protector_answer_failed.Reads as rFailed
+use Rattle.underhill_mem.proofs.protector_answer_failed.Kinds as kFailed
+use Rattle.vtl_protections.proofs.protector_change_vtl_protections.Reads as rProtection
+use Rattle.vtl_protections.proofs.protector_change_vtl_protections.Kinds as kProtection
+use Rattle.vtl_protections.proofs.protector_change_default_vtl_protections.Reads as rDefault
+use Rattle.vtl_protections.proofs.protector_change_default_vtl_protections.Kinds as kDefault
+use Rattle.overlay_pages.proofs.protector_register_overlay_page.Reads as rRegister
+use Rattle.overlay_pages.proofs.protector_register_overlay_page.Kinds as kRegister
+use Rattle.overlay_pages.proofs.protector_unregister_overlay_page.Reads as rUnregister
+use Rattle.overlay_pages.proofs.protector_unregister_overlay_page.Kinds as kUnregister
+use Rattle.locked_pages.proofs.protector_lock_gpns.Reads as rLock
+use Rattle.locked_pages.proofs.protector_lock_gpns.Kinds as kLock
+use Rattle.locked_pages.proofs.protector_unlock_gpns.Reads as rUnlock
+use Rattle.locked_pages.proofs.protector_unlock_gpns.Kinds as kUnlock
+use Rattle.vtl1_protections.proofs.protector_set_vtl1_protections_enabled.Reads as rEnable
+use Rattle.vtl1_protections.proofs.protector_set_vtl1_protections_enabled.Kinds as kEnable
+use Rattle.vtl1_protections.proofs.protector_vtl1_protections_enabled.Reads as rTellEnabled
+use Rattle.vtl1_protections.proofs.protector_vtl1_protections_enabled.Kinds as kTellEnabled
+use Rattle.vtl1_protections.proofs.protector_default_vtl0_protections.Reads as rTellDefault
+use Rattle.vtl1_protections.proofs.protector_default_vtl0_protections.Kinds as kTellDefault
+use Rattle.overlay_pages.proofs.protector_is_overlay_page.Reads as rIsOverlay
+use Rattle.overlay_pages.proofs.protector_is_overlay_page.Kinds as kIsOverlay
+use Rattle.underhill_mem.proofs.protector_query_host_visibility.Reads as rQuery
+use Rattle.underhill_mem.proofs.protector_query_host_visibility.Kinds as kQuery
+use Rattle.underhill_mem.proofs.protector_page_fault.Reads as rFault
+use Rattle.underhill_mem.proofs.protector_page_fault.Kinds as kFault
+use Rattle.underhill_mem.proofs.protector_query_lower_vtl_permissions.Reads as rLower
+use Rattle.underhill_mem.proofs.protector_query_lower_vtl_permissions.Kinds as kLower
+use Rattle.underhill_mem.proofs.protector_query_access_permission.Reads as rAccess
+use Rattle.underhill_mem.proofs.protector_query_access_permission.Kinds as kAccess
+use Rattle.underhill_mem.proofs.protector_build.Reads as rBuild
+use Rattle.underhill_mem.proofs.protector_build.Kinds as kBuild
+
+-- ---- the runs at the head of an entry's arguments: the six maps and the state block, then the pages run and the tables; X is what follows
+
+abbrev pub Run : Type 0
+Run = RefT (List ℕ)
+
+abbrev pub Seven : Type 0 → Type 0
+Seven X = Run × (Run × (Run × (Run × (Run × (Run × (Run × X))))))
+
+abbrev pub Nine : Type 0 → Type 0
+Nine X = Seven (Run × (Run × X))
+
+abbrev pub mapsOf : {X : Type 0} → Seven X → Maps
+mapsOf a = maps (now (a .0)) (now (a .1 .0)) (now (a .1 .1 .0)) (now (a .1 .1 .1 .0)) (now (a .1 .1 .1 .1 .0)) (now (a .1 .1 .1 .1 .1 .0))
+
+abbrev pub stateOf : {X : Type 0} → Seven X → List ℕ
+stateOf a = now (a .1 .1 .1 .1 .1 .1 .0)
+
+abbrev pub pastSeven : {X : Type 0} → Seven X → X
+pastSeven a = a .1 .1 .1 .1 .1 .1 .1
+
+abbrev pub worldOf : {X : Type 0} → Nine X → World
+worldOf a = world (mapsOf a) (stateOf a) (now (pastSeven a .0)) (now (pastSeven a .1 .0))
+
+abbrev pub past : {X : Type 0} → Nine X → X
+past a = pastSeven a .1 .1
+
+-- what is not lent may be anything: beside the seven; beside the state block; beside the state block and the tables; beside the state block and the shared map
+abbrev pub withSeven : {X : Type 0} (p t : List ℕ) → Seven X → World
+withSeven p t a = world (mapsOf a) (stateOf a) p t
+
+abbrev pub withState : {X : Type 0} (m : Maps) (p t : List ℕ) → Run × X → World
+withState m p t a = world m (now (a .0)) p t
+
+abbrev pub withTables : {X : Type 0} (m : Maps) (p : List ℕ) → Run × (Run × X) → World
+withTables m p a = world m (now (a .0)) p (now (a .1 .0))
+
+abbrev pub withShared : {X : Type 0} (m : List ℕ) (q : Permissions) (p t : List ℕ) → Run × (Run × X) → World
+withShared m q p t a = world (record { private = m; shared = now (a .1 .0); permissions = q }) (now (a .0)) p t
+
+-- what is lent for reading alone stays: the tables; the marks and the tables; the marks and the pages run
+abbrev pub butTables : World → World → World
+butTables w v = world (v .maps) (v .state) (v .pages) (w .tables)
+
+abbrev pub withMarks : Maps → Maps → Maps
+withMarks m n = record { private = m .private; shared = m .shared; permissions = n .permissions }
+
+abbrev pub butMarksTables : World → World → World
+butMarksTables w v = world (withMarks (w .maps) (v .maps)) (v .state) (v .pages) (w .tables)
+
+abbrev pub butMarksPages : World → World → World
+butMarksPages w v = world (withMarks (w .maps) (v .maps)) (v .state) (w .pages) (v .tables)
+
+-- ---- a call that was lent u, left v and answered r
+
+pub data Made : (c : Call) → World → World → Result c → Type 0 where
+  visibility : (κs : Lfts 10) (a : Dens κs kVisibility.ps) (r : Reply) (e : AtExit (endedOf 10 kVisibility.ps kVisibility.r) κs) → rVisibility.Learnt κs a r e
+      → Made (Do (Visibility (past a .0) (past a .1 .0) (now (past a .1 .1 .0)))) (worldOf a) (butTables (worldOf a) (worldOf e)) r
+  done : (κs : Lfts 9) (a : Dens κs kDone.ps) (r : Reply) (e : AtExit (endedOf 9 kDone.ps kDone.r) κs) → rDone.Learnt κs a r e
+      → Made (Answer Succeeds) (worldOf a) (worldOf e) r
+  failed : (κs : Lfts 9) (a : Dens κs kFailed.ps) (r : Reply) (e : AtExit (endedOf 9 kFailed.ps kFailed.r) κs) → rFailed.Learnt κs a r e
+      → Made (Answer (Fails (past a .0) (past a .1 .0))) (worldOf a) (worldOf e) r
+  protection : (κs : Lfts 10) (a : Dens κs kProtection.ps) (r : Reply) (e : AtExit (endedOf 10 kProtection.ps kProtection.r) κs) → rProtection.Learnt κs a r e
+      → Made (Do (Protection (past a .0) (past a .1 .0) (now (past a .1 .1 .0)))) (worldOf a) (butMarksTables (worldOf a) (worldOf e)) r
+  default : (κs : Lfts 9) (a : Dens κs kDefault.ps) (r : Reply) (e : AtExit (endedOf 9 kDefault.ps kDefault.r) κs) → rDefault.Learnt κs a r e
+      → Made (Do (Default (past a .0) (past a .1 .0))) (worldOf a) (butMarksPages (worldOf a) (worldOf e)) r
+  register : (κs : Lfts 9) (a : Dens κs kRegister.ps) (r : Reply) (e : AtExit (endedOf 9 kRegister.ps kRegister.r) κs) → rRegister.Learnt κs a r e
+      → Made (Do (Register (past a .0) (past a .1 .0) (past a .1 .1 .0) (past a .1 .1 .1 .0) (past a .1 .1 .1 .1 .0))) (worldOf a) (butMarksPages (worldOf a) (worldOf e)) r
+  unregister : (κs : Lfts 9) (a : Dens κs kUnregister.ps) (r : Reply) (e : AtExit (endedOf 9 kUnregister.ps kUnregister.r) κs) → rUnregister.Learnt κs a r e
+      → Made (Do (Unregister (past a .0) (past a .1 .0))) (worldOf a) (butMarksPages (worldOf a) (worldOf e)) r
+  -- the calls on locks are lent the state block and the tables alone, and the setter and the getters the state block
+  lock : (m : Maps) (p : List ℕ) (κs : Lfts 3) (a : Dens κs kLock.ps) (r : Reply) (e : AtExit (endedOf 3 kLock.ps kLock.r) κs) → rLock.Learnt κs a r e
+      → Made (Do (Lock (a .1 .1 .0) (now (a .1 .1 .1 .0)))) (withTables m p a) (world m (now (a .0)) p (now (e .1 .0))) r
+  unlock : (m : Maps) (p : List ℕ) (κs : Lfts 3) (a : Dens κs kUnlock.ps) (r : Reply) (e : AtExit (endedOf 3 kUnlock.ps kUnlock.r) κs) → rUnlock.Learnt κs a r e
+      → Made (Do (Unlock (a .1 .1 .0) (now (a .1 .1 .1 .0)))) (withTables m p a) (world m (now (a .0)) p (now (e .1 .0))) r
+  enable : (m : Maps) (p t : List ℕ) (κs : Lfts 1) (a : Dens κs kEnable.ps) (r : Reply) (e : AtExit (endedOf 1 kEnable.ps kEnable.r) κs) → rEnable.Learnt κs a r e
+      → Made (Do Enable) (withState m p t a) (withState m p t e) r
+  tellEnabled : (m : Maps) (p t : List ℕ) (κs : Lfts 1) (a : Dens κs kTellEnabled.ps) (r : Value) (e : AtExit (endedOf 1 kTellEnabled.ps kTellEnabled.r) κs) → rTellEnabled.Learnt κs a r e
+      → Made (Read TellEnabled) (withState m p t a) (withState m p t a) r
+  tellDefault : (m : Maps) (p t : List ℕ) (κs : Lfts 1) (a : Dens κs kTellDefault.ps) (r : Value) (e : AtExit (endedOf 1 kTellDefault.ps kTellDefault.r) κs) → rTellDefault.Learnt κs a r e
+      → Made (Read TellDefault) (withState m p t a) (withState m p t a) r
+  isOverlay : (m : Maps) (p : List ℕ) (κs : Lfts 2) (a : Dens κs kIsOverlay.ps) (r : Value) (e : AtExit (endedOf 2 kIsOverlay.ps kIsOverlay.r) κs) → rIsOverlay.Learnt κs a r e
+      → Made (Read (IsOverlay (a .1 .1 .0) (a .1 .1 .1 .0))) (withTables m p a) (withTables m p a) r
+  -- of the maps a query is lent the shared one, and its output as it is filled is of what it answers
+  query : (m : List ℕ) (q : Permissions) (p t : List ℕ) (κs : Lfts 4) (a : Dens κs kQuery.ps) (r : Reply) (e : AtExit (endedOf 4 kQuery.ps kQuery.r) κs) → rQuery.Learnt κs a r e
+      → Made (Read (Query (now (a .1 .1 .0)) (now (a .1 .1 .1 .0)))) (withShared m q p t a) (withShared m q p t a) (queries.query (now (e .1 .1 .1 .0)) r)
+  -- faults and the permission queries are lent neither the pages run nor the tables
+  fault : (p t : List ℕ) (κs : Lfts 7) (a : Dens κs kFault.ps) (r : Value) (e : AtExit (endedOf 7 kFault.ps kFault.r) κs) → rFault.Learnt κs a r e
+      → Made (Read (Fault (pastSeven a .0) (pastSeven a .1 .0) (pastSeven a .1 .1 .0) (pastSeven a .1 .1 .1 .0) (pastSeven a .1 .1 .1 .1 .0))) (withSeven p t a) (withSeven p t a) r
+  lower : (p t : List ℕ) (κs : Lfts 7) (a : Dens κs kLower.ps) (r : Value) (e : AtExit (endedOf 7 kLower.ps kLower.r) κs) → rLower.Learnt κs a r e
+      → Made (Read (Lower (pastSeven a .0) (pastSeven a .1 .0))) (withSeven p t a) (withSeven p t a) r
+  access : (p t : List ℕ) (κs : Lfts 7) (a : Dens κs kAccess.ps) (r : Value) (e : AtExit (endedOf 7 kAccess.ps kAccess.r) κs) → rAccess.Learnt κs a r e
+      → Made (Read (Access (pastSeven a .0))) (withSeven p t a) (withSeven p t a) r
+
+-- ---- a build, of a layout and settings, that was lent u, left v and replied r
+
+pub data Built : (ram : List ℕ) (isolation tracked release : ℕ) → World → World → Reply → Type 0 where
+  build : (κs : Lfts 10) (a : Dens κs kBuild.ps) (r : Reply) (e : AtExit (endedOf 10 kBuild.ps kBuild.r) κs) → rBuild.Learnt κs a r e
+      → Built (now (a .0)) (a .1 .0) (a .1 .1 .0) (a .1 .1 .1 .0) (worldOf (a .1 .1 .1 .1)) (worldOf (e .1 .1 .1 .1)) r
