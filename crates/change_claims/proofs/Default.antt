@@ -12,7 +12,8 @@ use borrow.Author.Tests.{eqb-true, eqb-false, eq-eqb}
 use Rattle.laws.specs.Bools.{lt-or-le}
 use Rattle.laws.specs.Refusal.{unless, passed}
 use Rattle.layout.specs.declared.MemoryRangeWithNode.{MemoryRangeWithNode}
-use Rattle.layout.specs.Layout.{entriesOf}
+use Rattle.layout.specs.Layout.{entriesOf, ordered, refusalOf}
+use Rattle.layout.proofs.Laws.{fit, ordered-cons}
 use Rattle.permissions.specs.declared.GuestVtl.{GuestVtl}
 use Rattle.permissions.specs.declared.GuestVtl.the-variants.{Vtl0, Vtl1}
 use Rattle.permissions.specs.Flags.{vtlOf, vtlNumber, flagsOf}
@@ -66,7 +67,15 @@ default-passed w vtl flags z =
         go true e h = h
         go false e h = absurd (eqb-false n 0 e h)
 
--- ---- words of 64 bits: RAM ends by page 2^52
+-- ---- RAM ends by page 2^52: in a layout that is not refused, and in any of words of 64 bits
+
+ordered-end : (es : List MemoryRangeWithNode) (from : ℕ) → ordered from es ≡ true → pageEnd es ≤ 2 ^ 52
+unfolding pageEnd
+ordered-end [] from h = omega arith
+ordered-end (e ∷ es) from h = let a = ordered-cons from e es h in omega (arith, a .0 .low, ordered-end es (e .end) (a .1))
+
+pub fit-end : (ws : List ℕ) → refusalOf ws ≡ 0 → pageEnd (entriesOf ws) ≤ 2 ^ 52
+fit-end ws h = ordered-end (entriesOf ws) 0 (fit ws h .in-order)
 
 taken-word : (n : ℕ) (l : List ℕ) (j : ℕ) → ((j : ℕ) → getD l j 0 < 2 ^ 64) → getD (take n l) j 0 < 2 ^ 64
 taken-word n l j h =
@@ -80,7 +89,7 @@ end-of (s ∷ []) h = omega arith
 end-of (s ∷ e ∷ []) h = omega arith
 end-of (s ∷ e ∷ n ∷ ws) h = let a : e < 2 ^ 64 = h 1 in omega (arith, a, end-of ws (λ j. h (suc (suc (suc j)))))
 
-ram-end : (s : List ℕ) → ((j : ℕ) → getD s j 0 < 2 ^ 64) → pageEnd (entriesIn s) ≤ 2 ^ 52
+pub ram-end : (s : List ℕ) → ((j : ℕ) → getD s j 0 < 2 ^ 64) → pageEnd (entriesIn s) ≤ 2 ^ 52
 ram-end s h = end-of (ramOf s) (λ j. taken-word (3 * getD s 31 0) (drop 32 s) j (λ j. subst (λ (x : ℕ). x < 2 ^ 64) (sym (getD-drop 32 s j 0)) (h (32 + j))))
 
 -- ---- a change that starts
@@ -124,13 +133,13 @@ module _ (w : World) (vtl flags : ℕ) (gs : List Given) where
         rw (eq-eqb (defaultRefusal (w .state) (fits w) vtl flags) 0 z, free)
         (default-started w₁ (vtlOf vtl) flags (length-set (w .state) (20 + vtlNumber (vtlOf vtl)) flags ∙ k .0) (stored-fits w (vtlOf vtl) flags ∙ k .1) gs)
 
-    -- and the number of its operations, where the state has words of 64 bits
-    pub default-is-whole : ((j : ℕ) → getD (w .state) j 0 < 2 ^ 64)
+    -- and the number of its operations, where RAM ends so
+    pub default-is-whole : pageEnd (entriesIn (w .state)) ≤ 2 ^ 52
         → Agrees (drop 14 (w₁ .state)) (w .pages) (settingsOf (w₁ .state) .isolation) (whole (changing .whole)) (changing .tables) (follow (defaultOf w vtl flags) gs)
     default-is-whole h =
         let es : List MemoryRangeWithNode = entriesIn (w₁ .state) in
         let v : GuestVtl = vtlOf vtl in
-        let end : pageEnd es ≤ 2 ^ 52 = subst (λ (es : List MemoryRangeWithNode). pageEnd es ≤ 2 ^ 52) (sym (entries-stored w v flags)) (ram-end (w .state) h) in
+        let end : pageEnd es ≤ 2 ^ 52 = subst (λ (es : List MemoryRangeWithNode). pageEnd es ≤ 2 ^ 52) (sym (entries-stored w v flags)) h in
         as-whole (drop 14 (w₁ .state)) (w .pages) (settingsOf (w₁ .state) .isolation) (changing .whole) (changing .tables) (follow (defaultOf w vtl flags) gs)
         (omega (
           arith,

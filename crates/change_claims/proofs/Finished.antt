@@ -30,7 +30,7 @@ use Rattle.change_claims.specs.Whole.{Change, closing, ended, runOperati
 use Rattle.change_claims.specs.Calls.{protectionWhole, renewedFor, defaultWhole, countWhole, newWhole, registerWhole, oldWhole, unregisterWhole, Agrees}
 use Rattle.change_claims.proofs.Counts.{run-operations}
 use Rattle.change_claims.proofs.Calls.{protection-is-whole, register-is-whole, unregister-is-whole}
-use Rattle.change_claims.proofs.Default.{default-is-whole}
+use Rattle.change_claims.proofs.Default.{ram-end, default-is-whole}
 
 -- ---- what ended with Ok asked for all
 
@@ -108,7 +108,7 @@ pub default-count : (w : World) (vtl flags : ℕ) (gs : List Given) → defaultR
 default-count w vtl flags gs z free h e =
     let w₁ : World = stored w (vtlOf vtl) flags in
     let rs : List PageRun = ramRuns (entriesIn (w₁ .state)) (overlaysOf (renewedFor w₁ (vtlOf vtl) flags) (vtlOf vtl)) (w .maps) in
-    told-ok _ _ _ (defaultWhole w₁ (vtlOf vtl) flags gs .whole) _ (follow (defaultOf w vtl flags) gs) _ (default-is-whole w vtl flags gs z free h) e
+    told-ok _ _ _ (defaultWhole w₁ (vtlOf vtl) flags gs .whole) _ (follow (defaultOf w vtl flags) gs) _ (default-is-whole w vtl flags gs z free (ram-end (w .state) h)) e
     (ap length (runs-asked _ (vtlOf vtl) (flagsOf flags) rs (w .maps) gs e) ∙ run-operations (vtlOf vtl) (flagsOf flags) rs)
 
 module _ (w : World) (vtl p source checked new : ℕ) (z : registerRefusal (w .state) (fits w) (w .maps .shared) (w .tables) (currentIn w (vtlOf vtl) p source) vtl p source checked new ≡ 0) (gs : List Given) where

@@ -28,7 +28,8 @@ use Rattle.history.specs.Marks.{Has, readOff, Settled}
 use Rattle.history.specs.Made.{Built}
 use Rattle.history.specs.History.{History}
 use Rattle.history.proofs.Bits.{clash}
-use Rattle.history.specs.Answered.{given, ClaimFrom, Claim}
+use Rattle.history.specs.Answered.{given}
+use Rattle.history.specs.Claim.{ClaimFrom, Claim}
 use Rattle.history.proofs.Calls.{status}
 use Rattle.history.proofs.Is.{build-is}
 use Rattle.history.proofs.Strays.{Whole}

@@ -1,28 +1,39 @@
--- Eight pages of RAM, on SNP with permissions tracked: a build that is taken, and a call that asks for an operation. Assumes nothing.
+-- Eight pages of RAM, on SNP with permissions tracked: a build that is taken, and calls that ask for an operation. Assumes nothing.
 use mathlib.Core.Path.{_≡_, refl}
 use mathlib.Core.Bool.{true}
 use mathlib.Core.List.{List, [], _∷_}
 use Prim.Native.Nat.{ℕ}
 use lib.ListN.{replicate}
 use Rattle.bitmap.specs.Pages.{word, writtenFrom}
+use Rattle.words.specs.Words.{closed, closedTo}
 use Rattle.layout.specs.Layout.{entriesOf, ordered, aligned, refusalOf, ramByte}
 use Rattle.mapping.specs.Maps.{maps}
 use Rattle.pages.specs.Pages.{numberOf, numberAt, numbersFrom, among, repeats}
+use Rattle.pages.specs.Runs.{neighbours, runAt}
 use Rattle.request.specs.Request.{pick, tableOf, stopAt, put}
 use Rattle.overlays.specs.Overlays.{placeFrom}
 use Rattle.locks.specs.Locks.{listsFrom, held}
+use Rattle.defaults.specs.Pieces.{span, nextOf}
+use Rattle.defaults.specs.Barred.{anyOf, anyIn}
+use Rattle.defaults.specs.Renewed.{renewedFrom}
 use Rattle.acceptor.specs.Steps.{operationOf, ask, cleared, startOf}
+use Rattle.changes.specs.Changes as changes
 use Rattle.protector_state.specs.State.{firstPhases, phaseOf}
 use Rattle.protector_state.specs.Reply.{askedOf, flatOf}
-use Rattle.protector.specs.World.{World, world, Outcome, applied}
-use Rattle.protector.specs.Calls.{carriedOut, firstRefusal, visibilityRefusal, visibilityTaken, visibilityOf, buildRefusal, buildTaken, buildOf}
-use Rattle.visibility_claims.specs.Table.{page}
+use Rattle.change_state.specs.State.{stageOf}
+use Rattle.protector.specs.World.{World, world, Outcome, applied, entered}
+use Rattle.protector.specs.Calls.{carriedOut, carriedChange, firstRefusal, visibilityRefusal, visibilityTaken, visibilityOf, answerRefusal, afterDone, answerDone, buildRefusal, buildTaken, buildOf}
+use Rattle.vtl_protections.specs.Calls.{protectionRefusal, protectionTaken, protectionOf, defaultRefusal, defaultStarted, defaultTaken, defaultOf}
+use Rattle.overlay_tests.specs.Refusals.{callRefusal, within, knownRefusal, guestRefusal, dmaRefusal, pageRefusal, registerRefusal, currentOf, unregisterRefusal}
+use Rattle.overlay_pages.specs.Calls.{registerTaken, registerOf, unregisterTaken, unregisterOf}
+use Rattle.visibility_claims.specs.Ends.{afterAll}
+use Rattle.visibility_claims.specs.Table.{page, dones}
 use Rattle.history.specs.Seen.{Seen, unseen, asks}
 use Rattle.history.specs.Marks.{Settled}
 use Rattle.history.specs.Call.{Call, Visibility, Do}
 use Rattle.history.specs.Made.{Made, Built}
 use Rattle.history.specs.History.{History}
-use Rattle.history.specs.Answered.{Claim}
+use Rattle.history.specs.Claim.{Claim}
 use Rattle.history.proofs.Claim.{built-settled, calls-hold}
 use Rattle.history.proofs.Exists.{any-call}
 
@@ -66,3 +77,15 @@ share8 = any-call built8 .made sharing8
 pub share8-asks : asks (asking8 .reply) ≡ true
 unfolding visibilityOf visibilityRefusal buildOf buildRefusal refusalOf entriesOf ordered aligned buildTaken word writtenFrom ramByte numberOf numberAt numbersFrom among repeats pick tableOf stopAt put placeFrom listsFrom held ask operationOf cleared startOf firstPhases phaseOf askedOf flatOf applied carriedOut firstRefusal visibilityTaken
 share8-asks = refl
+
+-- ---- so do the other calls that may ask: a protection change, a default change, and an overlay page registered and, with that over, unregistered
+
+pub record Others8 : Type 0 where
+  pub protects : asks (protectionOf built8 0 3 (page 3 []) .reply) ≡ true
+  pub defaults : asks (defaultOf built8 0 3 .reply) ≡ true
+  pub registers : asks (registerOf built8 0 5 0 15 1 .reply) ≡ true
+  pub unregisters : asks (unregisterOf (afterAll (registerOf built8 0 5 0 15 1 .world) (dones 4)) 0 5 .reply) ≡ true
+
+pub others8 : Others8
+unfolding buildOf buildRefusal refusalOf entriesOf ordered aligned buildTaken word writtenFrom ramByte numberOf numberAt numbersFrom neighbours runAt pick tableOf placeFrom listsFrom held span nextOf anyOf anyIn renewedFrom changes.protect changes.ask changes.wait changes.finish changes.protectPages changes.protectRam changes.doneOf changes.startNew changes.startOld firstPhases phaseOf flatOf askedOf stageOf entered carriedChange firstRefusal answerRefusal afterDone answerDone protectionRefusal protectionTaken protectionOf defaultRefusal defaultStarted defaultTaken defaultOf callRefusal within knownRefusal guestRefusal dmaRefusal pageRefusal registerRefusal currentOf registerTaken registerOf unregisterRefusal unregisterTaken unregisterOf closed closedTo afterAll
+others8 = record { protects = refl; defaults = refl; registers = refl; unregisters = refl }

@@ -22,6 +22,8 @@ pub mod Spared
 pub mod Exists
 pub mod Eight
 pub mod Ends
+pub mod Falls
+pub mod Follows
 pub mod Requests
 pub mod SeenTable
 pub mod Unasked

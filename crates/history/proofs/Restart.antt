@@ -1,7 +1,7 @@
 -- A list of calls may begin at any world where nothing is under way and each RAM page has one mark: THE CLAIM holds of it, what was last taken there being
 -- read off the marks. Assumes nothing.
 use native.Mathlib.Omega.{arith}
-use Prim.Native.Nat.{ℕ, _/_, _<_}
+use Prim.Native.Nat.{ℕ, _/_, _^_, _≤_, _<_}
 use mathlib.Core.Path.{_≡_, refl, sym, ap, _∙_}
 use mathlib.Core.List.{List, []}
 use mathlib.Core.Bool.{Bool, true, false, cond}
@@ -21,9 +21,11 @@ use Rattle.acceptor.specs.Steps.{isSnp}
 use Rattle.change_state.specs.State.{isChanging}
 use Rattle.protector_state.specs.State.{phaseIn, requestOf, settingsOf, ramOf, entriesIn}
 use Rattle.protector.specs.World.{World, statusOf}
-use Rattle.history.specs.Seen.{Seen}
+use Rattle.visibility_claims.specs.Ends.{pageEnd}
+use Rattle.change_claims.proofs.Default.{fit-end}
+use Rattle.history.specs.Seen.{Seen, isWaiting}
 use Rattle.history.specs.Marks.{Has, Marked, Holds, readOff, Settled}
-use Rattle.history.specs.Answered.{ClaimFrom}
+use Rattle.history.specs.Claim.{ClaimFrom}
 use Rattle.history.specs.History.{History}
 use Rattle.history.proofs.Bits.{clash}
 use Rattle.history.proofs.Right.{Right, Names, opened}
@@ -32,6 +34,7 @@ use Rattle.history.proofs.World.{Stands, right-same}
 use Rattle.history.proofs.Ages.{Aged}
 use Rattle.history.proofs.Aging.{Snp}
 use Rattle.history.proofs.Answered.{answered, composed}
+use Rattle.history.proofs.Follows.{asked-from}
 use Rattle.history.proofs.Histories.{Lent, lent-kept, history-keeps, stands-kept, Both, both-kept}
 
 -- what stands says of the marks
@@ -57,8 +60,9 @@ holds-from es i {w} {v} {a} {o} k f h =
       settled = λ e. history-keeps (Both es) (both-kept es) h (record { stands = k; ages = f e }) .ages .ages .settled;
     }
 
-claim-from : (es : List MemoryRangeWithNode) (i : IsolationType) {w v : World} {a o : Seen} → Stands es w a → (isSnp i ≡ true → Snp w a) → (h : History w a v o) → ClaimFrom es i h
-claim-from es i k f h = record { answered = answered h; composed = composed h; holds = holds-from es i k f h }
+claim-from : (es : List MemoryRangeWithNode) (i : IsolationType) {w v : World} {a o : Seen} → Stands es w a → pageEnd es ≤ 2 ^ 52 → isWaiting a ≡ false → (isSnp i ≡ true → Snp w a)
+    → (h : History w a v o) → ClaimFrom es i h
+claim-from es i k end free f h = record { answered = answered h; asked = asked-from es k end free h; composed = composed h; holds = holds-from es i k f h }
 
 -- ---- where nothing is under way
 
@@ -149,7 +153,7 @@ module _ (w : World) (k : Settled w) where
 
   -- THE CLAIM
   pub settled-hold : {v : World} {o : Seen} (h : History w (readOff (w .maps)) v o) → ClaimFrom es (settingsOf (w .state) .isolation) h
-  settled-hold h = claim-from es (settingsOf (w .state) .isolation) settled-stands settled-aged h
+  settled-hold h = claim-from es (settingsOf (w .state) .isolation) settled-stands (fit-end (ramOf (w .state)) (k .layout)) refl settled-aged h
 
   -- the invariant stands, and what was last left has its lengths
   pub settled-lent : {v : World} {o : Seen} → History w (readOff (w .maps)) v o → Lent es v o

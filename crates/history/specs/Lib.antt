@@ -4,6 +4,7 @@ pub mod Call
 pub mod Made
 pub mod History
 pub mod Answered
+pub mod Claim
 pub mod Callable
 pub mod Ends
 pub mod Requests

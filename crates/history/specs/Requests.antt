@@ -1,6 +1,7 @@
 -- A request of a list of calls, from its call on (01, "The request under way"): the answers taken since then, the operations asked for, and what was given last.
--- Read from the calls and what they gave.
-use mathlib.Core.Bool.{cond}
+-- Read from the calls and what they gave; and that each of them is the whole call as 01 writes it.
+use mathlib.Core.Path.{_≡_}
+use mathlib.Core.Bool.{false, cond}
 use mathlib.Core.List.{List, [], _∷_, _++_}
 use Prim.Native.Nat.{ℕ}
 use lib.ListN.{drop}
@@ -9,12 +10,18 @@ use Rattle.protector_state.specs.declared.Reply.{Reply}
 use Rattle.protector_state.specs.State.{settingsOf}
 use Rattle.protector.specs.World.{World}
 use Rattle.protector.specs.Calls.{tableFor}
+use Rattle.vtl_protections.specs.Calls.{stored, allListed}
 use Rattle.visibility_claims.specs.Whole.{Given}
 use Rattle.visibility_claims.specs.Runs.{whole}
 use Rattle.visibility_claims.specs.Calls.{asksIn, Told, wholeOf, Match}
-use Rattle.history.specs.Seen.{Seen}
+use Rattle.change_claims.specs.Whole.{Change}
+use Rattle.change_claims.specs.Calls.{protectionWhole, defaultWhole, registerWhole, unregisterWhole, Agrees}
+use Rattle.history.specs.Seen.{Seen, asks, isWaiting}
+use Rattle.history.specs.Call.{Act, Visibility, Protection, Default, Register, Unregister, Lock, Unlock, Enable, Call, Do, Read, Answer, Result, seesAct, sees}
+use Rattle.history.specs.Made.{Made}
+use Rattle.history.specs.History.{Wrong, History, none, call, stray, callsIn}
 use Rattle.history.specs.Answered.{given}
-use Rattle.history.specs.Ends.{Course, start, answer, other}
+use Rattle.history.specs.Ends.{Course, start, answer, other, courseOf}
 
 -- the answers that were taken, in order
 unfoldable pub givenIn : {w v : World} {a o : Seen} → Course w a v o → List Given
@@ -31,8 +38,65 @@ askedIn (other h) = askedIn h
 abbrev pub toldIn : {w v : World} {a o : Seen} → Course w a v o → Told
 toldIn {w} {v} {a} {o} h = record { asked = askedIn h; last = given v (o .op) }
 
--- a visibility change from the world u on: its operations and replies, and what it leaves, are those of the whole call as 01 writes it, under the answers taken
-abbrev pub IsWhole : World → (vtl share : ℕ) (list : List ℕ) → {w v : World} {a o : Seen} → Course w a v o → Type 0
-IsWhole u vtl share list h =
+-- ---- a call of the world u, once the answers gs were taken: the operations that it asked for, in turn, what was given last, and what it leaves, are those of the
+-- whole call as 01 writes it
+
+abbrev pub AgreesIn : World → List ℕ → Change → Told → Type 0
+AgreesIn w t c x = Agrees (drop 14 (w .state)) t (settingsOf (w .state) .isolation) (whole (c .whole)) (c .tables) x
+
+abbrev pub WholeOf : Act → World → List Given → Told → Type 0
+WholeOf (Visibility vtl share list) u gs x =
     Match (u .tables) (drop 10 (u .state)) (tableFor u (vtlOf vtl) (boolOf share) list) (settingsOf (u .state) .isolation)
-    (whole (wholeOf u (vtlOf vtl) (boolOf share) list (givenIn h))) (toldIn h)
+    (whole (wholeOf u (vtlOf vtl) (boolOf share) list gs)) x
+WholeOf (Protection vtl flags list) u gs x = AgreesIn u (allListed list (u .pages)) (protectionWhole u (vtlOf vtl) flags list gs) x
+WholeOf (Default vtl flags) u gs x = AgreesIn (stored u (vtlOf vtl) flags) (u .pages) (defaultWhole (stored u (vtlOf vtl) flags) (vtlOf vtl) flags gs) x
+WholeOf (Register vtl page source checked new) u gs x = AgreesIn u (u .pages) (registerWhole u (vtlOf vtl) page source new gs) x
+WholeOf (Unregister vtl page) u gs x = AgreesIn u (u .pages) (unregisterWhole u (vtlOf vtl) page gs) x
+-- the calls on locks and the setter ask for nothing
+WholeOf (Lock vtl list) u gs x = ⊥
+WholeOf (Unlock vtl list) u gs x = ⊥
+WholeOf Enable u gs x = ⊥
+
+-- a call d of the world u that asked for something, and the calls from there on
+abbrev pub IsWhole : Act → World → {w v : World} {a o : Seen} → Course w a v o → Type 0
+IsWhole d u h = WholeOf d u (givenIn h) (toldIn h)
+
+-- ---- the request of a list of calls that is under way where the list stops, or that ended with no call but answers since: the calls before it, its own, and those
+-- after it
+
+pub data Begun (w : World) (a : Seen) (x : World) (p : Seen) : Type 0 where
+  nothing : Begun w a x p
+  since : {u v : World} {o : Seen} → History w a u o → (d : Act) (r : Reply) → Made (Do d) u v r → History v (seesAct d r (v .pages) o) x p → Begun w a x p
+
+abbrev pub thenCall : {w u v : World} {a o : Seen} → Begun w a u o → (c : Call) (r : Result c) → Made c u v r → Begun w a v (sees c r (v .pages) o)
+thenCall nothing c r m = nothing
+thenCall (since g d s n h) c r m = since g d s n (call h c r m)
+
+abbrev pub thenStray : {w u x y : World} {a o : Seen} → Begun w a u o → (c : Call) (r : Result c) → Made c x y r → Wrong c u x → Begun w a u (sees c r (y .pages) o)
+thenStray nothing c r m s = nothing
+thenStray (since g d s n h) c r m t = since g d s n (stray h c r m t)
+
+unfoldable pub begunIn : {w v : World} {a o : Seen} → History w a v o → Begun w a v o
+begunIn none = nothing
+begunIn (call {u} {v} {o} h (Do d) r m) = cond (asks r) (since h d r m none) (cond (isWaiting o) (thenCall (begunIn h) (Do d) r m) nothing)
+begunIn (call {u} {v} {o} h (Read q) r m) = cond (isWaiting o) (thenCall (begunIn h) (Read q) r m) nothing
+begunIn (call h (Answer g) r m) = thenCall (begunIn h) (Answer g) r m
+begunIn (stray {u} {x} {y} {o} h (Do d) r m s) = cond (isWaiting o) (thenStray (begunIn h) (Do d) r m s) nothing
+begunIn (stray {u} {x} {y} {o} h (Read q) r m s) = cond (isWaiting o) (thenStray (begunIn h) (Read q) r m s) nothing
+begunIn (stray h (Answer g) r m s) = thenStray (begunIn h) (Answer g) r m s
+
+-- it is the whole call under the answers taken so far; where there is none, nothing is under way
+abbrev pub AskedAt : {w x : World} {a p : Seen} → Begun w a x p → Type 0
+AskedAt {w} {x} {a} {p} nothing = isWaiting p ≡ false
+AskedAt (since {u} g d r m h) = IsWhole d u (courseOf h)
+
+-- wherever the list is stopped
+unfoldable pub Asked : {w v : World} {a o : Seen} → History w a v o → Type 0
+Asked none = Unit {0}
+Asked (call h c r m) = Asked h × AskedAt (begunIn (call h c r m))
+Asked (stray h c r m s) = Asked h × AskedAt (begunIn (stray h c r m s))
+
+-- the calls before it, its own and those since are those of the list, l
+abbrev pub Parts : List Call → {w x : World} {a p : Seen} → Begun w a x p → Type 0
+Parts l nothing = Unit {0}
+Parts l (since g d r m h) = l ≡ callsIn g ++ (Do d ∷ callsIn h)
