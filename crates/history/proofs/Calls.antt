@@ -167,7 +167,7 @@ module _ (es : List MemoryRangeWithNode) (w : World) (o : Seen) (k : Stands es w
   named : (j : ℕ) → j < length Q → among (pagesOf l) (getD t j 0) ≡ true
   named j h = ap (among (pagesOf l)) (page j h) ∙ among-take (stopOf w v b l) (pagesOf l) (getD Q j 0) (among-pick P ps (getD Q j 0) (among-own Q j h))
 
-  in-ram : (j : ℕ) → j < length Q → isRam es (getD t j 0) ≡ true
+  pub in-ram : (j : ℕ) → j < length Q → isRam es (getD t j 0) ≡ true
   in-ram j h =
       ap (λ (y : List MemoryRangeWithNode). isRam y (getD t j 0)) (sym (k .layout))
       ∙ ram-page (entriesIn (w .state)) (overlaysOf (w .tables) v) (locksOf (w .tables) v) b (getD t j 0) (first-all _ (pagesOf l) (getD t j 0) (x .each) (named j h))

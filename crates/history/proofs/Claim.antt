@@ -51,7 +51,7 @@ length-fresh es s n = length-written 8 (isRam es) s (replicate n 0) ∙ length-r
 fresh-has : (es : List MemoryRangeWithNode) (n z : ℕ) → isRam es z ≡ true → z / 8 < n → Has (fresh es true n) z
 fresh-has es n z r h = fresh-page es true n z ∙ ap (λ (b : Bool). cond b true false) (and-true (isRam es z) (ltb (z / 8) n) r (lt-ltb _ _ h))
 
-fresh-ram : (es : List MemoryRangeWithNode) (n z : ℕ) → Has (fresh es true n) z → isRam es z ≡ true
+pub fresh-ram : (es : List MemoryRangeWithNode) (n z : ℕ) → Has (fresh es true n) z → isRam es z ≡ true
 fresh-ram es n z h = go (isRam es z) (ltb (z / 8) n) (sym (fresh-page es true n z) ∙ h)
   where
     go : (a b : Bool) → cond (a && b) true false ≡ true → a ≡ true

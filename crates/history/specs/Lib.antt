@@ -1,5 +1,9 @@
 pub mod Seen
 pub mod Marks
+pub mod Tables
+pub mod Settings
+pub mod Permitted
+pub mod Resting
 pub mod Call
 pub mod Made
 pub mod History

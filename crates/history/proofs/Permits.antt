@@ -1,0 +1,393 @@
+-- Every call keeps the permission maps inside RAM, and so does every list of calls. Assumes nothing.
+use native.Mathlib.Omega.{arith}
+use mathlib.Core.Path.{_≡_, refl, sym, ap, _∙_, subst}
+use mathlib.Core.Bool.{Bool, true, false, cond, not, _&&_}
+use mathlib.Core.List.{List, [], _∷_}
+use Prim.Native.Nat.{ℕ, _+_, _-_, _≤_, _<_, min}
+use lib.Dec.{eqb, ltb}
+use lib.ListN.{length, getD, take, set}
+use lib.Seq.{getD-take, getD-set-other}
+use borrow.Author.Tests.{eqb-true, ltb-true, ltb-false}
+use Rattle.laws.specs.Bools.{and-left, and-right}
+use Rattle.laws.specs.Refusal.{passed}
+use Rattle.laws.specs.Ranges.{between, between-from, between-to}
+use Rattle.bitmap.specs.Pages.{bitAt}
+use Rattle.layout.specs.declared.MemoryRangeWithNode.{MemoryRangeWithNode}
+use Rattle.layout.specs.Layout.{entriesOf, isRam, mapLen}
+use Rattle.permissions.specs.declared.GuestVtl.{GuestVtl}
+use Rattle.permissions.specs.declared.GuestVtl.the-variants.{Vtl0, Vtl1}
+use Rattle.permissions.specs.declared.HvMapGpaFlags.{HvMapGpaFlags}
+use Rattle.permissions.specs.Flags.{fitVtl, vtlOf, fitFlags, flagsOf, bitsOf, boolOf}
+use Rattle.permissions.specs.HvError.{codeOf}
+use Rattle.mapping.specs.Maps.{Permissions, marksFit, permissionLen, permissionsFit}
+use Rattle.pages.specs.declared.PageRun.{PageRun}
+use Rattle.pages.specs.Pages.{pagesOf, among, isLong, isRagged}
+use Rattle.pages.specs.Runs.{part}
+use Rattle.request.specs.Request.{pick, put}
+use Rattle.request.proofs.Table.{in-use, length-table, pages-few}
+use Rattle.overlays.specs.declared.OverlayPage.{OverlayPage}
+use Rattle.overlays.specs.Overlays.{isOverlay}
+use Rattle.defaults.specs.Pieces.{wanted, free, nextPiece}
+use Rattle.acceptor.specs.declared.Phase.{Phase}
+use Rattle.acceptor.specs.declared.Phase.the-variants as at
+use Rattle.acceptor.specs.declared.Step.{Step}
+use Rattle.changes.specs.declared.Stage.{Stage}
+use Rattle.changes.specs.declared.Stage.the-variants as stage
+use Rattle.changes.specs.declared.Change.{Change}
+use Rattle.changes.specs.declared.ChangeStep.{ChangeStep}
+use Rattle.changes.specs.Changes.{changeOf, startNew}
+use Rattle.protector_state.specs.declared.Reply.{Reply}
+use Rattle.protector_state.specs.Reply.{finished}
+use Rattle.protector_state.specs.State.{stateLen, firstPhases, phaseOf, phaseIn, requestOf, settingsOf, entriesIn}
+use Rattle.change_state.specs.State.{stageOf, stageIn, isChanging, changeIn, withChange}
+use Rattle.protector.specs.World.{World, world, overlaysOf, locksOf, fits, statusOf, statusIn, takes, takesAt, takesIn, applied}
+use Rattle.protector.specs.Calls.{refusedBy, carriedOut, carriedChange, buildTaken, visibilityRefusal, stopOf, askedFor, tableFor, visibilityTaken, visibilityOf, answerRefusal, pieceAfter, nextIn, afterDone, afterFailed, visibilityDone, visibilityFailed, changeDone, changeFailed, answerDone, answerFailed}
+use Rattle.vtl_protections.specs.Calls.{eachRefusal, protectionRefusal, allListed, protectionTaken, protectionOf, defaultRefusal, stored, barred, renewedIn, firstPiece, defaultStarted, defaultTaken, defaultOf}
+use Rattle.overlay_tests.specs.Refusals.{unregisterRefusal, registerRefusal}
+use Rattle.overlay_tests.specs.Refusals as tests
+use Rattle.overlay_tests.proofs.Laws.{call-passed, flags-passed}
+use Rattle.overlay_pages.specs.Calls.{entryIn, counting, unregisterTaken, unregisterOf, currentIn, registerTaken, registerOf}
+use Rattle.vtl1_protections.specs.Calls.{enableRefusal, enabled, enableOf}
+use Rattle.visibility_claims.specs.Whole.{Given, Succeeds, Fails}
+use Rattle.visibility_claims.specs.Calls.{answerOf}
+use Rattle.history.specs.Seen.{Seen, unseen}
+use Rattle.history.specs.Marks.{Has, readOff, Settled}
+use Rattle.history.specs.Call.{Act, Visibility, Protection, Default, Register, Unregister, Lock, Unlock, Enable, Call, Do, Read, Answer, does, gives}
+use Rattle.history.specs.Made.{Built}
+use Rattle.history.specs.History.{History}
+use Rattle.history.specs.Tables.{Tables}
+use Rattle.history.specs.Permitted.{Inside, OnRam, isPages, isListing, Permitted}
+use Rattle.history.proofs.Bits.{among-own}
+use Rattle.history.proofs.Start.{first-all, ram-page}
+use Rattle.history.proofs.Is.{build-is}
+use Rattle.history.proofs.Calls.{status, taken, in-ram}
+use Rattle.history.proofs.Strays.{answer-whole, protection-whole}
+use Rattle.history.proofs.Deciding.{decides, either}
+use Rattle.history.proofs.Entries.{overlays-entry, overlays-own}
+use Rattle.history.proofs.Tabled.{fresh-page}
+use Rattle.history.proofs.Histories.{Keeps, history-keeps}
+use Rattle.history.proofs.Claim.{fresh-ram, build-taken, built-settled}
+use Rattle.history.proofs.Holding.{Tabled, tabled-kept, built-tabled, settled-tabled}
+use Rattle.history.proofs.Permitted.{written-ram, places-ram, piece-all, Narrow, done-narrow, failed-narrow, start-narrow, Safe, safe-pages, safe-ram, safe-done, safe-failed, safe-new, safe-old}
+
+pages-long : (w : World) → fits w ≡ true → length (w .pages) ≡ 1024
+pages-long w e = eqb-true _ _ (and-left _ _ (and-right (marksFit (mapLen (entriesIn (w .state))) (length (w .maps .private)) (length (w .maps .shared)) && permissionsFit (permissionLen (mapLen (entriesIn (w .state))) (settingsOf (w .state) .tracked)) (length (w .maps .permissions .read)) (length (w .maps .permissions .write)) (length (w .maps .permissions .kernel)) (length (w .maps .permissions .user))) _ e))
+
+-- ---- which pages are listed, read from the state block
+
+listing-change : (g : Stage) (q : Change) (s : List ℕ) → isListing (withChange g q s) ≡ true → isPages g ≡ true
+unfolding stageOf phaseOf firstPhases
+listing-change stage.Idle q s e = e
+listing-change stage.Halted q s e = e
+listing-change stage.ProtectPages q s e = e
+listing-change stage.ProtectRam q s e = e
+listing-change stage.ProtectNew q s e = e
+listing-change stage.ProtectOld q s e = e
+listing-change stage.Wait q s e = e
+listing-change stage.Flush q s e = e
+listing-change stage.TlbWait q s e = e
+
+takes-waits : (p : Phase) (failed : Bool) → takes p failed ≡ true → eqb (statusOf p) 19 ≡ true
+takes-waits at.Idle failed e = e
+takes-waits at.Halted failed e = e
+takes-waits at.Wait failed e = refl
+takes-waits at.FlushAll failed e = refl
+takes-waits at.ProtectNone0 failed e = refl
+takes-waits at.ProtectNone1 failed e = refl
+takes-waits at.Invalidate failed e = refl
+takes-waits at.Release failed e = refl
+takes-waits at.Modify failed e = refl
+takes-waits at.Accept failed e = refl
+takes-waits at.Zero failed e = refl
+takes-waits at.ProtectDefault0 failed e = refl
+takes-waits at.ProtectDefault1 failed e = refl
+
+not-listing : (s : List ℕ) → statusIn s ≡ 0 → isListing s ≡ true → ⊥
+not-listing s z e = go (isChanging s) (isPages (stageIn s)) (statusOf (phaseIn s)) z e
+  where
+    go : (c a : Bool) (n : ℕ) → cond c 19 n ≡ 0 → cond c a (eqb n 19) ≡ true → ⊥
+    go true a n z e = omega (arith, z)
+    go false a n z e = omega (arith, z, eqb-true n 19 e)
+
+pick-all : (ps : List ℕ) → pick (λ p. true) ps ≡ ps
+unfolding pick
+pick-all [] = refl
+pick-all (p ∷ ps) = ap (λ (l : List ℕ). p ∷ l) (pick-all ps)
+
+no : (b : Bool) → not b ≡ true → b ≡ false
+no true e = sym e
+no false e = refl
+
+module _ (es : List MemoryRangeWithNode) where
+  fewer : (n m : ℕ) (t : List ℕ) → m ≤ n → OnRam es n t → OnRam es m t
+  fewer n m t h k j a b = k j (omega (arith, a, h)) b
+
+  -- ---- steps carried out
+
+  pub change-permits : (w : World) (t : List ℕ) (x : ChangeStep) → Inside es (w .maps .permissions) → Safe es t x → Permitted es (carriedChange w t x .world)
+  unfolding carriedChange
+  change-permits w t x k f =
+      let R : ℕ → Bool = between (x .written .first) (x .written .first + x .written .count) in
+      let g : HvMapGpaFlags = flagsOf (x .change .flags) in
+      record {
+        inside = record {
+          read = written-ram (isRam es) R (g .readable) (w .maps .permissions .read) (λ _. f .written) (k .read);
+          write = written-ram (isRam es) R (g .writable) (w .maps .permissions .write) (λ _. f .written) (k .write);
+          kernel = written-ram (isRam es) R (g .«kernel_executable») (w .maps .permissions .kernel) (λ _. f .written) (k .kernel);
+          user = written-ram (isRam es) R (g .«user_executable») (w .maps .permissions .user) (λ _. f .written) (k .user);
+        };
+        listed = λ e. fewer (x .change .n) (min (x .change .n) 512) t (omega arith) (f .listed (listing-change (x .stage) (x .change) (w .state) e));
+      }
+
+  pub step-permits : (w : World) (t : List ℕ) (n : ℕ) (x : Step) → Inside es (w .maps .permissions) → Narrow n x → OnRam es n t → Permitted es (carriedOut w t x .world)
+  unfolding carriedOut applied put
+  step-permits w t n x k f h =
+      let a : ℕ = x .writes .permissions .from in
+      let b : ℕ = x .writes .permissions .to in
+      let R : ℕ → Bool = among (part t b a) in
+      let g : HvMapGpaFlags = x .writes .flags in
+      let r : (z : ℕ) → among (part t b a) z ≡ true → isRam es z ≡ true = places-ram es t n a b h (f .places) in
+      record {
+        inside = record {
+          read = written-ram (isRam es) R (g .readable) (w .maps .permissions .read) (λ _. r) (k .read);
+          write = written-ram (isRam es) R (g .writable) (w .maps .permissions .write) (λ _. r) (k .write);
+          kernel = written-ram (isRam es) R (g .«kernel_executable») (w .maps .permissions .kernel) (λ _. r) (k .kernel);
+          user = written-ram (isRam es) R (g .«user_executable») (w .maps .permissions .user) (λ _. r) (k .user);
+        };
+        listed = λ _. fewer n (min (x .request .n) 512) t (omega (arith, f .few)) h;
+      }
+
+  -- the same maps, pages and words: tables may differ
+  tables-permit : (w : World) (u : List ℕ) → Permitted es w → Permitted es (world (w .maps) (w .state) (w .pages) u)
+  tables-permit w u k = record { inside = k .inside; listed = k .listed }
+
+  set-permits : (w : World) (i x : ℕ) → 13 < i → Permitted es w → Permitted es (world (w .maps) (set (w .state) i x) (w .pages) (w .tables))
+  set-permits w i x h k = record { inside = k .inside; listed = rw (word 0 (omega arith), word 3 (omega arith)) (k .listed) }
+    where
+      word : (j : ℕ) → j < 14 → getD (set (w .state) i x) j 0 ≡ getD (w .state) j 0
+      word j d = getD-set-other (w .state) i j x 0 (λ e. omega (arith, h, d, e))
+
+  stored-permits : (w : World) (v : GuestVtl) (flags : ℕ) → Permitted es w → Permitted es (stored w v flags)
+  stored-permits w Vtl0 flags k = set-permits w 20 flags (omega arith) k
+  stored-permits w Vtl1 flags k = set-permits w 21 flags (omega arith) k
+
+  enable-permits : (w : World) → Permitted es w → Permitted es (world (w .maps) (enableOf (w .state) .state) (w .pages) (w .tables))
+  unfolding enableOf
+  enable-permits w k = go (eqb (enableRefusal (w .state)) 0)
+    where
+      go : (b : Bool) → Permitted es (world (w .maps) (cond b (enabled (set (w .state) 19 1) (finished 0 0 0 0)) (enabled (w .state) (finished (enableRefusal (w .state)) (codeOf (enableRefusal (w .state))) 0 0)) .state) (w .pages) (w .tables))
+      go true = set-permits w 19 1 (omega arith) k
+      go false = k
+
+  -- a piece of a default change is private, and so RAM
+  piece-ram : (private overlays : List ℕ) (ram : List MemoryRangeWithNode) (a : ℕ) → ((z : ℕ) → Has private z → isRam es z ≡ true) → (z : ℕ)
+      → between (nextPiece private overlays ram a .first) (nextPiece private overlays ram a .first + nextPiece private overlays ram a .count) z ≡ true → isRam es z ≡ true
+  piece-ram private overlays ram a f z e =
+      let r : PageRun = nextPiece private overlays ram a in
+      f z (and-left (bitAt 8 private z) (free overlays z) (piece-all (wanted private overlays) ram a z (between-from (r .first) (r .first + r .count) z e) (between-to (r .first) (r .first + r .count) z e)))
+
+  after-ram : (g : Stage) (private overlays : List ℕ) (ram : List MemoryRangeWithNode) (a : ℕ) → ((z : ℕ) → Has private z → isRam es z ≡ true) → (z : ℕ)
+      → between (pieceAfter g private overlays ram a .first) (pieceAfter g private overlays ram a .first + pieceAfter g private overlays ram a .count) z ≡ true → isRam es z ≡ true
+  after-ram stage.Idle private overlays ram a f z e = absurd (omega (arith, between-to 0 0 z e))
+  after-ram stage.Halted private overlays ram a f z e = absurd (omega (arith, between-to 0 0 z e))
+  after-ram stage.ProtectPages private overlays ram a f z e = absurd (omega (arith, between-to 0 0 z e))
+  after-ram stage.ProtectRam private overlays ram a f z e = piece-ram private overlays ram a f z e
+  after-ram stage.ProtectNew private overlays ram a f z e = absurd (omega (arith, between-to 0 0 z e))
+  after-ram stage.ProtectOld private overlays ram a f z e = absurd (omega (arith, between-to 0 0 z e))
+  after-ram stage.Wait private overlays ram a f z e = absurd (omega (arith, between-to 0 0 z e))
+  after-ram stage.Flush private overlays ram a f z e = absurd (omega (arith, between-to 0 0 z e))
+  after-ram stage.TlbWait private overlays ram a f z e = absurd (omega (arith, between-to 0 0 z e))
+
+  default-permits : (w : World) → ((z : ℕ) → Has (w .maps .private) z → isRam es z ≡ true) → Permitted es w → (v : GuestVtl) (flags : ℕ) → Permitted es (defaultTaken w v flags .world)
+  unfolding defaultTaken defaultStarted
+  default-permits w f k v flags =
+      let r : World = renewedIn w v flags in
+      either (Permitted es) (barred (w .maps .private) (w .state) (w .tables) v) (refusedBy w 10) (defaultStarted r v flags) k
+      (change-permits r (w .pages) _ (k .inside)
+      (safe-ram es (w .pages) (settingsOf (w .state) .tracked) (changeOf v flags 0) (firstPiece (w .maps .private) (w .state) (r .tables) v) (piece-ram (w .maps .private) (overlaysOf (r .tables) v) (entriesIn (w .state)) 0 f)))
+
+  -- the pages that a protection change lists, once it is taken
+  module _ (w : World) (layout : entriesIn (w .state) ≡ es) (vtl flags : ℕ) (l : List ℕ) (z : protectionRefusal (w .state) (fits w) (w .maps .shared) (w .tables) vtl flags l ≡ 0) where
+    listed-each : (length l ≤ 4096) × (eachRefusal (w .state) (w .tables) (vtlOf vtl) l ≡ 0)
+    unfolding protectionRefusal
+    listed-each =
+        let a = passed (eqb (length (w .state)) stateLen) 3 _ z in
+        let b = status (statusIn (w .state)) _ (a .1) in
+        let c = passed (fits w) 3 _ (b .1) in
+        let d = passed (not (isLong l)) 4 _ (c .1) in
+        let e = passed (fitVtl vtl) 7 _ (d .1) in
+        let f = passed (fitFlags flags) 7 _ (e .1) in
+        let g = passed (not (isRagged l)) 7 _ (f .1) in
+        (ltb-false 4096 (length l) (no (isLong l) (d .0)), status (eachRefusal (w .state) (w .tables) (vtlOf vtl) l) _ (g .1) .0)
+
+    listed-ram : OnRam es (length (pagesOf l)) (allListed l (w .pages))
+    listed-ram j h d =
+        let t : List ℕ = allListed l (w .pages) in
+        let ps : List ℕ = pagesOf l in
+        let first : take (length ps) t ≡ ps = subst (λ (x : List ℕ). take (length x) t ≡ x) (pick-all ps) (in-use (λ p. true) ps (w .pages)) in
+        let own : getD t j 0 ≡ getD ps j 0 = sym (getD-take (length ps) t j 0 h) ∙ ap (λ (m : List ℕ). getD m j 0) first in
+        ap (λ (y : List MemoryRangeWithNode). isRam y (getD t j 0)) (sym layout)
+        ∙ ram-page (entriesIn (w .state)) (overlaysOf (w .tables) (vtlOf vtl)) (locksOf (w .tables) (vtlOf vtl)) true (getD t j 0)
+        (first-all _ ps (getD t j 0) (listed-each .1) (ap (among ps) own ∙ among-own ps j h))
+
+  -- ---- the calls
+
+  module _ (w : World) (o : Seen) (k : Tabled es w o) (p : Permitted es w) where
+    visibility-permits : (vtl share : ℕ) (l : List ℕ) → Permitted es (visibilityOf w vtl share l .world)
+    unfolding visibilityOf visibilityTaken
+    visibility-permits vtl share l =
+        decides (Permitted es) w (visibilityRefusal (w .state) (fits w) (w .tables) vtl share l) _ p
+        (λ z. let v : GuestVtl = vtlOf vtl in
+        let b : Bool = boolOf share in
+        let n : ℕ = length (askedFor w v b l) in
+        step-permits w (tableFor w v b l) n _ (p .inside) (start-narrow (settingsOf (w .state)) (tableFor w v b l) v b n (stopOf w v b l) (ltb (stopOf w v b l) (length (pagesOf l))))
+        (λ j h _. in-ram es w o (k .stands) v b l (taken w vtl share l z) j h))
+
+    -- an answer that is taken
+    module _ (failed : Bool) (z : answerRefusal (w .state) (fits w) failed ≡ 0) where
+      takes-it : takesIn (w .state) failed ≡ true
+      unfolding answerRefusal
+      takes-it =
+          let a = passed (eqb (length (w .state)) stateLen) 3 _ z in
+          let b = passed (not (eqb (statusIn (w .state)) 20)) 19 _ (a .1) in
+          let c = passed (fits w) 3 _ (b .1) in
+          passed (takesIn (w .state) failed) 20 _ (c .1) .0
+
+      takes-change : (c : Bool) → isChanging (w .state) ≡ c → cond c (takesAt (stageIn (w .state)) failed) (takes (phaseIn (w .state)) failed) ≡ true
+      takes-change c e = ap (λ (b : Bool). cond b (takesAt (stageIn (w .state)) failed) (takes (phaseIn (w .state)) failed)) (sym e) ∙ takes-it
+
+      long : requestOf (w .state) .n ≤ length (w .pages)
+      long = omega (arith, pages-long w (answer-whole w failed z .fit))
+
+      visible : isChanging (w .state) ≡ false → OnRam es (requestOf (w .state) .n) (w .pages)
+      visible e = p .listed (ap (λ (b : Bool). cond b (isPages (stageIn (w .state))) (eqb (statusOf (phaseIn (w .state))) 19)) e ∙ takes-waits (phaseIn (w .state)) failed (takes-change false e))
+
+      paged : isChanging (w .state) ≡ true → isPages (stageIn (w .state)) ≡ true → OnRam es (requestOf (w .state) .n) (w .pages)
+      paged e d = p .listed (ap (λ (b : Bool). cond b (isPages (stageIn (w .state))) (eqb (statusOf (phaseIn (w .state))) 19)) e ∙ d)
+
+    answer-permits : (g : Given) → Permitted es (answerOf g w .world)
+    unfolding answerDone answerFailed afterDone afterFailed
+    answer-permits Succeeds = decides (Permitted es) w (answerRefusal (w .state) (fits w) false) _ p (λ z. go z (isChanging (w .state)) refl)
+      where
+        go : answerRefusal (w .state) (fits w) false ≡ 0 → (c : Bool) → isChanging (w .state) ≡ c → Permitted es (cond c (changeDone w) (visibilityDone w) .world)
+        go z true e =
+            change-permits w (w .pages) _ (p .inside)
+            (safe-done es (w .pages) (settingsOf (w .state) .tracked) (stageIn (w .state)) (changeIn (w .state)) (nextIn (w .maps .private) (w .state) (w .tables)) (long false z) (paged false z e)
+            (after-ram (stageIn (w .state)) (w .maps .private) (overlaysOf (w .tables) (changeIn (w .state) .vtl)) (entriesIn (w .state)) (changeIn (w .state) .at) (k .stands .right .private-ram)) (takes-change false z true e))
+        go z false e = step-permits w (w .pages) (requestOf (w .state) .n) _ (p .inside) (done-narrow (settingsOf (w .state)) (w .pages) (phaseIn (w .state)) (requestOf (w .state))) (visible false z e)
+    answer-permits (Fails code n) = decides (Permitted es) w (answerRefusal (w .state) (fits w) true) _ p (λ z. go z (isChanging (w .state)) refl)
+      where
+        go : answerRefusal (w .state) (fits w) true ≡ 0 → (c : Bool) → isChanging (w .state) ≡ c → Permitted es (cond c (changeFailed w) (visibilityFailed w code n) .world)
+        go z true e = change-permits w (w .pages) _ (p .inside) (safe-failed es (w .pages) (stageIn (w .state)) (changeIn (w .state)) (takes-change true z true e))
+        go z false e = step-permits w (w .pages) (requestOf (w .state) .n) _ (p .inside) (failed-narrow (settingsOf (w .state)) (w .pages) (phaseIn (w .state)) (requestOf (w .state)) code n) (visible true z e)
+
+    protection-permits : (vtl flags : ℕ) (l : List ℕ) → Permitted es (protectionOf w vtl flags l .world)
+    unfolding protectionOf protectionTaken
+    protection-permits vtl flags l =
+        decides (Permitted es) w (protectionRefusal (w .state) (fits w) (w .maps .shared) (w .tables) vtl flags l) _ p
+        (λ z. let few : length (pagesOf l) ≤ 512 = pages-few l (listed-each w (k .stands .layout) vtl flags l z .0) in
+        let q : length (w .pages) ≡ 1024 = pages-long w (protection-whole w vtl flags l z .fit) in
+        let long : length (allListed l (w .pages)) ≡ 1024 = length-table (λ p. true) (pagesOf l) (w .pages) q few in
+        change-permits w (allListed l (w .pages)) _ (p .inside)
+        (safe-pages es (allListed l (w .pages)) (settingsOf (w .state) .tracked) (changeOf (vtlOf vtl) flags (length (pagesOf l))) 0 (omega (arith, few, long)) (listed-ram w (k .stands .layout) vtl flags l z)))
+
+    counted : (v : GuestVtl) (page n : ℕ) → Permitted es (counting w v page n .world)
+    counted v page n = tables-permit w _ p
+
+    unregister-permits : (vtl page : ℕ) → Permitted es (unregisterOf w vtl page .world)
+    unfolding unregisterOf unregisterTaken unregisterRefusal
+    unregister-permits vtl page =
+        decides (Permitted es) w (unregisterRefusal (w .state) (fits w) (w .tables) vtl page) (unregisterTaken w v page) p
+        (λ z. let c = call-passed (w .state) (fits w) vtl _ z in go (passed (isOverlay (overlaysOf (w .tables) v) page) 13 _ (c .4) .0))
+      where
+        v : GuestVtl
+        v = vtlOf vtl
+
+        e : OverlayPage
+        e = entryIn (w .tables) v page
+
+        go : isOverlay (overlaysOf (w .tables) v) page ≡ true → Permitted es (unregisterTaken w v page .world)
+        go h =
+            let own = overlays-own es (overlaysOf (w .tables) v) (k .kept .tables .overlays v) page h in
+            let fit = overlays-entry es (overlaysOf (w .tables) v) (k .kept .tables .overlays v) page h in
+            either (Permitted es) (ltb 1 (e .«ref_count»)) (counting w v page (e .«ref_count» - 1)) _ (counted v page _)
+            (change-permits w (w .pages) _ (p .inside) (safe-old es (w .pages) (settingsOf (w .state) .tracked) v page (e .«previous_permissions») (e .«gpn_source») (ap (isRam es) (sym own) ∙ fit .page)))
+
+    register-permits : (vtl page source checked new : ℕ) → Permitted es (registerOf w vtl page source checked new .world)
+    unfolding registerOf registerTaken registerRefusal
+    register-permits vtl page source checked new =
+        decides (Permitted es) w (registerRefusal (w .state) (fits w) (w .maps .shared) (w .tables) (currentIn w v page source) vtl page source checked new) (registerTaken w v page source new) p
+        (λ z. let c = call-passed (w .state) (fits w) vtl _ z in
+        let f = flags-passed source checked new _ (c .4) in
+        go (ltb-true source 2 (f .0)) (f .3) (isOverlay o′ page) refl)
+      where
+        v : GuestVtl
+        v = vtlOf vtl
+
+        o′ : List ℕ
+        o′ = overlaysOf (w .tables) v
+
+        x : ChangeStep
+        x = startNew (settingsOf (w .state) .tracked) v page source (bitsOf (currentIn w v page source)) new
+
+        go : source < 2 → tests.pageRefusal (entriesIn (w .state)) (w .maps .shared) o′ (locksOf (w .tables) v) page source (currentIn w v page source) checked new ≡ 0
+            → (b : Bool) → isOverlay o′ page ≡ b → Permitted es (cond b (counting w v page (entryIn (w .tables) v page .«ref_count» + 1)) (carriedChange w (w .pages) x) .world)
+        go two z true h = counted v page _
+        go two z false h =
+            let c = fresh-page (entriesIn (w .state)) (w .maps .shared) o′ (locksOf (w .tables) v) page source (currentIn w v page source) checked new two h z in
+            change-permits w (w .pages) x (p .inside)
+            (safe-new es (w .pages) (settingsOf (w .state) .tracked) v page source (bitsOf (currentIn w v page source)) new (ap (λ (y : List MemoryRangeWithNode). isRam y page) (sym (k .stands .layout)) ∙ c .page))
+
+    permits-act : (a : Act) → Permitted es (does a w .world)
+    unfolding defaultOf
+    permits-act (Visibility vtl share list) = visibility-permits vtl share list
+    permits-act (Protection vtl flags list) = protection-permits vtl flags list
+    permits-act (Default vtl flags) =
+        decides (Permitted es) w (defaultRefusal (w .state) (fits w) vtl flags) _ p
+        (λ _. default-permits (stored w (vtlOf vtl) flags) (k .stands .right .private-ram) (stored-permits w (vtlOf vtl) flags p) (vtlOf vtl) flags)
+    permits-act (Register vtl page source checked new) = register-permits vtl page source checked new
+    permits-act (Unregister vtl page) = unregister-permits vtl page
+    permits-act (Lock vtl list) = tables-permit w _ p
+    permits-act (Unlock vtl list) = tables-permit w _ p
+    permits-act Enable = enable-permits w p
+
+    permits-step : (c : Call) → Permitted es (gives c w .world)
+    permits-step (Do a) = permits-act a
+    permits-step (Read q) = p
+    permits-step (Answer g) = answer-permits g
+
+pub record Permits (es : List MemoryRangeWithNode) (w : World) (o : Seen) : Type 0 where
+  pub tabled : Tabled es w o
+  pub permitted : Permitted es w
+
+pub permits-kept : (es : List MemoryRangeWithNode) → Keeps (Permits es)
+permits-kept es = record { halts = λ w o k. k .tabled .stands .halts; step = λ c w o k. record { tabled = tabled-kept es .step c w o (k .tabled); permitted = permits-step es w o (k .tabled) (k .permitted) c } }
+
+-- ---- from a settled world whose permission bits are all of RAM
+
+module _ (w : World) (s : Settled w) (t : Tables (entriesIn (w .state)) (w .tables)) (i : Inside (entriesIn (w .state)) (w .maps .permissions)) {v : World} {o : Seen} (h : History w (readOff (w .maps)) v o) where
+  pub settled-permits : Permitted (entriesIn (w .state)) v
+  settled-permits =
+      history-keeps (Permits (entriesIn (w .state))) (permits-kept (entriesIn (w .state))) h
+      (record { tabled = settled-tabled w s t; permitted = record { inside = i; listed = λ e. absurd (not-listing (w .state) (s .idle) e) } }) .permitted
+
+-- ---- from a build that was taken
+
+module _ {ram : List ℕ} {i t r : ℕ} {u w : World} {reply : Reply} (b : Built ram i t r u w reply) (d : reply .number ≡ 0) where
+  fresh-inside : Inside (entriesOf ram) (buildTaken u ram i t r .world .maps .permissions)
+  unfolding buildTaken
+  fresh-inside =
+      let es : List MemoryRangeWithNode = entriesOf ram in
+      let m : Permissions = u .maps .permissions in
+      record { read = fresh-ram es (length (m .read)); write = fresh-ram es (length (m .write)); kernel = fresh-ram es (length (m .kernel)); user = fresh-ram es (length (m .user)) }
+
+  pub permissions-hold : {v : World} {o : Seen} → History w unseen v o → Permitted (entriesOf ram) v
+  permissions-hold h =
+      history-keeps (Permits (entriesOf ram)) (permits-kept (entriesOf ram)) h
+      (record {
+        tabled = built-tabled b d;
+        permitted = record {
+          inside = subst (λ (w : World). Inside (entriesOf ram) (w .maps .permissions)) (build-taken u w ram i t r reply (build-is b) d .1) fresh-inside;
+          listed = λ e. absurd (not-listing (w .state) (built-settled b d .idle) e);
+        };
+      }) .permitted
