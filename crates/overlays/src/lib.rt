@@ -1,5 +1,8 @@
 // The overlay pages of one VTL in a lent run of words: how many, then five words for each in order of registration.
 ghost use mathlib.Core.Path.{_≡_};
+ghost use Prim.Native.Nat.{_≤_};
+ghost use lib.ListN.{length, take};
+ghost use Rattle.overlays.specs.Search.{findFrom};
 ghost use Rattle.overlays.specs.Overlays.{used, placeOf, isOverlay, entryAt, addCode, addWords, previousWords, countWords, removeWords};
 
 // Permissions are flag bits. gpn_source: 0 guest memory, 1 Dma.
@@ -9,6 +12,35 @@ pub struct OverlayPage {
     pub overlay_permissions: u64,
     pub ref_count: u64,
     pub gpn_source: u64,
+}
+
+// Where a page stands among entries.
+pub enum Found {
+    At(usize),
+    Nothing,
+}
+
+// Of the first entries of a lent run, the first of a page.
+pub fn find_in(entries: &[OverlayPage], used: usize, gpn: u64) -> Found
+    requires { ⌜ used ≤ length (now entries) ⌝ }
+    ensures { λ r. ⌜ r ≡ findFrom (take used (now (entries .entry))) gpn 0 ⌝ }
+{
+    let mut i = 0;
+    while i < used {
+        if entries[i].gpn == gpn {
+            return Found::At(i);
+        }
+        i += 1;
+    }
+    Found::Nothing
+}
+
+// The same of entries by value, which are lent to it.
+pub fn find_loaded(entries: [OverlayPage; 128], used: usize, gpn: u64) -> Found
+    requires { ⌜ used ≤ 128 ⌝ }
+    ensures { λ r. ⌜ r ≡ findFrom (take used entries) gpn 0 ⌝ }
+{
+    find_in(&entries, used, gpn)
 }
 
 fn entry_count(t: &[u64]) -> u64

@@ -168,6 +168,26 @@ impl DefaultVtlPermissions {
             },
         }
     }
+
+    // The same behind a reference.
+    pub fn set(&mut self, vtl: GuestVtl, permissions: HvMapGpaFlags)
+        ensures { λ _. ⌜ now (self .exit) ≡ withDefault (now (self .entry)) vtl permissions ⌝ }
+    {
+        *self = DefaultVtlPermissions::with(*self, vtl, permissions);
+    }
+}
+
+// The defaults with one VTL's set: they are lent to `set`.
+pub fn set_default(
+    defaults: DefaultVtlPermissions,
+    vtl: GuestVtl,
+    permissions: HvMapGpaFlags,
+) -> DefaultVtlPermissions
+    ensures { λ r. ⌜ r ≡ withDefault defaults vtl permissions ⌝ }
+{
+    let mut t = defaults;
+    DefaultVtlPermissions::set(&mut t, vtl, permissions);
+    t
 }
 
 // RMPADJUST operands: sixteen for VTL0, by flags, then sixteen for VTL1.
