@@ -3,6 +3,7 @@
 use Prim.Native.Nat.{ℕ}
 use mathlib.Core.List.{List}
 use mathlib.Core.Bool.{Bool, true, false, cond}
+use Rattle.abi.specs.Refusals as refusal
 use Rattle.permissions.specs.declared.HvMapGpaFlags.{HvMapGpaFlags}
 use Rattle.permissions.specs.Flags.{noFlags}
 use Rattle.pages.specs.declared.PageRun.{PageRun}
@@ -80,7 +81,7 @@ runIn p t n a = cond (hasRun p) (runAt t n a) (run 0 0)
 abbrev pub answerBy : Turn → Settings → Phase → Request → PageRun → Answer
 answerBy turn.Ask s p q r = answer.Ask (operationOn s p q r)
 answerBy turn.End s p q r = finished q
-answerBy turn.Keep s p q r = answer.Refused 21
+answerBy turn.Keep s p q r = answer.Refused refusal.nothingAsked
 
 abbrev pub requestBy : Turn → Request → ℕ → Request
 requestBy turn.Ask q a = counted q a

@@ -4,6 +4,8 @@ use mathlib.Core.List.{List}
 use mathlib.Core.Bool.{Bool, true, false, cond, _&&_}
 use lib.ListN.{getD}
 use lib.Dec.{ltb, leb}
+use Rattle.abi.specs.Refusals as refusal
+use Rattle.abi.specs.Lengths.{placesStart}
 use Rattle.permissions.specs.declared.GuestVtl.{GuestVtl}
 use Rattle.permissions.specs.declared.GuestVtl.the-variants.{Vtl0, Vtl1}
 use Rattle.permissions.specs.declared.IsolationType.{IsolationType}
@@ -143,7 +145,7 @@ halt q = step at.Halted q (Halted (q .count)) noWrites
 
 -- 21
 unfoldable pub keep : Phase → Request → Step
-keep p q = step p q (Refused 21) noWrites
+keep p q = step p q (Refused refusal.nothingAsked) noWrites
 
 -- To shared, from the run at place a on: its operations, or Modify where no run is left or asks for any
 unfoldable pub shareRun : Settings → Request → List ℕ → ℕ → Step
@@ -202,7 +204,7 @@ unfoldable pub failedModify : Settings → Request → List ℕ → ℕ → ℕ 
 failedModify s q t code k =
     cond (q .share) (halt q)
     (cond (leb (q .n) k) (halt q)
-    (returnRun s (cutAt q k code (getD t (512 + k) 0)) t 0 (setShared noWrites k (q .n))))
+    (returnRun s (cutAt q k code (getD t (placesStart + k) 0)) t 0 (setShared noWrites k (q .n))))
 
 -- the operation outstanding is done
 unfoldable pub doneOf : Settings → Phase → Request → List ℕ → Step

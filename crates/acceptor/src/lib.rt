@@ -5,6 +5,7 @@ ghost use mathlib.Core.Bool.{cond, _&&_};
 ghost use Rattle.request.specs.Request.{runEnd};
 ghost use Rattle.acceptor.specs.Steps.{isSnp, isCca, releases, noWrites, orNone, operationOn, counted, noRequest, finished, halt, keep, shareRun, defaultRun, returnRun, afterFlush, afterWait, afterModify, afterAccept, afterDefault0, failedModify, doneOf, failedOf, asked, isVtl0, cleared};
 ghost use Rattle.acceptor.specs.Next.{marks, markedBy, asks, ends, keeps, hasRun, isDefault0, runIn, answerBy, requestBy, permittedAt, flagsAt, nextStep};
+use abi::refusal;
 use pages::PageRun;
 use permissions::DefaultVtlPermissions;
 use permissions::GuestVtl;
@@ -294,7 +295,7 @@ fn keep(phase: Phase, q: Request) -> Step
     Step {
         phase: phase,
         request: q,
-        answer: Answer::Refused(21),
+        answer: Answer::Refused(refusal::NOTHING_ASKED),
         writes: no_writes(),
     }
 }
@@ -540,7 +541,7 @@ fn next_answer(turn: Turn, set: Settings, phase: Phase, q: Request, run: PageRun
     match turn {
         Turn::Ask => Answer::Ask(operation_on(set, phase, q, run)),
         Turn::End => finished(q),
-        Turn::Keep => Answer::Refused(21),
+        Turn::Keep => Answer::Refused(refusal::NOTHING_ASKED),
     }
 }
 

@@ -3,6 +3,7 @@ use mathlib.Core.Bool.{Bool, false, cond}
 use mathlib.Core.List.{List}
 use Prim.Native.Nat.{ℕ}
 use lib.Dec.{eqb}
+use Rattle.abi.specs.Refusals as refusal
 use Rattle.laws.specs.Refusal.{unless}
 use Rattle.layout.specs.declared.MemoryRangeWithNode.{MemoryRangeWithNode}
 use Rattle.layout.specs.Layout.{isRam}
@@ -20,14 +21,14 @@ answer n f = cond (eqb n 0) (Flags f) (Refused n)
 
 -- of the maps: 4, 24, 7, else what they hold
 abbrev pub accessRefusal : Bool → Bool → Bool → ℕ
-accessRefusal fits tracked inside = unless fits 4 (unless tracked 24 (unless inside 7 0))
+accessRefusal fits tracked inside = unless fits refusal.wrongLength (unless tracked refusal.untracked (unless inside refusal.notRam 0))
 
 unfoldable pub accessPermission : List MemoryRangeWithNode → Maps → Bool → ℕ → PermissionsAnswer
 accessPermission es m tracked p = answer (accessRefusal (mapsFit es tracked m) tracked (inMaps es p)) (flagsAt (m .permissions) p)
 
 -- of a VTL: 4, 8, 7 where the page is not RAM; else what the maps hold for VTL0 if tracked, and all four elsewhere
 abbrev pub lowerRefusal : Bool → ℕ → Bool → ℕ
-lowerRefusal fits vtl ram = unless fits 4 (unless (fitVtl vtl) 8 (unless ram 7 0))
+lowerRefusal fits vtl ram = unless fits refusal.wrongLength (unless (fitVtl vtl) refusal.unfitNumber (unless ram refusal.notRam 0))
 
 abbrev pub isTracked : GuestVtl → Bool → Bool
 isTracked Vtl0 tracked = tracked

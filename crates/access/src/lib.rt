@@ -3,6 +3,7 @@ ghost use mathlib.Core.Path.{_≡_};
 ghost use Rattle.layout.specs.Layout.{entriesOf, isRam};
 ghost use Rattle.mapping.specs.Maps.{perms, maps};
 ghost use Rattle.access.specs.Query.{accessRefusal, accessPermission, lowerRefusal, lowerFlags, lowerVtlPermissions, permissionsNumber, permissionsValue};
+use abi::refusal;
 use permissions::GuestVtl;
 use permissions::HvMapGpaFlags;
 
@@ -16,12 +17,12 @@ fn access_refusal(fits: bool, tracked: bool, inside: bool) -> u64
     ensures { λ r. ⌜ r ≡ accessRefusal fits tracked inside ⌝ }
 {
     if !fits {
-        return 4;
+        return refusal::WRONG_LENGTH;
     }
     if !tracked {
-        return 24;
+        return refusal::UNTRACKED;
     }
-    if inside { 0 } else { 7 }
+    if inside { 0 } else { refusal::NOT_RAM }
 }
 
 // The permissions of a page as the maps have them.
@@ -63,15 +64,15 @@ fn lower_refusal(ram: &[u64], fits: bool, vtl: u64, gpn: u64) -> u64
     ensures { λ r. ⌜ r ≡ lowerRefusal fits vtl (isRam (entriesOf (now (ram .entry))) gpn) ⌝ }
 {
     if !fits {
-        return 4;
+        return refusal::WRONG_LENGTH;
     }
     if !permissions::is_vtl(vtl) {
-        return 8;
+        return refusal::UNFIT_NUMBER;
     }
     if layout::is_in_guest_memory(ram, gpn) {
         0
     } else {
-        7
+        refusal::NOT_RAM
     }
 }
 

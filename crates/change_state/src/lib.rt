@@ -3,6 +3,10 @@ ghost use mathlib.Core.Path.{_≡_};
 ghost use lib.ListN.{length};
 ghost use Rattle.protector_state.specs.State.{stateLen};
 ghost use Rattle.change_state.specs.State.{stageNumber, stageOf, stageIn, isChanging, changeIn, withChange};
+use abi::limit;
+use abi::phase;
+use abi::place;
+use abi::stage;
 use changes::Change;
 use changes::Stage;
 
@@ -10,40 +14,40 @@ fn stage_number(stage: Stage) -> u64
     ensures { λ r. ⌜ r ≡ stageNumber stage ⌝ }
 {
     match stage {
-        Stage::Idle => 0,
-        Stage::Halted => 1,
-        Stage::ProtectPages => 13,
-        Stage::ProtectRam => 14,
-        Stage::ProtectNew => 15,
-        Stage::ProtectOld => 16,
-        Stage::Wait => 17,
-        Stage::Flush => 18,
-        Stage::TlbWait => 19,
+        Stage::Idle => phase::IDLE,
+        Stage::Halted => phase::HALTED,
+        Stage::ProtectPages => stage::PROTECT_PAGES,
+        Stage::ProtectRam => stage::PROTECT_RAM,
+        Stage::ProtectNew => stage::PROTECT_NEW,
+        Stage::ProtectOld => stage::PROTECT_OLD,
+        Stage::Wait => stage::WAIT,
+        Stage::Flush => stage::FLUSH,
+        Stage::TlbWait => stage::TLB_WAIT,
     }
 }
 
 fn stage_of(n: u64) -> Stage
     ensures { λ r. ⌜ r ≡ stageOf n ⌝ }
 {
-    if n == 13 {
+    if n == stage::PROTECT_PAGES {
         return Stage::ProtectPages;
     }
-    if n == 14 {
+    if n == stage::PROTECT_RAM {
         return Stage::ProtectRam;
     }
-    if n == 15 {
+    if n == stage::PROTECT_NEW {
         return Stage::ProtectNew;
     }
-    if n == 16 {
+    if n == stage::PROTECT_OLD {
         return Stage::ProtectOld;
     }
-    if n == 17 {
+    if n == stage::WAIT {
         return Stage::Wait;
     }
-    if n == 18 {
+    if n == stage::FLUSH {
         return Stage::Flush;
     }
-    if n == 19 {
+    if n == stage::TLB_WAIT {
         return Stage::TlbWait;
     }
     Stage::Halted
@@ -53,7 +57,7 @@ pub fn stage(state: &[u64]) -> Stage
     requires { ⌜ length (now state) ≡ stateLen ⌝ }
     ensures { λ r. ⌜ r ≡ stageIn (now (state .entry)) ⌝ }
 {
-    stage_of(state[0])
+    stage_of(state[place::PHASE])
 }
 
 // Whether a change other than of visibility is under way.
@@ -61,10 +65,10 @@ pub fn is_changing(state: &[u64]) -> bool
     requires { ⌜ length (now state) ≡ stateLen ⌝ }
     ensures { λ r. ⌜ r ≡ isChanging (now (state .entry)) ⌝ }
 {
-    if state[0] < 13 {
+    if state[place::PHASE] < stage::PROTECT_PAGES {
         return false;
     }
-    state[0] < 20
+    state[place::PHASE] < stage::END
 }
 
 pub fn load(state: &[u64]) -> Change
@@ -72,14 +76,14 @@ pub fn load(state: &[u64]) -> Change
     ensures { λ r. ⌜ r ≡ changeIn (now (state .entry)) ⌝ }
 {
     Change {
-        vtl: permissions::vtl_of(state[2]),
-        flush: permissions::vtl_of(state[10]),
-        n: numbers::least(state[3], 512),
-        at: state[4],
-        flags: state[11],
-        previous: state[12],
-        source: state[13],
-        count: state[9],
+        vtl: permissions::vtl_of(state[place::VTL]),
+        flush: permissions::vtl_of(state[place::FLUSH]),
+        n: numbers::least(state[place::USED], limit::LISTED_PAGES),
+        at: state[place::AT],
+        flags: state[place::FLAGS],
+        previous: state[place::PREVIOUS],
+        source: state[place::SOURCE],
+        count: state[place::COUNT],
     }
 }
 
@@ -92,18 +96,18 @@ pub fn save(state: &mut [u64], stage: Stage, q: Change)
     let g = stage_number(stage);
     let v = permissions::vtl_number(vtl);
     let f = permissions::vtl_number(flush);
-    state[0] = g;
-    state[1] = 0;
-    state[2] = v;
-    state[3] = q.n;
-    state[4] = q.at;
-    state[5] = 0;
-    state[6] = 0;
-    state[7] = 0;
-    state[8] = 0;
-    state[9] = q.count;
-    state[10] = f;
-    state[11] = q.flags;
-    state[12] = q.previous;
-    state[13] = q.source;
+    state[place::PHASE] = g;
+    state[place::SHARE] = 0;
+    state[place::VTL] = v;
+    state[place::USED] = q.n;
+    state[place::AT] = q.at;
+    state[place::STOPPED] = 0;
+    state[place::FAILED] = 0;
+    state[place::INDEX] = 0;
+    state[place::CODE] = 0;
+    state[place::COUNT] = q.count;
+    state[place::FLUSH] = f;
+    state[place::FLAGS] = q.flags;
+    state[place::PREVIOUS] = q.previous;
+    state[place::SOURCE] = q.source;
 }

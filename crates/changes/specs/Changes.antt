@@ -4,6 +4,9 @@ use Prim.Native.Nat.{ℕ, _+_, _%_, _^_}
 use mathlib.Core.List.{List}
 use mathlib.Core.Bool.{Bool, true, false, cond, _&&_}
 use lib.Dec.{eqb, ltb}
+pub use Rattle.abi.specs.Codes.{operationDenied}
+use Rattle.abi.specs.Flags as bits
+use Rattle.abi.specs.Refusals as refusal
 use Rattle.permissions.specs.declared.GuestVtl.{GuestVtl}
 use Rattle.permissions.specs.declared.GuestVtl.the-variants.{Vtl0}
 use Rattle.permissions.specs.Flags.{flagsOf}
@@ -67,7 +70,7 @@ unfoldable pub halt : Change → ChangeStep
 halt q = step at.Halted q (Halted (q .count)) noRun Keep
 
 unfoldable pub keep : Stage → Change → ChangeStep
-keep g q = step g q (Refused 21) noRun Keep
+keep g q = step g q (Refused refusal.nothingAsked) noRun Keep
 
 -- change_vtl_protections, from the run at place a on
 unfoldable pub protectPages : Bool → Change → List ℕ → ℕ → ChangeStep
@@ -136,9 +139,6 @@ flushAnswer at.Wait q = Done (q .count)
 flushAnswer at.Flush q = Ask (Flush (q .flush))
 flushAnswer at.TlbWait q = Ask (TlbWait (q .vtl))
 
-abbrev pub operationDenied : ℕ
-operationDenied = 8
-
 -- the operation outstanding failed: an overlay call gives 16
 unfoldable pub failedOf : Stage → Change → ChangeStep
 failedOf at.Idle q = keep at.Idle q
@@ -171,7 +171,7 @@ startRam tracked v flags first = protectRam tracked (changeOf v flags 0) first
 -- a new overlay page: its new flags are asked for, where they are given (16 where none are); else its current ones stay and it is entered at once
 unfoldable pub startNew : Bool → GuestVtl → ℕ → ℕ → ℕ → ℕ → ChangeStep
 startNew tracked v p source current new =
-    cond (ltb new 16) (protect tracked at.ProtectNew (overlayOf v p new current source) p (run p 1))
+    cond (ltb new bits.noFlags) (protect tracked at.ProtectNew (overlayOf v p new current source) p (run p 1))
     (wait (overlayOf v p current current source) Add)
 
 -- an overlay page unregistered: its previous flags are asked for

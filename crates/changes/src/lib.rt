@@ -7,6 +7,9 @@ ghost use Prim.Native.Nat.{_+_, _<_, _^_};
 ghost use Rattle.acceptor.specs.declared.Answer.the-variants.{Failed};
 ghost use Rattle.acceptor.specs.Steps.{isVtl0};
 ghost use Rattle.changes.specs.Changes.{noRun, noChange, writtenBy, counted, protect, ask, wait, finish, halt, keep, protectPages, protectRam, isFlushing, flushStage, flushChange, operationDenied, doneOf, failedOf, changeOf, overlayOf, startPages, startRam, startNew, startOld};
+use abi::NO_FLAGS;
+use abi::code;
+use abi::refusal;
 use acceptor::Answer;
 use acceptor::Operation;
 use pages::PageRun;
@@ -195,7 +198,7 @@ fn keep(stage: Stage, q: Change) -> ChangeStep
     ChangeStep {
         stage: stage,
         change: q,
-        answer: Answer::Refused(21),
+        answer: Answer::Refused(refusal::NOTHING_ASKED),
         written: no_run(),
         entry: Entry::Keep,
     }
@@ -310,7 +313,7 @@ fn denied(q: Change) -> ChangeStep
     ensures { λ r. ⌜ r ≡ finish (Failed operationDenied 0 (q .count)) ⌝ }
 {
     finish(Answer::Failed {
-        code: 8,
+        code: code::OPERATION_DENIED,
         index: 0,
         count: q.count,
     })
@@ -374,7 +377,7 @@ pub fn start_new(
 ) -> ChangeStep
     ensures { λ r. ⌜ r ≡ startNew tracked vtl gpn source current new ⌝ }
 {
-    if 16 <= new {
+    if NO_FLAGS <= new {
         return wait(overlay_of(vtl, gpn, current, current, source), Entry::Add);
     }
     protect(

@@ -5,6 +5,8 @@ use mathlib.Core.List.{List, [], _∷_}
 use Prim.Native.Nat.{ℕ, zero, suc, _+_, _-_, _/_, max}
 use lib.Dec.{eqb, leb, ltb}
 use lib.ListN.{getD}
+use Rattle.abi.specs.Overlay as overlay
+use Rattle.abi.specs.Lengths.{pageSize}
 use Rattle.bitmap.specs.Pages.{bitAt}
 use Rattle.layout.specs.declared.MemoryRangeWithNode.{MemoryRangeWithNode}
 use Rattle.layout.specs.Layout.{isRam}
@@ -37,7 +39,7 @@ pieceOf P a end = run (startOf P a (end - a)) (lenOf P a (end - a))
 
 -- the first page of an entry, and the page after its last
 abbrev pub pageUp : ℕ → ℕ
-pageUp b = (b + 4095) / 4096
+pageUp b = (b + 4095) / pageSize
 
 -- of an entry, the first stretch from page `at` on
 abbrev pub pieceIn : (ℕ → Bool) → MemoryRangeWithNode → ℕ → PageRun
@@ -76,7 +78,7 @@ wholeByte s = cond s 255 0
 -- the pages of k overlay entries from place o on, in table order
 unfoldable pub pagesFrom : List ℕ → ℕ → ℕ → List ℕ
 pagesFrom t zero o = []
-pagesFrom t (suc k) o = getD t o 0 ∷ pagesFrom t k (o + 5)
+pagesFrom t (suc k) o = getD t o 0 ∷ pagesFrom t k (o + overlay.words)
 
 abbrev pub overlayPages : List ℕ → List ℕ
 overlayPages t = pagesFrom t (used t) 1

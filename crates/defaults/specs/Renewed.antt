@@ -4,6 +4,7 @@ use mathlib.Core.Bool.{cond}
 use mathlib.Core.List.{List, [], _∷_}
 use Prim.Native.Nat.{ℕ, zero, suc, _+_}
 use lib.ListN.{getD}
+use Rattle.abi.specs.Overlay as overlay
 use Rattle.layout.specs.declared.MemoryRangeWithNode.{MemoryRangeWithNode}
 use Rattle.overlays.specs.declared.OverlayPage.{OverlayPage}
 use Rattle.overlays.specs.Overlays.{withPrevious, used, previousWords}
@@ -22,7 +23,7 @@ renewedAt private es bits t o = cond (privateRam private es (getD t o 0)) (previ
 -- k entries from place o on
 unfoldable pub renewedFrom : List ℕ → List MemoryRangeWithNode → ℕ → List ℕ → ℕ → ℕ → List ℕ
 renewedFrom private es bits t zero o = t
-renewedFrom private es bits t (suc k) o = renewedFrom private es bits (renewedAt private es bits t o) k (o + 5)
+renewedFrom private es bits t (suc k) o = renewedFrom private es bits (renewedAt private es bits t o) k (o + overlay.words)
 
 abbrev pub renewed : List ℕ → List MemoryRangeWithNode → ℕ → List ℕ → List ℕ
 renewed private es bits t = renewedFrom private es bits t (used t) 1

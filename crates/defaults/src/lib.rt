@@ -12,6 +12,9 @@ ghost use Rattle.overlays.specs.Overlays.{used};
 ghost use Rattle.defaults.specs.Pieces.{span, startOf, lenOf, pieceOf, pageUp, nextPiece, free, wanted, privateRam, is, wholeByte, overlayPages, outside, stopAt};
 ghost use Rattle.defaults.specs.Barred.{barring, anyOf, barred};
 ghost use Rattle.defaults.specs.Renewed.{renewedAt, renewed};
+use abi::PAGE_SIZE;
+use abi::limit;
+use abi::overlay;
 use pages::PageRun;
 
 // Whether a page is none of `count` pages from `first` on.
@@ -24,7 +27,7 @@ fn is_outside(first: u64, count: u64, p: u64) -> bool
 fn overlay_count(overlays: &[u64]) -> u64
     ensures { λ r. ⌜ r ≡ used (now (overlays .entry)) ⌝ }
 {
-    numbers::least(128, numbers::word_at(overlays, 0))
+    numbers::least(limit::OVERLAYS, numbers::word_at(overlays, 0))
 }
 
 // How many overlay entries come before the first whose page is inside a run.
@@ -34,7 +37,7 @@ fn find_inside(overlays: &[u64], first: u64, count: u64) -> u64
     let n = overlay_count(overlays);
     let mut i: u64 = 0;
     while i < n {
-        let p = numbers::word_at(overlays, 1 + 5 * i);
+        let p = numbers::word_at(overlays, 1 + overlay::WORDS * i);
         if !is_outside(first, count, p) {
             return i;
         }
@@ -56,7 +59,7 @@ fn first_piece(overlays: &[u64], first: u64, count: u64) -> PageRun
             count: count,
         };
     }
-    let p = numbers::word_at(overlays, 1 + 5 * i);
+    let p = numbers::word_at(overlays, 1 + overlay::WORDS * i);
     let left = first_piece(overlays, first, p - first);
     if left.count != 0 {
         return left;
@@ -176,10 +179,10 @@ fn piece_between(private: &[u8], overlays: &[u64], from: u64, end: u64) -> PageR
 fn page_up(address: u64) -> u64
     ensures { λ r. ⌜ r ≡ pageUp address ⌝ }
 {
-    if address % 4096 == 0 {
-        address / 4096
+    if address % PAGE_SIZE == 0 {
+        address / PAGE_SIZE
     } else {
-        address / 4096 + 1
+        address / PAGE_SIZE + 1
     }
 }
 
@@ -257,7 +260,7 @@ fn list_end(locks: &[u64], place: u64) -> u64
 pub fn is_barred(private: &[u8], overlays: &[u64], locks: &[u64], ram: &[u64]) -> bool
     ensures { λ r. ⌜ r ≡ barred (now (private .entry)) (now (overlays .entry)) (now (locks .entry)) (entriesOf (now (ram .entry))) ⌝ }
 {
-    let mut left = numbers::least(64, numbers::word_at(locks, 0));
+    let mut left = numbers::least(limit::LOCKED_LISTS, numbers::word_at(locks, 0));
     let mut place: u64 = 1;
     while 0 < left {
         let end = list_end(locks, place);
@@ -288,7 +291,7 @@ pub fn renew(overlays: &mut [u64], private: &[u8], ram: &[u64], bits: u64)
     let mut place: u64 = 1;
     while 0 < left {
         renew_at(overlays, private, ram, place, bits);
-        place += 5;
+        place += overlay::WORDS;
         left -= 1;
     }
 }

@@ -3,6 +3,8 @@ use mathlib.Core.Bool.{Bool, false, not, cond, _&&_}
 use mathlib.Core.List.{List}
 use Prim.Native.Nat.{ℕ, _/_}
 use lib.Dec.{eqb, ltb}
+use Rattle.abi.specs.Refusals as refusal
+use Rattle.abi.specs.Lengths.{pageSize}
 use Rattle.bitmap.specs.Pages.{bitAt}
 use Rattle.layout.specs.declared.MemoryRangeWithNode.{MemoryRangeWithNode}
 use Rattle.laws.specs.Refusal.{unless}
@@ -62,7 +64,13 @@ faultOf m tracked mapping view p write failure =
 -- 4 unless the maps fit, 8 for a number that names nothing, 7 unless the maps have the page
 unfoldable pub faultRefusal : Bool → ℕ → ℕ → ℕ → ℕ → Bool → ℕ
 faultRefusal fits mapping view write failure inside =
-    unless fits 4 (unless (fitMapping mapping) 8 (unless (fitView view) 8 (unless (fitBool write) 8 (unless (fitBool failure) 8 (unless inside 7 0)))))
+    unless fits refusal.wrongLength
+    (unless (fitMapping mapping) refusal.unfitNumber
+    (unless (fitView view) refusal.unfitNumber
+    (unless (fitBool write) refusal.unfitNumber
+    (unless (fitBool failure) refusal.unfitNumber
+    (unless inside refusal.notRam
+    0)))))
 
 abbrev pub orRefused : ℕ → PageFaultAction → PageFaultAction
 orRefused n a = cond (eqb n 0) a (Refused n)
@@ -70,8 +78,8 @@ orRefused n a = cond (eqb n 0) a (Refused n)
 -- a fault at an address, whose page is address / 4,096
 unfoldable pub pageFault : List MemoryRangeWithNode → Maps → Bool → ℕ → ℕ → ℕ → ℕ → ℕ → PageFaultAction
 pageFault es m tracked mapping view address write failure =
-    orRefused (faultRefusal (mapsFit es tracked m) mapping view write failure (inMaps es (address / 4096)))
-    (faultOf m tracked (mappingOf mapping) (viewOf view) (address / 4096) (boolOf write) (boolOf failure))
+    orRefused (faultRefusal (mapsFit es tracked m) mapping view write failure (inMaps es (address / pageSize)))
+    (faultOf m tracked (mappingOf mapping) (viewOf view) (address / pageSize) (boolOf write) (boolOf failure))
 
 -- the number of 01 for an answer, 0 where nothing is refused; and its value, a number of the port's choice or the code that a refusal carries
 abbrev pub faultNumber : PageFaultAction → ℕ

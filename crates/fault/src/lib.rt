@@ -4,6 +4,8 @@ ghost use Rattle.bitmap.specs.Pages.{bitAt};
 ghost use Rattle.layout.specs.Layout.{entriesOf};
 ghost use Rattle.mapping.specs.Maps.{perms, maps};
 ghost use Rattle.fault.specs.Fault.{mappingOf, viewOf, accessMap, faultOf, faultRefusal, pageFault, faultNumber, faultValue};
+use abi::PAGE_SIZE;
+use abi::refusal;
 
 pub enum GuestMemoryViewReadType {
     Read,
@@ -122,21 +124,21 @@ fn fault_refusal(
     ensures { λ r. ⌜ r ≡ faultRefusal fits mapping view writes failure inside ⌝ }
 {
     if !fits {
-        return 4;
+        return refusal::WRONG_LENGTH;
     }
     if 2 <= mapping {
-        return 8;
+        return refusal::UNFIT_NUMBER;
     }
     if 3 <= view {
-        return 8;
+        return refusal::UNFIT_NUMBER;
     }
     if 2 <= writes {
-        return 8;
+        return refusal::UNFIT_NUMBER;
     }
     if 2 <= failure {
-        return 8;
+        return refusal::UNFIT_NUMBER;
     }
-    if inside { 0 } else { 7 }
+    if inside { 0 } else { refusal::NOT_RAM }
 }
 
 // A fault at an address, as its numbers cross.
@@ -157,7 +159,7 @@ pub fn page_fault(
 ) -> PageFaultAction
     ensures { λ r. ⌜ r ≡ pageFault (entriesOf (now (ram .entry))) (maps (now (private .entry)) (now (shared .entry)) (now (read .entry)) (now (write .entry)) (now (kernel .entry)) (now (user .entry))) tracked mapping view address writes failure ⌝ }
 {
-    let gpn = address / 4096;
+    let gpn = address / PAGE_SIZE;
     let len = layout::map_len(ram);
     let n = fault_refusal(
         mapping::maps_fit(

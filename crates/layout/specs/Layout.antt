@@ -4,6 +4,9 @@ use mathlib.Core.List.{List, [], _∷_}
 use mathlib.Core.Bool.{Bool, true, false, cond, _||_, _&&_}
 use lib.Dec.{eqb, leb, ltb}
 use lib.ListN.{length, getD, drop}
+use Rattle.abi.specs.Limits as limit
+use Rattle.abi.specs.Refusals as refusal
+use Rattle.abi.specs.Lengths.{pageSize, ramAlignment, ramEntryWords}
 use Rattle.laws.specs.Ranges.{between}
 use Rattle.laws.specs.Refusal.{unless}
 use Rattle.layout.specs.declared.MemoryRange.{MemoryRange}
@@ -26,7 +29,7 @@ entryAt es i = getD es i (entry 0 0 0)
 
 -- "RAM layout": whether an entry holds a page, a page being 4,096 bytes
 abbrev pub holdsPage : MemoryRangeWithNode → ℕ → Bool
-holdsPage e p = between (e .start) (e .end) (p * 4096)
+holdsPage e p = between (e .start) (e .end) (p * pageSize)
 
 -- whether a byte is RAM: where an entry holds it; and a page, by its first byte (the entries of a fit layout hold whole pages)
 unfoldable pub ramByte : List MemoryRangeWithNode → ℕ → Bool
@@ -34,7 +37,7 @@ ramByte [] b = false
 ramByte (e ∷ es) b = between (e .start) (e .end) b || ramByte es b
 
 abbrev pub isRam : List MemoryRangeWithNode → ℕ → Bool
-isRam es p = ramByte es (p * 4096)
+isRam es p = ramByte es (p * pageSize)
 
 -- the place of the first entry that holds it, or the number of entries
 unfoldable pub placeOf : List MemoryRangeWithNode → ℕ → ℕ
@@ -51,7 +54,7 @@ ordered from (e ∷ es) = follows from e && ordered (e .end) es
 
 -- refusal 2 where a start or an end lies off the bounds of eight pages
 abbrev pub onBytes : MemoryRangeWithNode → Bool
-onBytes e = eqb (e .start % 0x8000) 0 && eqb (e .end % 0x8000) 0
+onBytes e = eqb (e .start % ramAlignment) 0 && eqb (e .end % ramAlignment) 0
 
 unfoldable pub aligned : List MemoryRangeWithNode → Bool
 aligned [] = true
@@ -60,11 +63,11 @@ aligned (e ∷ es) = onBytes e && aligned es
 -- "From the input": 1, then 2, else 0
 unfoldable pub refusalOf : List ℕ → ℕ
 refusalOf ws =
-    unless (eqb (length ws % 3) 0) 1
-    (unless (ltb 0 (length (entriesOf ws))) 1
-    (unless (leb (length (entriesOf ws)) 32) 1
-    (unless (ordered 0 (entriesOf ws)) 1
-    (unless (aligned (entriesOf ws)) 2
+    unless (eqb (length ws % ramEntryWords) 0) refusal.unfitLayout
+    (unless (ltb 0 (length (entriesOf ws))) refusal.unfitLayout
+    (unless (leb (length (entriesOf ws)) limit.ramEntries) refusal.unfitLayout
+    (unless (ordered 0 (entriesOf ws)) refusal.unfitLayout
+    (unless (aligned (entriesOf ws)) refusal.badAlignment
     0))))
 
 -- the end of the last entry: 0 where there is none
@@ -73,7 +76,7 @@ lastEnd es = entryAt es (length es - 1) .end
 
 -- refusal 4: a page map has a byte for every 32,768 bytes up to there
 abbrev pub mapLen : List MemoryRangeWithNode → ℕ
-mapLen es = lastEnd es / 0x8000
+mapLen es = lastEnd es / ramAlignment
 
 abbrev pub range : ℕ → ℕ → MemoryRange
 range s e = record { start = s; end = e }

@@ -1,9 +1,15 @@
 // The RAM layout as it crosses: three words an entry, its start, its end and its node.
 ghost use mathlib.Core.Path.{_≡_};
 ghost use lib.ListN.{length};
+ghost use Rattle.abi.specs.Refusals as refusal;
 ghost use Rattle.laws.specs.Ranges.{between};
 ghost use Rattle.laws.specs.Refusal.{unless};
 ghost use Rattle.layout.specs.Layout.{entriesOf, entryAt, isRam, placeOf, follows, ordered, onBytes, aligned, refusalOf, lastEnd, mapLen, spanAt};
+use abi::PAGE_SIZE;
+use abi::RAM_ALIGNMENT;
+use abi::RAM_ENTRY_WORDS;
+use abi::limit;
+use abi::refusal;
 
 pub struct MemoryRange {
     pub start: u64,
@@ -26,7 +32,7 @@ pub struct Span {
 pub fn entry_count(ram: &[u64]) -> u64
     ensures { λ r. ⌜ r ≡ length (entriesOf (now (ram .entry))) ⌝ }
 {
-    (ram.len() / 3) as u64
+    (ram.len() / RAM_ENTRY_WORDS) as u64
 }
 
 // An entry: zeros past the last.
@@ -34,8 +40,8 @@ pub fn entry_at(ram: &[u64], i: u64) -> MemoryRangeWithNode
     ensures { λ r. ⌜ r ≡ entryAt (entriesOf (now (ram .entry))) i ⌝ }
 {
     let k = i as usize;
-    if k < ram.len() / 3 {
-        let at = 3 * k;
+    if k < ram.len() / RAM_ENTRY_WORDS {
+        let at = RAM_ENTRY_WORDS * k;
         MemoryRangeWithNode {
             start: ram[at],
             end: ram[at + 1],
@@ -85,8 +91,8 @@ fn is_ordered(ram: &[u64]) -> bool
 fn is_on_bytes(e: MemoryRangeWithNode) -> bool
     ensures { λ r. ⌜ r ≡ onBytes e ⌝ }
 {
-    if e.start % 0x8000 == 0 {
-        e.end % 0x8000 == 0
+    if e.start % RAM_ALIGNMENT == 0 {
+        e.end % RAM_ALIGNMENT == 0
     } else {
         false
     }
@@ -109,12 +115,12 @@ fn is_aligned(ram: &[u64]) -> bool
 
 // 1 comes before 2.
 fn entries_refusal(ordered: bool, aligned: bool) -> u64
-    ensures { λ r. ⌜ r ≡ unless ordered 1 (unless aligned 2 0) ⌝ }
+    ensures { λ r. ⌜ r ≡ unless ordered refusal.unfitLayout (unless aligned refusal.badAlignment 0) ⌝ }
 {
     if ordered {
-        if aligned { 0 } else { 2 }
+        if aligned { 0 } else { refusal::BAD_ALIGNMENT }
     } else {
-        1
+        refusal::UNFIT_LAYOUT
     }
 }
 
@@ -122,15 +128,15 @@ fn entries_refusal(ordered: bool, aligned: bool) -> u64
 pub fn refusal(ram: &[u64]) -> u64
     ensures { λ r. ⌜ r ≡ refusalOf (now (ram .entry)) ⌝ }
 {
-    if ram.len() % 3 != 0 {
-        return 1;
+    if ram.len() % RAM_ENTRY_WORDS != 0 {
+        return refusal::UNFIT_LAYOUT;
     }
     let n = entry_count(ram);
     if n == 0 {
-        return 1;
+        return refusal::UNFIT_LAYOUT;
     }
-    if 32 < n {
-        return 1;
+    if limit::RAM_ENTRIES < n {
+        return refusal::UNFIT_LAYOUT;
     }
     entries_refusal(is_ordered(ram), is_aligned(ram))
 }
@@ -153,7 +159,7 @@ pub fn entry_of(ram: &[u64], gpn: u64) -> u64
     if 0x10_0000_0000_0000 <= gpn {
         return n;
     }
-    let address = gpn * 4096;
+    let address = gpn * PAGE_SIZE;
     let mut i: u64 = 0;
     while i < n {
         let e = entry_at(ram, i);
@@ -188,7 +194,7 @@ pub fn last_end(ram: &[u64]) -> u64
 pub fn map_len(ram: &[u64]) -> u64
     ensures { λ r. ⌜ r ≡ mapLen (entriesOf (now (ram .entry))) ⌝ }
 {
-    last_end(ram) / 0x8000
+    last_end(ram) / RAM_ALIGNMENT
 }
 
 // The span that starts at an entry: empty past the last.

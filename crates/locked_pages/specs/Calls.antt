@@ -4,6 +4,8 @@ use mathlib.Core.List.{List, _++_}
 use Prim.Native.Nat.{ℕ, _+_, _*_}
 use lib.Dec.{eqb}
 use lib.ListN.{length, take, drop}
+use Rattle.abi.specs.Refusals as refusal
+use Rattle.abi.specs.Lengths.{locksLen, locksStart}
 use Rattle.laws.specs.Refusal.{unless}
 use Rattle.permissions.specs.declared.GuestVtl.{GuestVtl}
 use Rattle.permissions.specs.Flags.{fitVtl, vtlOf, vtlNumber}
@@ -31,17 +33,17 @@ ended t n = kept t (finished n (codeOf n) 0 0)
 
 unfoldable pub lockRefusal : List ℕ → ℕ → ℕ → List ℕ → ℕ
 lockRefusal s tables vtl l =
-    unless (eqb (length s) stateLen) 4
+    unless (eqb (length s) stateLen) refusal.wrongLength
     (unless (eqb (statusIn s) 0) (statusIn s)
-    (unless (eqb tables tablesLen) 4
-    (unless (not (isLong l)) 5
-    (unless (fitVtl vtl) 8
-    (unless (not (isRagged l)) 8
+    (unless (eqb tables tablesLen) refusal.wrongLength
+    (unless (not (isLong l)) refusal.longList
+    (unless (fitVtl vtl) refusal.unfitNumber
+    (unless (not (isRagged l)) refusal.unfitNumber
     0)))))
 
 -- the tables with other locks of a VTL
 abbrev pub withLocks : List ℕ → GuestVtl → List ℕ → List ℕ
-withLocks t v locks = take (1282 + 1089 * vtlNumber v) t ++ (locks ++ drop (1282 + 1089 * vtlNumber v + 1089) t)
+withLocks t v locks = take (locksStart + locksLen * vtlNumber v) t ++ (locks ++ drop (locksStart + locksLen * vtlNumber v + locksLen) t)
 
 -- ---- lock_gpns: then 17
 

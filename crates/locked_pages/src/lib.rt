@@ -5,6 +5,10 @@ ghost use Rattle.pages.specs.Pages.{pagesOf};
 ghost use Rattle.locks.specs.Locks.{lockCode, lockWords, unlockCode, unlockWords};
 ghost use Rattle.protector.specs.World.{tablesLen, locksOf};
 ghost use Rattle.locked_pages.specs.Calls.{kept, lockRefusal, withLocks, lockOf, unlockOf};
+use abi::STATE_WORDS;
+use abi::TABLES_WORDS;
+use abi::refusal;
+use abi::table;
 use permissions::GuestVtl;
 use protector_state::Reply;
 
@@ -12,26 +16,26 @@ use protector_state::Reply;
 fn lock_refusal(state: &[u64], tables: u64, vtl: u64, list: &[u8]) -> u64
     ensures { λ r. ⌜ r ≡ lockRefusal (now (state .entry)) tables vtl (now (list .entry)) ⌝ }
 {
-    if state.len() != 128 {
-        return 4;
+    if state.len() != STATE_WORDS {
+        return refusal::WRONG_LENGTH;
     }
     let busy = protector::status(state);
     if busy != 0 {
         return busy;
     }
-    if tables != 3460 {
-        return 4;
+    if tables != TABLES_WORDS {
+        return refusal::WRONG_LENGTH;
     }
     let long = pages::is_long(list);
     let fit = permissions::is_vtl(vtl);
     if long {
-        return 5;
+        return refusal::LONG_LIST;
     }
     if !fit {
-        return 8;
+        return refusal::UNFIT_NUMBER;
     }
     if pages::is_ragged(list) {
-        return 8;
+        return refusal::UNFIT_NUMBER;
     }
     0
 }
@@ -42,8 +46,8 @@ fn lock_of(tables: &mut [u64], vtl: GuestVtl, list: &[u8]) -> u64
     ensures { λ r. ⌜ (r ≡ lockCode (locksOf (now (tables .entry)) vtl) (pagesOf (now (list .entry)))) × (now (tables .exit) ≡ withLocks (now (tables .entry)) vtl (lockWords (locksOf (now (tables .entry)) vtl) (pagesOf (now (list .entry))))) ⌝ }
 {
     match vtl {
-        GuestVtl::Vtl0 => locks::lock(&mut tables[1282..2371], list),
-        GuestVtl::Vtl1 => locks::lock(&mut tables[2371..3460], list),
+        GuestVtl::Vtl0 => locks::lock(&mut tables[table::LOCKS0..table::LOCKS1], list),
+        GuestVtl::Vtl1 => locks::lock(&mut tables[table::LOCKS1..table::END], list),
     }
 }
 
@@ -52,8 +56,8 @@ fn unlock_of(tables: &mut [u64], vtl: GuestVtl, list: &[u8]) -> u64
     ensures { λ r. ⌜ (r ≡ unlockCode (locksOf (now (tables .entry)) vtl) (pagesOf (now (list .entry)))) × (now (tables .exit) ≡ withLocks (now (tables .entry)) vtl (unlockWords (locksOf (now (tables .entry)) vtl) (pagesOf (now (list .entry))))) ⌝ }
 {
     match vtl {
-        GuestVtl::Vtl0 => locks::unlock(&mut tables[1282..2371], list),
-        GuestVtl::Vtl1 => locks::unlock(&mut tables[2371..3460], list),
+        GuestVtl::Vtl0 => locks::unlock(&mut tables[table::LOCKS0..table::LOCKS1], list),
+        GuestVtl::Vtl1 => locks::unlock(&mut tables[table::LOCKS1..table::END], list),
     }
 }
 

@@ -5,6 +5,9 @@ use Prim.Native.Nat.{ℕ, zero, suc, _+_, _-_, _≤_, min, max}
 use lib.Dec.{eqb, ltb, leb}
 use lib.ListN.{getD, set, length}
 use lib.Seq.{sets}
+use Rattle.abi.specs.Limits as limit
+use Rattle.abi.specs.Refusals as refusal
+use Rattle.abi.specs.Lengths.{locksLen}
 use Rattle.pages.specs.Pages.{among}
 use Rattle.pages.specs.Runs.{part}
 use Rattle.words.specs.Words.{padded, closedTo, swapped}
@@ -22,11 +25,11 @@ total [] = 0
 total (l ∷ ls) = length l + total ls
 
 abbrev pub Fit : List (List ℕ) → Type 0
-Fit ls = (length ls ≤ 64) × (total ls ≤ 1024)
+Fit ls = (length ls ≤ limit.lockedLists) × (total ls ≤ limit.lockedPages)
 
 -- one list more, of n pages
 abbrev pub roomFor : List (List ℕ) → ℕ → Bool
-roomFor ls n = ltb (length ls) 64 && leb (total ls + n) 1024
+roomFor ls n = ltb (length ls) limit.lockedLists && leb (total ls + n) limit.lockedPages
 
 -- equal in every place
 unfoldable pub same : List ℕ → List ℕ → Bool
@@ -64,12 +67,12 @@ stream [] = []
 stream (l ∷ ls) = length l ∷ (l ++ stream ls)
 
 unfoldable pub tableOf : List (List ℕ) → List ℕ
-tableOf ls = padded 1089 (length ls ∷ stream ls)
+tableOf ls = padded locksLen (length ls ∷ stream ls)
 
 -- ---- any words: at most 64 lists are read, and none past the end
 
 abbrev pub used : List ℕ → ℕ
-used t = min 64 (getD t 0 0)
+used t = min limit.lockedLists (getD t 0 0)
 
 -- the list that starts at place o, and the place after it
 abbrev pub nextAt : List ℕ → ℕ → ℕ
@@ -93,7 +96,7 @@ listsOf t = listsFrom t (used t) 1
 -- ---- lock: 17 where there is no room
 
 abbrev pub lockCode : List ℕ → List ℕ → ℕ
-lockCode t l = cond (roomFor (listsOf t) (length l)) 0 17
+lockCode t l = cond (roomFor (listsOf t) (length l)) 0 refusal.full
 
 abbrev pub lockWords : List ℕ → List ℕ → List ℕ
 lockWords t l = cond (roomFor (listsOf t) (length l)) (set (sets t (endFrom t (used t) 1) (length l ∷ l)) 0 (used t + 1)) t
@@ -121,7 +124,7 @@ unfoldable pub without : List ℕ → ℕ → List ℕ
 without t o = set (closedTo (lastTo t (nextAt t o)) o (nextAt t o - o) (endAt t)) 0 (used t - 1)
 
 abbrev pub unlockCode : List ℕ → List ℕ → ℕ
-unlockCode t l = cond (kept (listsOf t) l) 0 18
+unlockCode t l = cond (kept (listsOf t) l) 0 refusal.notLocked
 
 abbrev pub unlockWords : List ℕ → List ℕ → List ℕ
 unlockWords t l = cond (kept (listsOf t) l) (without t (placeFrom t (used t) 1 l)) t

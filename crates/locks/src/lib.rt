@@ -5,15 +5,18 @@ ghost use Prim.Native.Nat.{_+_, _-_, _≤_, max};
 ghost use lib.Dec.{ltb, leb};
 ghost use lib.ListN.{length};
 ghost use lib.Seq.{sets};
+ghost use Rattle.abi.specs.Limits as limit;
 ghost use Rattle.words.specs.Words.{swapped};
 ghost use Rattle.pages.specs.Pages.{among, pagesOf};
 ghost use Rattle.pages.specs.Runs.{part};
 ghost use Rattle.locks.specs.Locks.{held, total, same, used, nextAt, listsFrom, endFrom, listsOf, lockCode, lockWords, placeFrom, unlockCode, unlockWords};
+use abi::limit;
+use abi::refusal;
 
 fn count(t: &[u64]) -> u64
     ensures { λ r. ⌜ r ≡ used (now (t .entry)) ⌝ }
 {
-    numbers::least(64, numbers::word_at(t, 0))
+    numbers::least(limit::LOCKED_LISTS, numbers::word_at(t, 0))
 }
 
 // The place after the list that starts at a place.
@@ -112,15 +115,15 @@ fn extent_of(t: &[u64], n: u64) -> Extent
 
 // Whether n pages have room beside c lists with `sum` pages.
 fn has_room(c: u64, sum: u64, n: u64) -> bool
-    ensures { λ r. ⌜ r ≡ (ltb c 64 && leb (sum + n) 1024) ⌝ }
+    ensures { λ r. ⌜ r ≡ (ltb c limit.lockedLists && leb (sum + n) limit.lockedPages) ⌝ }
 {
-    if 64 <= c {
+    if limit::LOCKED_LISTS <= c {
         return false;
     }
-    if 1024 < sum {
+    if limit::LOCKED_PAGES < sum {
         return false;
     }
-    n <= 1024 - sum
+    n <= limit::LOCKED_PAGES - sum
 }
 
 // The pages of a list, written after a place.
@@ -144,7 +147,7 @@ pub fn lock(t: &mut [u64], list: &[u8]) -> u64
     let c = count(t);
     let taken = extent_of(t, c);
     if !has_room(c, taken.total, n) {
-        return 17;
+        return refusal::FULL;
     }
     let place = taken.place;
     words::put(t, place, n);
@@ -220,7 +223,7 @@ pub fn unlock(t: &mut [u64], list: &[u8]) -> u64
     let found = find(t, c, list);
     let place = found.place;
     if place == 0 {
-        return 18;
+        return refusal::NOT_LOCKED;
     }
     let less = numbers::minus(c, 1);
     let end = next(t, place);

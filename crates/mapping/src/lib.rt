@@ -4,10 +4,12 @@ ghost use mathlib.Core.Bool.{true, _&&_};
 ghost use mathlib.Core.Path.{_≡_};
 ghost use Prim.Native.Nat.{_+_, _/_};
 ghost use lib.ListN.{length, replicate};
+ghost use Rattle.abi.specs.Lengths.{pageSize};
 ghost use Rattle.laws.specs.Ranges.{between};
 ghost use Rattle.bitmap.specs.Pages.{written};
 ghost use Rattle.layout.specs.Layout.{entriesOf, isRam};
 ghost use Rattle.mapping.specs.Maps.{perms, maps, fresh, built, permissionLen, marksFit, permissionsFit, flagsAt, permitted};
+use abi::PAGE_SIZE;
 use permissions::HvMapGpaFlags;
 
 // Whether marks of these lengths fit a layout whose maps have `len` bytes.
@@ -72,12 +74,12 @@ fn clear(map: &mut [u8])
 
 // The first page that begins at `address` or after it.
 fn page_up(address: u64) -> u64
-    ensures { λ r. ⌜ r ≡ (address + 4095) / 4096 ⌝ }
+    ensures { λ r. ⌜ r ≡ (address + 4095) / pageSize ⌝ }
 {
-    if address % 4096 == 0 {
-        address / 4096
+    if address % PAGE_SIZE == 0 {
+        address / PAGE_SIZE
     } else {
-        address / 4096 + 1
+        address / PAGE_SIZE + 1
     }
 }
 

@@ -5,6 +5,7 @@ ghost use Rattle.mapping.specs.Maps.{maps};
 ghost use Rattle.overlays.specs.Overlays.{placeOf, countWords};
 ghost use Rattle.protector.specs.World.{world, outcome, tablesLen};
 ghost use Rattle.overlay_pages.specs.Calls.{entryIn, recounted, isOverlayIn, unregisterOf, registerOf};
+use abi::table;
 use overlays::OverlayPage;
 use permissions::GuestVtl;
 use protector_state::Reply;
@@ -32,8 +33,8 @@ fn set_ref_count(tables: &mut [u64], vtl: GuestVtl, gpn: u64, count: u64)
     ensures { λ _. ⌜ now (tables .exit) ≡ recounted (now (tables .entry)) vtl gpn count ⌝ }
 {
     match vtl {
-        GuestVtl::Vtl0 => set_count_in(&mut tables[0..641], gpn, count),
-        GuestVtl::Vtl1 => set_count_in(&mut tables[641..1282], gpn, count),
+        GuestVtl::Vtl0 => set_count_in(&mut tables[table::OVERLAYS0..table::OVERLAYS1], gpn, count),
+        GuestVtl::Vtl1 => set_count_in(&mut tables[table::OVERLAYS1..table::LOCKS0], gpn, count),
     }
 }
 

@@ -2,9 +2,12 @@
 -- order of refusals).
 use mathlib.Core.Bool.{Bool, true, cond, not, _&&_}
 use mathlib.Core.List.{List}
-use Prim.Native.Nat.{ℕ}
+use Prim.Native.Nat.{ℕ, _+_}
 use lib.Dec.{eqb, ltb}
 use lib.ListN.{length}
+use Rattle.abi.specs.Flags as bits
+use Rattle.abi.specs.Limits as limit
+use Rattle.abi.specs.Refusals as refusal
 use Rattle.laws.specs.Refusal.{unless}
 use Rattle.bitmap.specs.Pages.{bitAt}
 use Rattle.layout.specs.declared.MemoryRangeWithNode.{MemoryRangeWithNode}
@@ -23,21 +26,25 @@ use Rattle.protector.specs.World.{overlaysOf, locksOf, isLocked, statusIn}
 
 unfoldable pub callRefusal : List ℕ → Bool → ℕ → ℕ → ℕ
 callRefusal s fit vtl rest =
-    unless (eqb (length s) stateLen) 4
+    unless (eqb (length s) stateLen) refusal.wrongLength
     (unless (eqb (statusIn s) 0) (statusIn s)
-    (unless fit 4
-    (unless (fitVtl vtl) 8
+    (unless fit refusal.wrongLength
+    (unless (fitVtl vtl) refusal.unfitNumber
     rest)))
 
 -- ---- unregister_overlay_page: 14
 
 unfoldable pub unregisterRefusal : List ℕ → Bool → List ℕ → ℕ → ℕ → ℕ
-unregisterRefusal s fit t vtl p = callRefusal s fit vtl (unless (isOverlay (overlaysOf t (vtlOf vtl)) p) 14 0)
+unregisterRefusal s fit t vtl p = callRefusal s fit vtl (unless (isOverlay (overlaysOf t (vtlOf vtl)) p) refusal.noOverlay 0)
 
 -- ---- register_overlay_page: a source as it crosses, guest memory 0 and Dma 1; new flags, 16 where none are given
 
 abbrev pub flagsRefusal : ℕ → ℕ → ℕ → ℕ → ℕ
-flagsRefusal source checked new rest = unless (fitBool source) 8 (unless (fitFlags checked) 8 (unless (ltb new 17) 8 rest))
+flagsRefusal source checked new rest =
+    unless (fitBool source) refusal.unfitNumber
+    (unless (fitFlags checked) refusal.unfitNumber
+    (unless (ltb new (bits.noFlags + 1)) refusal.unfitNumber
+    rest))
 
 -- each flag that is needed is among a page's own
 abbrev pub holds : Bool → Bool → Bool
@@ -51,24 +58,29 @@ within own needed =
 
 -- a known page: the new flags, else the checked, within the overlay's own; then room in its count
 abbrev pub neededOf : ℕ → ℕ → ℕ
-neededOf checked new = cond (ltb new 16) new checked
+neededOf checked new = cond (ltb new bits.noFlags) new checked
 
 unfoldable pub knownRefusal : OverlayPage → ℕ → ℕ → ℕ
 knownRefusal e checked new =
-    unless (within (flagsOf (e .«overlay_permissions»)) (flagsOf (neededOf checked new))) 13 (unless (ltb (e .«ref_count») 65535) 17 0)
+    unless (within (flagsOf (e .«overlay_permissions»)) (flagsOf (neededOf checked new))) refusal.narrow
+    (unless (ltb (e .«ref_count») limit.refCount) refusal.full
+    0)
 
 -- a new page of guest memory: 7, 13 unless its current flags hold the checked, 12 where it is shared, 10, 17
 unfoldable pub guestRefusal : List MemoryRangeWithNode → List ℕ → List ℕ → List ℕ → ℕ → HvMapGpaFlags → ℕ → ℕ
 guestRefusal es shared overlays locks p current checked =
-    unless (isRam es p) 7
-    (unless (within current (flagsOf checked)) 13
-    (unless (not (bitAt 8 shared p)) 12
-    (unless (not (isLocked overlays locks p)) 10
+    unless (isRam es p) refusal.notRam
+    (unless (within current (flagsOf checked)) refusal.narrow
+    (unless (not (bitAt 8 shared p)) refusal.shared
+    (unless (not (isLocked overlays locks p)) refusal.locked
     (addCode overlays))))
 
 -- a new Dma page: 7 where it is RAM, 10, 17
 unfoldable pub dmaRefusal : List MemoryRangeWithNode → List ℕ → List ℕ → ℕ → ℕ
-dmaRefusal es overlays locks p = unless (not (isRam es p)) 7 (unless (not (isLocked overlays locks p)) 10 (addCode overlays))
+dmaRefusal es overlays locks p =
+    unless (not (isRam es p)) refusal.notRam
+    (unless (not (isLocked overlays locks p)) refusal.locked
+    (addCode overlays))
 
 unfoldable pub pageRefusal : List MemoryRangeWithNode → List ℕ → List ℕ → List ℕ → ℕ → ℕ → HvMapGpaFlags → ℕ → ℕ → ℕ
 pageRefusal es shared overlays locks p source current checked new =

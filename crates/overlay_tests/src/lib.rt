@@ -8,6 +8,12 @@ ghost use Rattle.overlays.specs.Overlays.{addCode};
 ghost use Rattle.protector_state.specs.State.{stateLen, entriesIn};
 ghost use Rattle.protector.specs.World.{tablesLen, overlaysOf, locksOf, lengthsFit};
 ghost use Rattle.overlay_tests.specs.Refusals.{callRefusal, unregisterRefusal, flagsRefusal, holds, within, neededOf, knownRefusal, guestRefusal, dmaRefusal, pageRefusal, registerRefusal, currentOf};
+use abi::NO_FLAGS;
+use abi::STATE_WORDS;
+use abi::TABLES_WORDS;
+use abi::limit;
+use abi::place;
+use abi::refusal;
 use overlays::OverlayPage;
 use permissions::GuestVtl;
 use permissions::HvMapGpaFlags;
@@ -16,17 +22,21 @@ use permissions::HvMapGpaFlags;
 pub fn table_refusal(state: &[u64], tables: u64, vtl: u64) -> u64
     ensures { λ r. ⌜ r ≡ callRefusal (now (state .entry)) (eqb tables tablesLen) vtl 0 ⌝ }
 {
-    if state.len() != 128 {
-        return 4;
+    if state.len() != STATE_WORDS {
+        return refusal::WRONG_LENGTH;
     }
     let busy = protector::status(state);
     if busy != 0 {
         return busy;
     }
-    if tables != 3460 {
-        return 4;
+    if tables != TABLES_WORDS {
+        return refusal::WRONG_LENGTH;
     }
-    if permissions::is_vtl(vtl) { 0 } else { 8 }
+    if permissions::is_vtl(vtl) {
+        0
+    } else {
+        refusal::UNFIT_NUMBER
+    }
 }
 
 // The number that refuses a call that is lent all: 0 where none does.
@@ -44,8 +54,8 @@ fn call_refusal(
 ) -> u64
     ensures { λ r. ⌜ r ≡ callRefusal (now (state .entry)) (lengthsFit (now (state .entry)) private shared read write kernel user pages tables) vtl 0 ⌝ }
 {
-    if state.len() != 128 {
-        return 4;
+    if state.len() != STATE_WORDS {
+        return refusal::WRONG_LENGTH;
     }
     let busy = protector::status(state);
     if busy != 0 {
@@ -62,9 +72,13 @@ fn call_refusal(
         pages,
         tables,
     ) {
-        return 4;
+        return refusal::WRONG_LENGTH;
     }
-    if permissions::is_vtl(vtl) { 0 } else { 8 }
+    if permissions::is_vtl(vtl) {
+        0
+    } else {
+        refusal::UNFIT_NUMBER
+    }
 }
 
 pub fn unregister_refusal(
@@ -101,7 +115,7 @@ pub fn unregister_refusal(
     if overlays::is_overlay(protector::overlays_of(tables, v), gpn) {
         0
     } else {
-        14
+        refusal::NO_OVERLAY
     }
 }
 
@@ -109,13 +123,13 @@ fn flags_refusal(source: u64, checked: u64, new: u64) -> u64
     ensures { λ r. ⌜ r ≡ flagsRefusal source checked new 0 ⌝ }
 {
     if 1 < source {
-        return 8;
+        return refusal::UNFIT_NUMBER;
     }
     if !permissions::is_flags(checked) {
-        return 8;
+        return refusal::UNFIT_NUMBER;
     }
-    if 16 < new {
-        return 8;
+    if NO_FLAGS < new {
+        return refusal::UNFIT_NUMBER;
     }
     0
 }
@@ -145,7 +159,7 @@ fn is_within(own: HvMapGpaFlags, needed: HvMapGpaFlags) -> bool
 fn needed_of(checked: u64, new: u64) -> u64
     ensures { λ r. ⌜ r ≡ neededOf checked new ⌝ }
 {
-    if new < 16 { new } else { checked }
+    if new < NO_FLAGS { new } else { checked }
 }
 
 fn known_refusal(e: OverlayPage, checked: u64, new: u64) -> u64
@@ -154,17 +168,25 @@ fn known_refusal(e: OverlayPage, checked: u64, new: u64) -> u64
     let own = HvMapGpaFlags::from_bits(e.overlay_permissions);
     let needed = HvMapGpaFlags::from_bits(needed_of(checked, new));
     if !is_within(own, needed) {
-        return 13;
+        return refusal::NARROW;
     }
-    if e.ref_count < 65535 { 0 } else { 17 }
+    if e.ref_count < limit::REF_COUNT {
+        0
+    } else {
+        refusal::FULL
+    }
 }
 
 // 17 where no entry can be added.
 fn add_code(overlays: &[u64]) -> u64
     ensures { λ r. ⌜ r ≡ addCode (now (overlays .entry)) ⌝ }
 {
-    let used = numbers::least(128, numbers::word_at(overlays, 0));
-    if used < 128 { 0 } else { 17 }
+    let used = numbers::least(limit::OVERLAYS, numbers::word_at(overlays, 0));
+    if used < limit::OVERLAYS {
+        0
+    } else {
+        refusal::FULL
+    }
 }
 
 fn guest_refusal(
@@ -179,16 +201,16 @@ fn guest_refusal(
     ensures { λ r. ⌜ r ≡ guestRefusal (entriesOf (now (ram .entry))) (now (shared .entry)) (now (overlays .entry)) (now (locks .entry)) gpn current checked ⌝ }
 {
     if !layout::is_in_guest_memory(ram, gpn) {
-        return 7;
+        return refusal::NOT_RAM;
     }
     if !is_within(current, HvMapGpaFlags::from_bits(checked)) {
-        return 13;
+        return refusal::NARROW;
     }
     if bitmap::page_state(shared, gpn) {
-        return 12;
+        return refusal::SHARED;
     }
     if protector::is_locked(overlays, locks, gpn) {
-        return 10;
+        return refusal::LOCKED;
     }
     add_code(overlays)
 }
@@ -197,10 +219,10 @@ fn dma_refusal(ram: &[u64], overlays: &[u64], locks: &[u64], gpn: u64) -> u64
     ensures { λ r. ⌜ r ≡ dmaRefusal (entriesOf (now (ram .entry))) (now (overlays .entry)) (now (locks .entry)) gpn ⌝ }
 {
     if layout::is_in_guest_memory(ram, gpn) {
-        return 7;
+        return refusal::NOT_RAM;
     }
     if protector::is_locked(overlays, locks, gpn) {
-        return 10;
+        return refusal::LOCKED;
     }
     add_code(overlays)
 }
@@ -317,6 +339,6 @@ pub fn current_flags(
     if source == 1 {
         return HvMapGpaFlags::none();
     }
-    let tracked = numbers::word_at(state, 17) == 1;
+    let tracked = numbers::word_at(state, place::TRACKED as u64) == 1;
     access::lower_flags(read, write, kernel, user, tracked, vtl, gpn)
 }

@@ -5,6 +5,10 @@ use Prim.Native.Nat.{ℕ, zero, suc, _+_, _-_, _*_, min}
 use lib.Dec.{eqb, ltb}
 use lib.ListN.{length, getD, set}
 use lib.Seq.{sets}
+use Rattle.abi.specs.Limits as limit
+use Rattle.abi.specs.Overlay as overlay
+use Rattle.abi.specs.Refusals as refusal
+use Rattle.abi.specs.Lengths.{overlaysLen}
 use Rattle.words.specs.Words.{padded, closedTo}
 use Rattle.overlays.specs.declared.OverlayPage.{OverlayPage}
 
@@ -47,17 +51,17 @@ flat [] = []
 flat (e ∷ es) = wordsOf e ++ flat es
 
 unfoldable pub tableOf : List OverlayPage → List ℕ
-tableOf es = padded 641 (length es ∷ flat es)
+tableOf es = padded overlaysLen (length es ∷ flat es)
 
 -- ---- any words: at most 128 entries are read
 
 abbrev pub used : List ℕ → ℕ
-used t = min 128 (getD t 0 0)
+used t = min limit.overlays (getD t 0 0)
 
 -- of k entries from place o on, where the first of a page stands: 0 where none does
 unfoldable pub placeFrom : List ℕ → ℕ → ℕ → ℕ → ℕ
 placeFrom t zero o p = 0
-placeFrom t (suc k) o p = cond (eqb p (getD t o 0)) o (placeFrom t k (o + 5) p)
+placeFrom t (suc k) o p = cond (eqb p (getD t o 0)) o (placeFrom t k (o + overlay.words) p)
 
 abbrev pub placeOf : List ℕ → ℕ → ℕ
 placeOf t p = placeFrom t (used t) 1 p
@@ -66,21 +70,21 @@ abbrev pub isOverlay : List ℕ → ℕ → Bool
 isOverlay t p = not (eqb (placeOf t p) 0)
 
 abbrev pub entryAt : List ℕ → ℕ → OverlayPage
-entryAt t o = entry (getD t o 0) (getD t (o + 1) 0) (getD t (o + 2) 0) (getD t (o + 3) 0) (getD t (o + 4) 0)
+entryAt t o = entry (getD t o 0) (getD t (o + overlay.previous) 0) (getD t (o + overlay.own) 0) (getD t (o + overlay.count) 0) (getD t (o + overlay.source) 0)
 
 -- 17 where 128 are there
 abbrev pub addCode : List ℕ → ℕ
-addCode t = cond (ltb (used t) 128) 0 17
+addCode t = cond (ltb (used t) limit.overlays) 0 refusal.full
 
 abbrev pub addWords : List ℕ → OverlayPage → List ℕ
-addWords t e = cond (ltb (used t) 128) (set (sets t (1 + 5 * used t) (wordsOf e)) 0 (used t + 1)) t
+addWords t e = cond (ltb (used t) limit.overlays) (set (sets t (1 + overlay.words * used t) (wordsOf e)) 0 (used t + 1)) t
 
 abbrev pub previousWords : List ℕ → ℕ → ℕ → List ℕ
-previousWords t o v = set t (o + 1) v
+previousWords t o v = set t (o + overlay.previous) v
 
 abbrev pub countWords : List ℕ → ℕ → ℕ → List ℕ
-countWords t o n = set t (o + 3) n
+countWords t o n = set t (o + overlay.count) n
 
 -- the entries after it close the gap
 abbrev pub removeWords : List ℕ → ℕ → List ℕ
-removeWords t o = set (closedTo t o 5 (1 + 5 * used t)) 0 (used t - 1)
+removeWords t o = set (closedTo t o overlay.words (1 + overlay.words * used t)) 0 (used t - 1)

@@ -2,8 +2,12 @@
 ghost use mathlib.Core.Path.{_≡_};
 ghost use Prim.Native.Nat.{_≤_};
 ghost use lib.ListN.{length, take};
+ghost use Rattle.abi.specs.Limits as limit;
 ghost use Rattle.overlays.specs.Search.{findFrom};
 ghost use Rattle.overlays.specs.Overlays.{used, placeOf, isOverlay, entryAt, addCode, addWords, previousWords, countWords, removeWords};
+use abi::limit;
+use abi::overlay;
+use abi::refusal;
 
 // Permissions are flag bits. gpn_source: 0 guest memory, 1 Dma.
 pub struct OverlayPage {
@@ -36,8 +40,8 @@ pub fn find_in(entries: &[OverlayPage], used: usize, gpn: u64) -> Found
 }
 
 // The same of entries by value, which are lent to it.
-pub fn find_loaded(entries: [OverlayPage; 128], used: usize, gpn: u64) -> Found
-    requires { ⌜ used ≤ 128 ⌝ }
+pub fn find_loaded(entries: [OverlayPage; limit::OVERLAYS as usize], used: usize, gpn: u64) -> Found
+    requires { ⌜ used ≤ limit.overlays ⌝ }
     ensures { λ r. ⌜ r ≡ findFrom (take used entries) gpn 0 ⌝ }
 {
     find_in(&entries, used, gpn)
@@ -46,7 +50,7 @@ pub fn find_loaded(entries: [OverlayPage; 128], used: usize, gpn: u64) -> Found
 fn entry_count(t: &[u64]) -> u64
     ensures { λ r. ⌜ r ≡ used (now (t .entry)) ⌝ }
 {
-    numbers::least(128, numbers::word_at(t, 0))
+    numbers::least(limit::OVERLAYS, numbers::word_at(t, 0))
 }
 
 // Where the first entry of a page stands: 0 where there is none.
@@ -60,7 +64,7 @@ pub fn find(t: &[u64], gpn: u64) -> u64
         if gpn == p {
             return place;
         }
-        place += 5;
+        place += overlay::WORDS;
         left -= 1;
     }
     0
@@ -76,10 +80,10 @@ pub fn entry_at(t: &[u64], place: u64) -> OverlayPage
     ensures { λ r. ⌜ r ≡ entryAt (now (t .entry)) place ⌝ }
 {
     let page = numbers::word_at(t, place);
-    let previous = words::word_after(t, place, 1);
-    let own = words::word_after(t, place, 2);
-    let count = words::word_after(t, place, 3);
-    let source = words::word_after(t, place, 4);
+    let previous = words::word_after(t, place, overlay::PREVIOUS);
+    let own = words::word_after(t, place, overlay::OWN);
+    let count = words::word_after(t, place, overlay::COUNT);
+    let source = words::word_after(t, place, overlay::SOURCE);
     OverlayPage {
         gpn: page,
         previous_permissions: previous,
@@ -94,15 +98,15 @@ pub fn add(t: &mut [u64], e: OverlayPage) -> u64
     ensures { λ r. ⌜ (r ≡ addCode (now (t .entry))) × (now (t .exit) ≡ addWords (now (t .entry)) e) ⌝ }
 {
     let n = entry_count(t);
-    if 128 <= n {
-        return 17;
+    if limit::OVERLAYS <= n {
+        return refusal::FULL;
     }
-    let place = 1 + 5 * n;
+    let place = 1 + overlay::WORDS * n;
     words::put(t, place, e.gpn);
-    words::put(t, place + 1, e.previous_permissions);
-    words::put(t, place + 2, e.overlay_permissions);
-    words::put(t, place + 3, e.ref_count);
-    words::put(t, place + 4, e.gpn_source);
+    words::put(t, place + overlay::PREVIOUS, e.previous_permissions);
+    words::put(t, place + overlay::OWN, e.overlay_permissions);
+    words::put(t, place + overlay::COUNT, e.ref_count);
+    words::put(t, place + overlay::SOURCE, e.gpn_source);
     words::put(t, 0, n + 1);
     0
 }
@@ -110,13 +114,13 @@ pub fn add(t: &mut [u64], e: OverlayPage) -> u64
 pub fn set_previous(t: &mut [u64], place: u64, bits: u64)
     ensures { λ _. ⌜ now (t .exit) ≡ previousWords (now (t .entry)) place bits ⌝ }
 {
-    words::put_after(t, place, 1, bits);
+    words::put_after(t, place, overlay::PREVIOUS, bits);
 }
 
 pub fn set_count(t: &mut [u64], place: u64, count: u64)
     ensures { λ _. ⌜ now (t .exit) ≡ countWords (now (t .entry)) place count ⌝ }
 {
-    words::put_after(t, place, 3, count);
+    words::put_after(t, place, overlay::COUNT, count);
 }
 
 // The entry at a place goes: those after it move down.
@@ -124,6 +128,6 @@ pub fn remove(t: &mut [u64], place: u64)
     ensures { λ _. ⌜ now (t .exit) ≡ removeWords (now (t .entry)) place ⌝ }
 {
     let n = entry_count(t);
-    words::close_gap(t, place, 5, 1 + 5 * n);
+    words::close_gap(t, place, overlay::WORDS, 1 + overlay::WORDS * n);
     words::put(t, 0, numbers::minus(n, 1));
 }

@@ -4,6 +4,7 @@ use mathlib.Core.List.{List, [], _∷_}
 use Prim.Native.Nat.{ℕ, zero, suc, _+_, _*_, _/_, _%_}
 use lib.Dec.{eqb, ltb}
 use lib.ListN.{length, getD}
+use Rattle.abi.specs.Limits as limit
 
 -- a number of eight bytes, the lowest first
 unfoldable pub numberOf : ℕ → ℕ → ℕ → ℕ → ℕ → ℕ → ℕ → ℕ → ℕ
@@ -25,7 +26,7 @@ pagesOf l = numbersFrom l 0 (length l / 8)
 
 -- 5: over 512 pages, in bytes
 abbrev pub isLong : List ℕ → Bool
-isLong l = ltb 4096 (length l)
+isLong l = ltb limit.listBytes (length l)
 
 -- 6: a page that stands twice
 unfoldable pub among : List ℕ → ℕ → Bool

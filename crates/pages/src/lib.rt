@@ -6,6 +6,7 @@ ghost use lib.Dec.{eqb};
 ghost use lib.ListN.{length, getD, drop};
 ghost use Rattle.pages.specs.Pages.{numberOf, pagesOf, isLong, among, repeats, isRagged, steps, strict};
 ghost use Rattle.pages.specs.Runs.{runAt};
+use abi::limit;
 
 pub struct PageRun {
     pub first: u64,
@@ -58,7 +59,7 @@ pub fn page_at(list: &[u8], i: u64) -> u64
 pub fn is_long(list: &[u8]) -> bool
     ensures { λ r. ⌜ r ≡ isLong (now (list .entry)) ⌝ }
 {
-    4096 < list.len()
+    limit::LIST_BYTES < list.len()
 }
 
 // Whether bytes are over after the last page.

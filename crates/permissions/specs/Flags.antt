@@ -3,6 +3,7 @@
 use mathlib.Core.Bool.{Bool, true, false, cond, _&&_}
 use Prim.Native.Nat.{ℕ, _+_, _*_, _/_, _%_}
 use lib.Dec.{eqb, leb, ltb}
+use Rattle.abi.specs.Flags.{flagsEnd}
 use Rattle.laws.specs.Bools.{digit}
 use Rattle.permissions.specs.declared.GuestVtl.{GuestVtl}
 use Rattle.permissions.specs.declared.GuestVtl.the-variants.{Vtl0, Vtl1}
@@ -30,7 +31,7 @@ isolationOf n = cond (eqb n 2) Snp (cond (eqb n 3) Tdx Cca)
 
 -- readable 1, writable 2, kernel execute 4, user execute 8
 abbrev pub fitFlags : ℕ → Bool
-fitFlags n = ltb n 16
+fitFlags n = ltb n flagsEnd
 
 abbrev pub flagsOf : ℕ → HvMapGpaFlags
 flagsOf n =

@@ -6,6 +6,9 @@ ghost use Rattle.permissions.specs.Flags.{fitVtl, vtlOf, vtlNumber, fitI
 ghost use Rattle.permissions.specs.Defaults.{firstDefaults, withDefault};
 ghost use Rattle.permissions.specs.Rmpadjust.{operandOf};
 ghost use Rattle.permissions.specs.HvError.{codeOf};
+use abi::FLAGS_END;
+use abi::code;
+use abi::refusal;
 
 pub enum GuestVtl {
     Vtl0,
@@ -87,7 +90,7 @@ pub fn isolation_of(n: u64) -> IsolationType
 pub fn is_flags(n: u64) -> bool
     ensures { λ r. ⌜ r ≡ fitFlags n ⌝ }
 {
-    n < 16
+    n < FLAGS_END
 }
 
 impl HvMapGpaFlags {
@@ -230,7 +233,7 @@ const RMPADJUST: [u64; 32] = [
 pub fn rmpadjust(vtl: GuestVtl, protections: HvMapGpaFlags) -> u64
     ensures { λ r. ⌜ r ≡ operandOf vtl protections ⌝ }
 {
-    let i = 16 * vtl_number(vtl) + protections.into_bits();
+    let i = FLAGS_END * vtl_number(vtl) + protections.into_bits();
     RMPADJUST[i as usize]
 }
 
@@ -238,14 +241,18 @@ pub fn rmpadjust(vtl: GuestVtl, protections: HvMapGpaFlags) -> u64
 pub fn hv_error(number: u64) -> u64
     ensures { λ r. ⌜ r ≡ codeOf number ⌝ }
 {
-    if number == 7 {
-        return 8;
+    if number == refusal::NOT_RAM {
+        return code::OPERATION_DENIED;
     }
-    if number < 10 {
+    if number < refusal::LOCKED {
         return 0;
     }
-    if number < 15 {
-        return 8;
+    if number < refusal::ACCESS_DENIED {
+        return code::OPERATION_DENIED;
     }
-    if number == 15 { 6 } else { 0 }
+    if number == refusal::ACCESS_DENIED {
+        code::ACCESS_DENIED
+    } else {
+        0
+    }
 }

@@ -1,4 +1,5 @@
 -- What crosses for Flush, TlbWait and the end that follows them: `flushAnswer` of `changes`, whatever the isolation.
+use Rattle.abi.specs.Operations as operation
 use Rattle.changes.specs.declared.Stage.{Stage}
 use Rattle.changes.specs.declared.Stage.the-variants as at
 use Rattle.changes.specs.declared.Change.{Change}
@@ -13,5 +14,5 @@ flushReply at.ProtectRam q = finished 0 0 0 (q .count)
 flushReply at.ProtectNew q = finished 0 0 0 (q .count)
 flushReply at.ProtectOld q = finished 0 0 0 (q .count)
 flushReply at.Wait q = finished 0 0 0 (q .count)
-flushReply at.Flush q = onVtl 9 (q .flush)
-flushReply at.TlbWait q = onVtl 10 (q .vtl)
+flushReply at.Flush q = onVtl operation.flush (q .flush)
+flushReply at.TlbWait q = onVtl operation.tlbWait (q .vtl)

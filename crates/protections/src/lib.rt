@@ -15,6 +15,8 @@ ghost use Rattle.change_state.specs.State.{stageIn, changeIn, withChange};
 ghost use Rattle.protections.specs.Flush.{flushReply};
 ghost use Rattle.protector.specs.World.{tablesLen, overlaysOf, withOverlays, permittedRun, withoutPage, entered};
 ghost use Rattle.protector.specs.Calls.{pieceAfter, nextIn, afterDone, afterFailed};
+use abi::operation;
+use abi::table;
 use changes::Change;
 use changes::ChangeStep;
 use changes::Entry;
@@ -85,8 +87,8 @@ fn add(tables: &mut [u64], q: Change)
 {
     let vtl = q.vtl;
     match vtl {
-        GuestVtl::Vtl0 => add_in(&mut tables[0..641], q),
-        GuestVtl::Vtl1 => add_in(&mut tables[641..1282], q),
+        GuestVtl::Vtl0 => add_in(&mut tables[table::OVERLAYS0..table::OVERLAYS1], q),
+        GuestVtl::Vtl1 => add_in(&mut tables[table::OVERLAYS1..table::LOCKS0], q),
     }
 }
 
@@ -96,8 +98,8 @@ fn remove(tables: &mut [u64], q: Change)
 {
     let vtl = q.vtl;
     match vtl {
-        GuestVtl::Vtl0 => remove_in(&mut tables[0..641], q.at),
-        GuestVtl::Vtl1 => remove_in(&mut tables[641..1282], q.at),
+        GuestVtl::Vtl0 => remove_in(&mut tables[table::OVERLAYS0..table::OVERLAYS1], q.at),
+        GuestVtl::Vtl1 => remove_in(&mut tables[table::OVERLAYS1..table::LOCKS0], q.at),
     }
 }
 
@@ -211,8 +213,8 @@ fn flush_reply(stage: Stage, q: Change) -> Reply
         Stage::ProtectNew => protector_state::finished(0, 0, 0, q.count),
         Stage::ProtectOld => protector_state::finished(0, 0, 0, q.count),
         Stage::Wait => protector_state::finished(0, 0, 0, q.count),
-        Stage::Flush => protector_state::on_vtl(9, flush),
-        Stage::TlbWait => protector_state::on_vtl(10, vtl),
+        Stage::Flush => protector_state::on_vtl(operation::FLUSH, flush),
+        Stage::TlbWait => protector_state::on_vtl(operation::TLB_WAIT, vtl),
     }
 }
 

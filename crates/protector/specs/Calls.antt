@@ -4,6 +4,7 @@ use mathlib.Core.List.{List, [], _∷_}
 use Prim.Native.Nat.{ℕ}
 use lib.Dec.{eqb, ltb}
 use lib.ListN.{length, take, replicate}
+use Rattle.abi.specs.Refusals as refusal
 use Rattle.laws.specs.Refusal.{unless}
 use Rattle.layout.specs.declared.MemoryRangeWithNode.{MemoryRangeWithNode}
 use Rattle.layout.specs.Layout.{entriesOf, refusalOf, isRam, mapLen}
@@ -66,10 +67,10 @@ buildFits len tracked w =
 unfoldable pub buildRefusal : List ℕ → ℕ → ℕ → ℕ → Bool → ℕ
 buildRefusal ram isolation tracked release fit =
     unless (eqb (refusalOf ram) 0) (refusalOf ram)
-    (unless (fitIsolation isolation) 3
-    (unless fit 4
-    (unless (fitBool tracked) 8
-    (unless (fitBool release) 8
+    (unless (fitIsolation isolation) refusal.unfitIsolation
+    (unless fit refusal.wrongLength
+    (unless (fitBool tracked) refusal.unfitNumber
+    (unless (fitBool release) refusal.unfitNumber
     0))))
 
 -- every map, the state and the tables as a build leaves them, whatever they held
@@ -86,9 +87,9 @@ buildOf w ram isolation tracked release =
 
 abbrev pub pageRefusal : List MemoryRangeWithNode → List ℕ → List ℕ → Bool → ℕ → ℕ
 pageRefusal es overlays locks share p =
-    unless (isRam es p) 7
-    (unless (not (isLocked overlays locks p)) 10
-    (unless (not (share && isOverlay overlays p)) 11
+    unless (isRam es p) refusal.notRam
+    (unless (not (isLocked overlays locks p)) refusal.locked
+    (unless (not (share && isOverlay overlays p)) refusal.overlay
     0))
 
 -- the number of the first page that is refused
@@ -99,14 +100,14 @@ firstRefusal f (p ∷ ps) = cond (eqb (f p) 0) (firstRefusal f ps) (f p)
 -- a visibility as it crosses: private 0, shared 1
 unfoldable pub visibilityRefusal : List ℕ → Bool → List ℕ → ℕ → ℕ → List ℕ → ℕ
 visibilityRefusal s fit tables vtl visibility l =
-    unless (eqb (length s) stateLen) 4
+    unless (eqb (length s) stateLen) refusal.wrongLength
     (unless (eqb (statusIn s) 0) (statusIn s)
-    (unless fit 4
-    (unless (not (isLong l)) 5
-    (unless (not (repeats (pagesOf l))) 6
-    (unless (fitVtl vtl) 8
-    (unless (fitBool visibility) 8
-    (unless (not (isRagged l)) 8
+    (unless fit refusal.wrongLength
+    (unless (not (isLong l)) refusal.longList
+    (unless (not (repeats (pagesOf l))) refusal.repeatedPage
+    (unless (fitVtl vtl) refusal.unfitNumber
+    (unless (fitBool visibility) refusal.unfitNumber
+    (unless (not (isRagged l)) refusal.unfitNumber
     (firstRefusal (pageRefusal (entriesIn s) (overlaysOf tables (vtlOf vtl)) (locksOf tables (vtlOf vtl)) (boolOf visibility)) (pagesOf l)))))))))
 
 -- whether the permission maps are looked at: a share that VTL0 asks for, once protections are enabled
@@ -137,10 +138,10 @@ visibilityOf w vtl visibility l = decided w (visibilityRefusal (w .state) (fits 
 
 unfoldable pub answerRefusal : List ℕ → Bool → Bool → ℕ
 answerRefusal s fit failed =
-    unless (eqb (length s) stateLen) 4
-    (unless (not (eqb (statusIn s) 20)) 20
-    (unless fit 4
-    (unless (takesIn s failed) 21
+    unless (eqb (length s) stateLen) refusal.wrongLength
+    (unless (not (eqb (statusIn s) refusal.halted)) refusal.halted
+    (unless fit refusal.wrongLength
+    (unless (takesIn s failed) refusal.nothingAsked
     0)))
 
 -- what waits is a default change's Protect: its next piece

@@ -4,6 +4,9 @@ use mathlib.Core.List.{List, _++_}
 use Prim.Native.Nat.{ℕ, _+_, _*_}
 use lib.Dec.{eqb, leb}
 use lib.ListN.{length, drop, take}
+pub use Rattle.abi.specs.Lengths.{pagesLen, tablesLen}
+use Rattle.abi.specs.Refusals as refusal
+use Rattle.abi.specs.Lengths.{overlaysLen, locksLen, locksStart}
 use Rattle.permissions.specs.declared.GuestVtl.{GuestVtl}
 use Rattle.permissions.specs.declared.HvMapGpaFlags.{HvMapGpaFlags}
 use Rattle.permissions.specs.Flags.{vtlNumber}
@@ -44,19 +47,13 @@ pub record Outcome : Type 0 where
 abbrev pub outcome : Maps → List ℕ → List ℕ → List ℕ → Reply → Outcome
 outcome m s p t r = record { world = world m s p t; reply = r }
 
-abbrev pub pagesLen : ℕ
-pagesLen = 1024
-
-abbrev pub tablesLen : ℕ
-tablesLen = 3460
-
 -- ---- the tables: overlays of VTL0 and VTL1, 641 words each, then locks of VTL0 and VTL1, 1,089 words each
 
 abbrev pub overlaysOf : List ℕ → GuestVtl → List ℕ
-overlaysOf t v = take 641 (drop (641 * vtlNumber v) t)
+overlaysOf t v = take overlaysLen (drop (overlaysLen * vtlNumber v) t)
 
 abbrev pub locksOf : List ℕ → GuestVtl → List ℕ
-locksOf t v = take 1089 (drop (1282 + 1089 * vtlNumber v) t)
+locksOf t v = take locksLen (drop (locksStart + locksLen * vtlNumber v) t)
 
 -- locked: in one of the lists, and not an overlay
 abbrev pub isLocked : List ℕ → List ℕ → ℕ → Bool
@@ -78,21 +75,21 @@ fits w =
 
 abbrev pub statusOf : Phase → ℕ
 statusOf Idle = 0
-statusOf Halted = 20
-statusOf Wait = 19
-statusOf FlushAll = 19
-statusOf ProtectNone0 = 19
-statusOf ProtectNone1 = 19
-statusOf Invalidate = 19
-statusOf Release = 19
-statusOf Modify = 19
-statusOf Accept = 19
-statusOf Zero = 19
-statusOf ProtectDefault0 = 19
-statusOf ProtectDefault1 = 19
+statusOf Halted = refusal.halted
+statusOf Wait = refusal.busy
+statusOf FlushAll = refusal.busy
+statusOf ProtectNone0 = refusal.busy
+statusOf ProtectNone1 = refusal.busy
+statusOf Invalidate = refusal.busy
+statusOf Release = refusal.busy
+statusOf Modify = refusal.busy
+statusOf Accept = refusal.busy
+statusOf Zero = refusal.busy
+statusOf ProtectDefault0 = refusal.busy
+statusOf ProtectDefault1 = refusal.busy
 
 abbrev pub statusIn : List ℕ → ℕ
-statusIn s = cond (isChanging s) 19 (statusOf (phaseIn s))
+statusIn s = cond (isChanging s) refusal.busy (statusOf (phaseIn s))
 
 -- whether an answer is taken: not where halted (20), nor where nothing waits or what cannot fail is said to have failed (21)
 abbrev pub takes : Phase → Bool → Bool
@@ -157,7 +154,7 @@ permittedRun r f m = permitted (r .first) (r .first + r .count) f m
 
 -- the tables with other overlays of a VTL
 abbrev pub withOverlays : List ℕ → GuestVtl → List ℕ → List ℕ
-withOverlays t v o = take (641 * vtlNumber v) t ++ (o ++ drop (641 * vtlNumber v + 641) t)
+withOverlays t v o = take (overlaysLen * vtlNumber v) t ++ (o ++ drop (overlaysLen * vtlNumber v + overlaysLen) t)
 
 -- the overlays of a VTL without a page's first
 abbrev pub withoutPage : List ℕ → ℕ → List ℕ

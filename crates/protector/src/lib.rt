@@ -14,6 +14,13 @@ ghost use Rattle.protector_state.specs.State.{stateLen, withRequest, settingsOf
 ghost use Rattle.protector_state.specs.Reply.{flatOf};
 ghost use Rattle.protector.specs.World.{pagesLen, tablesLen, overlaysOf, locksOf, isLocked, lengthsFit, statusOf, statusIn, takes, takesAt, takesIn, putPlaces, putPermissions, applied, isEmpty, isNothing};
 ghost use Rattle.protector.specs.Calls.{permissionMapsFit, buildRefusal, pageRefusal, firstRefusal, visibilityRefusal, looksAt, answerRefusal, doneIn};
+use abi::PAGES_WORDS;
+use abi::STATE_WORDS;
+use abi::TABLES_WORDS;
+use abi::operation;
+use abi::place;
+use abi::refusal;
+use abi::table;
 use acceptor::Next;
 use acceptor::Phase;
 use acceptor::Places;
@@ -32,8 +39,8 @@ pub fn overlays_of(tables: &[u64], vtl: GuestVtl) -> &[u64]
     ensures { λ r. ⌜ now r ≡ overlaysOf (now (tables .entry)) vtl ⌝ }
 {
     match vtl {
-        GuestVtl::Vtl0 => &tables[0..641],
-        GuestVtl::Vtl1 => &tables[641..1282],
+        GuestVtl::Vtl0 => &tables[table::OVERLAYS0..table::OVERLAYS1],
+        GuestVtl::Vtl1 => &tables[table::OVERLAYS1..table::LOCKS0],
     }
 }
 
@@ -42,8 +49,8 @@ pub fn locks_of(tables: &[u64], vtl: GuestVtl) -> &[u64]
     ensures { λ r. ⌜ now r ≡ locksOf (now (tables .entry)) vtl ⌝ }
 {
     match vtl {
-        GuestVtl::Vtl0 => &tables[1282..2371],
-        GuestVtl::Vtl1 => &tables[2371..3460],
+        GuestVtl::Vtl0 => &tables[table::LOCKS0..table::LOCKS1],
+        GuestVtl::Vtl1 => &tables[table::LOCKS1..table::END],
     }
 }
 
@@ -73,14 +80,14 @@ pub fn lengths_fit(
     ensures { λ r. ⌜ r ≡ lengthsFit (now (state .entry)) private shared read write kernel user pages tables ⌝ }
 {
     let len = layout::map_len(protector_state::ram_of(state));
-    let tracked = state[17] == 1;
+    let tracked = state[place::TRACKED] == 1;
     if !mapping::maps_fit(len, tracked, private, shared, read, write, kernel, user) {
         return false;
     }
-    if pages != 1024 {
+    if pages != PAGES_WORDS {
         return false;
     }
-    tables == 3460
+    tables == TABLES_WORDS
 }
 
 fn phase_status(phase: Phase) -> u64
@@ -88,18 +95,18 @@ fn phase_status(phase: Phase) -> u64
 {
     match phase {
         Phase::Idle => 0,
-        Phase::Halted => 20,
-        Phase::Wait => 19,
-        Phase::FlushAll => 19,
-        Phase::ProtectNone0 => 19,
-        Phase::ProtectNone1 => 19,
-        Phase::Invalidate => 19,
-        Phase::Release => 19,
-        Phase::Modify => 19,
-        Phase::Accept => 19,
-        Phase::Zero => 19,
-        Phase::ProtectDefault0 => 19,
-        Phase::ProtectDefault1 => 19,
+        Phase::Halted => refusal::HALTED,
+        Phase::Wait => refusal::BUSY,
+        Phase::FlushAll => refusal::BUSY,
+        Phase::ProtectNone0 => refusal::BUSY,
+        Phase::ProtectNone1 => refusal::BUSY,
+        Phase::Invalidate => refusal::BUSY,
+        Phase::Release => refusal::BUSY,
+        Phase::Modify => refusal::BUSY,
+        Phase::Accept => refusal::BUSY,
+        Phase::Zero => refusal::BUSY,
+        Phase::ProtectDefault0 => refusal::BUSY,
+        Phase::ProtectDefault1 => refusal::BUSY,
     }
 }
 
@@ -109,7 +116,7 @@ pub fn status(state: &[u64]) -> u64
     ensures { λ r. ⌜ r ≡ statusIn (now (state .entry)) ⌝ }
 {
     if change_state::is_changing(state) {
-        return 19;
+        return refusal::BUSY;
     }
     phase_status(protector_state::phase(state))
 }
@@ -166,14 +173,14 @@ fn page_refusal(ram: &[u64], overlays: &[u64], locks: &[u64], share: bool, gpn: 
     ensures { λ r. ⌜ r ≡ pageRefusal (entriesOf (now (ram .entry))) (now (overlays .entry)) (now (locks .entry)) share gpn ⌝ }
 {
     if !layout::is_in_guest_memory(ram, gpn) {
-        return 7;
+        return refusal::NOT_RAM;
     }
     if is_locked(overlays, locks, gpn) {
-        return 10;
+        return refusal::LOCKED;
     }
     if share {
         if overlays::is_overlay(overlays, gpn) {
-            return 11;
+            return refusal::OVERLAY;
         }
     }
     0
@@ -227,8 +234,8 @@ pub fn visibility_refusal(
 ) -> u64
     ensures { λ r. ⌜ r ≡ visibilityRefusal (now (state .entry)) (lengthsFit (now (state .entry)) private shared read write kernel user pages (length (now (tables .entry)))) (now (tables .entry)) vtl visibility (now (list .entry)) ⌝ }
 {
-    if state.len() != 128 {
-        return 4;
+    if state.len() != STATE_WORDS {
+        return refusal::WRONG_LENGTH;
     }
     let busy = status(state);
     if busy != 0 {
@@ -246,22 +253,22 @@ pub fn visibility_refusal(
         pages,
         held,
     ) {
-        return 4;
+        return refusal::WRONG_LENGTH;
     }
     if pages::is_long(list) {
-        return 5;
+        return refusal::LONG_LIST;
     }
     if pages::has_repeat(list) {
-        return 6;
+        return refusal::REPEATED_PAGE;
     }
     if !permissions::is_vtl(vtl) {
-        return 8;
+        return refusal::UNFIT_NUMBER;
     }
     if 1 < visibility {
-        return 8;
+        return refusal::UNFIT_NUMBER;
     }
     if pages::is_ragged(list) {
-        return 8;
+        return refusal::UNFIT_NUMBER;
     }
     let v = permissions::vtl_of(vtl);
     listed_refusal(state, tables, v, visibility == 1, list)
@@ -295,11 +302,11 @@ pub fn answer_refusal(
 ) -> u64
     ensures { λ r. ⌜ r ≡ answerRefusal (now (state .entry)) (lengthsFit (now (state .entry)) private shared read write kernel user pages tables) failed ⌝ }
 {
-    if state.len() != 128 {
-        return 4;
+    if state.len() != STATE_WORDS {
+        return refusal::WRONG_LENGTH;
     }
-    if status(state) == 20 {
-        return 20;
+    if status(state) == refusal::HALTED {
+        return refusal::HALTED;
     }
     if !lengths_fit(
         state,
@@ -312,9 +319,13 @@ pub fn answer_refusal(
         pages,
         tables,
     ) {
-        return 4;
+        return refusal::WRONG_LENGTH;
     }
-    if takes(state, failed) { 0 } else { 21 }
+    if takes(state, failed) {
+        0
+    } else {
+        refusal::NOTHING_ASKED
+    }
 }
 
 fn set_marks(map: &mut [u8], pages: &[u64], places: Places, state: bool)
@@ -548,7 +559,7 @@ pub fn begin(
         Phase::Wait,
         acceptor::asked(vtl, share, n, stop, stopped),
     );
-    protector_state::plain(1)
+    protector_state::plain(operation::WAIT)
 }
 
 fn permission_maps_fit(
@@ -571,13 +582,13 @@ fn permission_maps_fit(
 fn blocks_fit(state: u64, pages: u64, tables: u64) -> bool
     ensures { λ r. ⌜ r ≡ (eqb state stateLen && (eqb pages pagesLen && eqb tables tablesLen)) ⌝ }
 {
-    if state != 128 {
+    if state != STATE_WORDS as u64 {
         return false;
     }
-    if pages != 1024 {
+    if pages != PAGES_WORDS {
         return false;
     }
-    tables == 3460
+    tables == TABLES_WORDS
 }
 
 // Whether what is lent to a build has its lengths.
@@ -615,16 +626,16 @@ pub fn build_refusal(ram: &[u64], isolation: u64, tracked: u64, release: u64, fi
         return n;
     }
     if !permissions::is_isolation(isolation) {
-        return 3;
+        return refusal::UNFIT_ISOLATION;
     }
     if !fit {
-        return 4;
+        return refusal::WRONG_LENGTH;
     }
     if 1 < tracked {
-        return 8;
+        return refusal::UNFIT_NUMBER;
     }
     if 1 < release {
-        return 8;
+        return refusal::UNFIT_NUMBER;
     }
     0
 }

@@ -2,6 +2,8 @@
 -- of the operations are the port's choice.
 use mathlib.Core.Bool.{Bool, cond}
 use Prim.Native.Nat.{ℕ}
+use Rattle.abi.specs.Operations as operation
+use Rattle.abi.specs.Refusals as refusal
 use Rattle.laws.specs.Bools.{digit}
 use Rattle.permissions.specs.declared.GuestVtl.{GuestVtl}
 use Rattle.permissions.specs.declared.IsolationType.{IsolationType}
@@ -37,36 +39,36 @@ onRun o r =
 -- a Protect has its RMPADJUST operand on SNP
 abbrev pub protects : IsolationType → GuestVtl → HvMapGpaFlags → PageRun → Reply
 protects i v f r =
-    record { number = 0; code = 0; index = 0; count = 0; operation = 3; vtl = vtlNumber v; flags = bitsOf f; operand = cond (isSnp i) (operandOf v f) 0; first = r .first; pages = r .count; shared = 0 }
+    record { number = 0; code = 0; index = 0; count = 0; operation = operation.protect; vtl = vtlNumber v; flags = bitsOf f; operand = cond (isSnp i) (operandOf v f) 0; first = r .first; pages = r .count; shared = 0 }
 
 -- a Modify has how many pages it asks for; they are the first of the request's table
 abbrev pub modifies : Bool → ℕ → Reply
 modifies s n =
-    record { number = 0; code = 0; index = 0; count = 0; operation = 6; vtl = 0; flags = 0; operand = 0; first = 0; pages = n; shared = digit s }
+    record { number = 0; code = 0; index = 0; count = 0; operation = operation.modify; vtl = 0; flags = 0; operand = 0; first = 0; pages = n; shared = digit s }
 
 unfoldable pub askedOf : IsolationType → Operation → Reply
-askedOf i Wait = plain 1
-askedOf i FlushAll = plain 2
+askedOf i Wait = plain operation.wait
+askedOf i FlushAll = plain operation.flushAll
 askedOf i (Protect v f r) = protects i v f r
-askedOf i (Invalidate r) = onRun 4 r
-askedOf i (Release r) = onRun 5 r
+askedOf i (Invalidate r) = onRun operation.invalidate r
+askedOf i (Release r) = onRun operation.release r
 askedOf i (Modify s n) = modifies s n
-askedOf i (Accept r) = onRun 7 r
-askedOf i (Zero r) = onRun 8 r
-askedOf i (Flush v) = onVtl 9 v
-askedOf i (TlbWait v) = onVtl 10 v
+askedOf i (Accept r) = onRun operation.accept r
+askedOf i (Zero r) = onRun operation.zero r
+askedOf i (Flush v) = onVtl operation.flush v
+askedOf i (TlbWait v) = onVtl operation.tlbWait v
 
 unfoldable pub flatOf : IsolationType → Answer → Reply
 flatOf i (Done n) = finished 0 0 0 n
-flatOf i (AccessDenied index n) = finished 15 (codeOf 15) index n
-flatOf i (Failed code index n) = finished 16 code index n
-flatOf i (Halted n) = finished 20 0 0 n
+flatOf i (AccessDenied index n) = finished refusal.accessDenied (codeOf refusal.accessDenied) index n
+flatOf i (Failed code index n) = finished refusal.backendFailed code index n
+flatOf i (Halted n) = finished refusal.halted 0 0 n
 flatOf i (Ask o) = askedOf i o
 flatOf i (Refused number) = finished number (codeOf number) 0 0
 
 -- what a visibility change that ends gives, whatever the isolation
 abbrev pub endedOf : Request → Reply
 endedOf q =
-    cond (q .stopped) (finished 15 (codeOf 15) (q .index) (q .count))
-    (cond (q .failed) (finished 16 (q .code) (q .index) (q .count))
+    cond (q .stopped) (finished refusal.accessDenied (codeOf refusal.accessDenied) (q .index) (q .count))
+    (cond (q .failed) (finished refusal.backendFailed (q .code) (q .index) (q .count))
     (finished 0 0 0 (q .count)))

@@ -6,6 +6,12 @@ use mathlib.Core.List.{List, [], _∷_, _++_}
 use Prim.Native.Nat.{ℕ, _-_, _*_, min}
 use lib.Dec.{eqb}
 use lib.ListN.{length, getD, drop, take, replicate}
+pub use Rattle.abi.specs.Lengths.{stateLen}
+use Rattle.abi.specs.Flags as bits
+use Rattle.abi.specs.Limits as limit
+use Rattle.abi.specs.Phases as phase
+use Rattle.abi.specs.Places as place
+use Rattle.abi.specs.Lengths.{ramEntryWords, ramLen}
 use Rattle.laws.specs.Bools.{digit}
 use Rattle.layout.specs.declared.MemoryRangeWithNode.{MemoryRangeWithNode}
 use Rattle.layout.specs.Layout.{entriesOf}
@@ -17,62 +23,59 @@ use Rattle.acceptor.specs.declared.Phase.the-variants.{Idle, Halted, Wait, Flus
 use Rattle.acceptor.specs.declared.Request.{Request}
 use Rattle.acceptor.specs.declared.Settings.{Settings}
 
-abbrev pub stateLen : ℕ
-stateLen = 128
-
 -- ---- a visibility change under way
 
 abbrev pub phaseNumber : Phase → ℕ
-phaseNumber Idle = 0
-phaseNumber Halted = 1
-phaseNumber Wait = 2
-phaseNumber FlushAll = 3
-phaseNumber ProtectNone0 = 4
-phaseNumber ProtectNone1 = 5
-phaseNumber Invalidate = 6
-phaseNumber Release = 7
-phaseNumber Modify = 8
-phaseNumber Accept = 9
-phaseNumber Zero = 10
-phaseNumber ProtectDefault0 = 11
-phaseNumber ProtectDefault1 = 12
+phaseNumber Idle = phase.idle
+phaseNumber Halted = phase.halted
+phaseNumber Wait = phase.wait
+phaseNumber FlushAll = phase.flushAll
+phaseNumber ProtectNone0 = phase.protectNone0
+phaseNumber ProtectNone1 = phase.protectNone1
+phaseNumber Invalidate = phase.invalidate
+phaseNumber Release = phase.release
+phaseNumber Modify = phase.modify
+phaseNumber Accept = phase.accept
+phaseNumber Zero = phase.zero
+phaseNumber ProtectDefault0 = phase.protectDefault0
+phaseNumber ProtectDefault1 = phase.protectDefault1
 
 -- a number that names no phase counts as halted
 unfoldable pub firstPhases : ℕ → Phase
 firstPhases n =
-    cond (eqb n 0) Idle
-    (cond (eqb n 2) Wait
-    (cond (eqb n 3) FlushAll
-    (cond (eqb n 4) ProtectNone0
-    (cond (eqb n 5) ProtectNone1
-    (cond (eqb n 6) Invalidate
+    cond (eqb n phase.idle) Idle
+    (cond (eqb n phase.wait) Wait
+    (cond (eqb n phase.flushAll) FlushAll
+    (cond (eqb n phase.protectNone0) ProtectNone0
+    (cond (eqb n phase.protectNone1) ProtectNone1
+    (cond (eqb n phase.invalidate) Invalidate
     Halted)))))
 
 unfoldable pub phaseOf : ℕ → Phase
 phaseOf n =
-    cond (eqb n 7) Release
-    (cond (eqb n 8) Modify
-    (cond (eqb n 9) Accept
-    (cond (eqb n 10) Zero
-    (cond (eqb n 11) ProtectDefault0
-    (cond (eqb n 12) ProtectDefault1
+    cond (eqb n phase.release) Release
+    (cond (eqb n phase.modify) Modify
+    (cond (eqb n phase.accept) Accept
+    (cond (eqb n phase.zero) Zero
+    (cond (eqb n phase.protectDefault0) ProtectDefault0
+    (cond (eqb n phase.protectDefault1) ProtectDefault1
     (firstPhases n))))))
 
 abbrev pub phaseIn : List ℕ → Phase
-phaseIn s = phaseOf (getD s 0 0)
+phaseIn s = phaseOf (getD s place.phase 0)
 
 abbrev pub requestOf : List ℕ → Request
 requestOf s =
     record {
-      share = boolOf (getD s 1 0);
-      vtl = vtlOf (getD s 2 0);
-      n = min (getD s 3 0) 512;
-      at = getD s 4 0;
-      stopped = boolOf (getD s 5 0);
-      failed = boolOf (getD s 6 0);
-      index = getD s 7 0;
-      code = getD s 8 0;
-      count = getD s 9 0;
+      share = boolOf (getD s place.share 0);
+      vtl = vtlOf (getD s place.vtl 0);
+      n = min (getD s place.used 0) limit.listedPages;
+      at = getD s place.at 0;
+      stopped = boolOf (getD s place.stopped 0);
+      failed = boolOf (getD s place.failed 0);
+      index = getD s place.index 0;
+      code = getD s place.code 0;
+      count = getD s place.count 0;
     }
 
 abbrev pub requestWords : Phase → Request → List ℕ
@@ -80,7 +83,7 @@ requestWords p q =
     phaseNumber p ∷ digit (q .share) ∷ vtlNumber (q .vtl) ∷ q .n ∷ q .at ∷ digit (q .stopped) ∷ digit (q .failed) ∷ q .index ∷ q .code ∷ q .count ∷ []
 
 abbrev pub withRequest : Phase → Request → List ℕ → List ℕ
-withRequest p q s = requestWords p q ++ drop 10 s
+withRequest p q s = requestWords p q ++ drop place.afterRequest s
 
 -- ---- the settings: isolation, tracked, release flag, protections enabled, default of VTL0, default of VTL1 (16 where none is given)
 
@@ -90,17 +93,17 @@ optionOf n = cond (fitFlags n) (Some (flagsOf n)) None
 abbrev pub settingsOf : List ℕ → Settings
 settingsOf s =
     record {
-      isolation = isolationOf (getD s 16 0);
-      tracked = boolOf (getD s 17 0);
-      release = boolOf (getD s 18 0);
-      enabled = boolOf (getD s 19 0);
-      defaults = record { vtl0 = flagsOf (getD s 20 0); vtl1 = optionOf (getD s 21 0) };
+      isolation = isolationOf (getD s place.isolation 0);
+      tracked = boolOf (getD s place.tracked 0);
+      release = boolOf (getD s place.release 0);
+      enabled = boolOf (getD s place.enabled 0);
+      defaults = record { vtl0 = flagsOf (getD s place.default0 0); vtl1 = optionOf (getD s place.default1 0) };
     }
 
 -- ---- the RAM layout
 
 abbrev pub ramOf : List ℕ → List ℕ
-ramOf s = take (3 * getD s 31 0) (drop 32 s)
+ramOf s = take (ramEntryWords * getD s place.entries 0) (drop place.ram s)
 
 abbrev pub entriesIn : List ℕ → List MemoryRangeWithNode
 entriesIn s = entriesOf (ramOf s)
@@ -109,4 +112,6 @@ entriesIn s = entriesOf (ramOf s)
 
 abbrev pub builtState : List ℕ → ℕ → ℕ → ℕ → List ℕ
 builtState ram isolation tracked release =
-    replicate 16 0 ++ (isolation ∷ tracked ∷ release ∷ 0 ∷ 15 ∷ 16 ∷ replicate 9 0 ++ (length (entriesOf ram) ∷ ram)) ++ replicate (96 - length ram) 0
+    replicate place.isolation 0
+    ++ (isolation ∷ tracked ∷ release ∷ 0 ∷ bits.allFlags ∷ bits.noFlags ∷ replicate 9 0 ++ (length (entriesOf ram) ∷ ram))
+    ++ replicate (ramLen - length ram) 0

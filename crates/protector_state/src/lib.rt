@@ -3,12 +3,22 @@ ghost use mathlib.Core.Path.{_≡_};
 ghost use Prim.Native.Nat.{_≤_};
 ghost use mathlib.Core.Bool.{cond};
 ghost use lib.ListN.{length};
+ghost use Rattle.abi.specs.Refusals as refusal;
+ghost use Rattle.abi.specs.Lengths.{ramLen};
 ghost use Rattle.acceptor.specs.Steps.{isSnp, orNone, operationOn};
 ghost use Rattle.acceptor.specs.Next.{answerBy};
 ghost use Rattle.permissions.specs.HvError.{codeOf};
 ghost use Rattle.permissions.specs.Rmpadjust.{operandOf};
 ghost use Rattle.protector_state.specs.State.{stateLen, phaseNumber, firstPhases, phaseOf, phaseIn, requestOf, withRequest, optionOf, settingsOf, ramOf, builtState};
 ghost use Rattle.protector_state.specs.Reply.{finished, plain, onVtl, onRun, protects, modifies, askedOf, endedOf, flatOf};
+use abi::ALL_FLAGS;
+use abi::NO_FLAGS;
+use abi::RAM_ENTRY_WORDS;
+use abi::limit;
+use abi::operation;
+use abi::phase;
+use abi::place;
+use abi::refusal;
 use acceptor::Answer;
 use acceptor::Operation;
 use acceptor::Phase;
@@ -136,7 +146,7 @@ fn protect(isolation: IsolationType, vtl: GuestVtl, flags: HvMapGpaFlags, run: P
         code: 0,
         index: 0,
         count: 0,
-        operation: 3,
+        operation: operation::PROTECT,
         vtl: permissions::vtl_number(vtl),
         flags: flags.into_bits(),
         operand: operand(isolation, vtl, flags),
@@ -154,7 +164,7 @@ fn modify(share: bool, n: u64) -> Reply
         code: 0,
         index: 0,
         count: 0,
-        operation: 6,
+        operation: operation::MODIFY,
         vtl: 0,
         flags: 0,
         operand: 0,
@@ -168,23 +178,28 @@ fn asked(isolation: IsolationType, operation: Operation) -> Reply
     ensures { λ r. ⌜ r ≡ askedOf isolation operation ⌝ }
 {
     match operation {
-        Operation::Wait => plain(1),
-        Operation::FlushAll => plain(2),
+        Operation::Wait => plain(operation::WAIT),
+        Operation::FlushAll => plain(operation::FLUSH_ALL),
         Operation::Protect { vtl, flags, run } => protect(isolation, vtl, flags, run),
-        Operation::Invalidate(run) => on_run(4, run),
-        Operation::Release(run) => on_run(5, run),
+        Operation::Invalidate(run) => on_run(operation::INVALIDATE, run),
+        Operation::Release(run) => on_run(operation::RELEASE, run),
         Operation::Modify { share, count } => modify(share, count),
-        Operation::Accept(run) => on_run(7, run),
-        Operation::Zero(run) => on_run(8, run),
-        Operation::Flush(vtl) => on_vtl(9, vtl),
-        Operation::TlbWait(vtl) => on_vtl(10, vtl),
+        Operation::Accept(run) => on_run(operation::ACCEPT, run),
+        Operation::Zero(run) => on_run(operation::ZERO, run),
+        Operation::Flush(vtl) => on_vtl(operation::FLUSH, vtl),
+        Operation::TlbWait(vtl) => on_vtl(operation::TLB_WAIT, vtl),
     }
 }
 
 fn stopped(index: u64, count: u64) -> Reply
-    ensures { λ r. ⌜ r ≡ finished 15 (codeOf 15) index count ⌝ }
+    ensures { λ r. ⌜ r ≡ finished refusal.accessDenied (codeOf refusal.accessDenied) index count ⌝ }
 {
-    finished(15, permissions::hv_error(15), index, count)
+    finished(
+        refusal::ACCESS_DENIED,
+        permissions::hv_error(refusal::ACCESS_DENIED),
+        index,
+        count,
+    )
 }
 
 pub fn flatten(isolation: IsolationType, answer: Answer) -> Reply
@@ -193,8 +208,13 @@ pub fn flatten(isolation: IsolationType, answer: Answer) -> Reply
     match answer {
         Answer::Done(count) => finished(0, 0, 0, count),
         Answer::AccessDenied { index, count } => stopped(index, count),
-        Answer::Failed { code, index, count } => finished(16, code, index, count),
-        Answer::Halted(count) => finished(20, 0, 0, count),
+        Answer::Failed { code, index, count } => finished(
+            refusal::BACKEND_FAILED,
+            code,
+            index,
+            count,
+        ),
+        Answer::Halted(count) => finished(refusal::HALTED, 0, 0, count),
         Answer::Ask(operation) => asked(isolation, operation),
         Answer::Refused(number) => refused(number),
     }
@@ -207,7 +227,7 @@ fn ended(q: Request) -> Reply
         return stopped(q.index, q.count);
     }
     if q.failed {
-        return finished(16, q.code, q.index, q.count);
+        return finished(refusal::BACKEND_FAILED, q.code, q.index, q.count);
     }
     finished(0, 0, 0, q.count)
 }
@@ -216,41 +236,41 @@ fn phase_number(phase: Phase) -> u64
     ensures { λ r. ⌜ r ≡ phaseNumber phase ⌝ }
 {
     match phase {
-        Phase::Idle => 0,
-        Phase::Halted => 1,
-        Phase::Wait => 2,
-        Phase::FlushAll => 3,
-        Phase::ProtectNone0 => 4,
-        Phase::ProtectNone1 => 5,
-        Phase::Invalidate => 6,
-        Phase::Release => 7,
-        Phase::Modify => 8,
-        Phase::Accept => 9,
-        Phase::Zero => 10,
-        Phase::ProtectDefault0 => 11,
-        Phase::ProtectDefault1 => 12,
+        Phase::Idle => phase::IDLE,
+        Phase::Halted => phase::HALTED,
+        Phase::Wait => phase::WAIT,
+        Phase::FlushAll => phase::FLUSH_ALL,
+        Phase::ProtectNone0 => phase::PROTECT_NONE0,
+        Phase::ProtectNone1 => phase::PROTECT_NONE1,
+        Phase::Invalidate => phase::INVALIDATE,
+        Phase::Release => phase::RELEASE,
+        Phase::Modify => phase::MODIFY,
+        Phase::Accept => phase::ACCEPT,
+        Phase::Zero => phase::ZERO,
+        Phase::ProtectDefault0 => phase::PROTECT_DEFAULT0,
+        Phase::ProtectDefault1 => phase::PROTECT_DEFAULT1,
     }
 }
 
 fn first_phases(n: u64) -> Phase
     ensures { λ r. ⌜ r ≡ firstPhases n ⌝ }
 {
-    if n == 0 {
+    if n == phase::IDLE {
         return Phase::Idle;
     }
-    if n == 2 {
+    if n == phase::WAIT {
         return Phase::Wait;
     }
-    if n == 3 {
+    if n == phase::FLUSH_ALL {
         return Phase::FlushAll;
     }
-    if n == 4 {
+    if n == phase::PROTECT_NONE0 {
         return Phase::ProtectNone0;
     }
-    if n == 5 {
+    if n == phase::PROTECT_NONE1 {
         return Phase::ProtectNone1;
     }
-    if n == 6 {
+    if n == phase::INVALIDATE {
         return Phase::Invalidate;
     }
     Phase::Halted
@@ -259,22 +279,22 @@ fn first_phases(n: u64) -> Phase
 fn phase_of(n: u64) -> Phase
     ensures { λ r. ⌜ r ≡ phaseOf n ⌝ }
 {
-    if n == 7 {
+    if n == phase::RELEASE {
         return Phase::Release;
     }
-    if n == 8 {
+    if n == phase::MODIFY {
         return Phase::Modify;
     }
-    if n == 9 {
+    if n == phase::ACCEPT {
         return Phase::Accept;
     }
-    if n == 10 {
+    if n == phase::ZERO {
         return Phase::Zero;
     }
-    if n == 11 {
+    if n == phase::PROTECT_DEFAULT0 {
         return Phase::ProtectDefault0;
     }
-    if n == 12 {
+    if n == phase::PROTECT_DEFAULT1 {
         return Phase::ProtectDefault1;
     }
     first_phases(n)
@@ -284,7 +304,7 @@ pub fn phase(state: &[u64]) -> Phase
     requires { ⌜ length (now state) ≡ stateLen ⌝ }
     ensures { λ r. ⌜ r ≡ phaseIn (now (state .entry)) ⌝ }
 {
-    phase_of(state[0])
+    phase_of(state[place::PHASE])
 }
 
 // The request under way.
@@ -293,15 +313,15 @@ pub fn load(state: &[u64]) -> Request
     ensures { λ r. ⌜ r ≡ requestOf (now (state .entry)) ⌝ }
 {
     Request {
-        share: state[1] == 1,
-        vtl: permissions::vtl_of(state[2]),
-        n: numbers::least(state[3], 512),
-        at: state[4],
-        stopped: state[5] == 1,
-        failed: state[6] == 1,
-        index: state[7],
-        code: state[8],
-        count: state[9],
+        share: state[place::SHARE] == 1,
+        vtl: permissions::vtl_of(state[place::VTL]),
+        n: numbers::least(state[place::USED], limit::LISTED_PAGES),
+        at: state[place::AT],
+        stopped: state[place::STOPPED] == 1,
+        failed: state[place::FAILED] == 1,
+        index: state[place::INDEX],
+        code: state[place::CODE],
+        count: state[place::COUNT],
     }
 }
 
@@ -315,16 +335,16 @@ pub fn save(state: &mut [u64], phase: Phase, q: Request)
     let share = permissions::digit_of(q.share);
     let stopped = permissions::digit_of(q.stopped);
     let failed = permissions::digit_of(q.failed);
-    state[0] = p;
-    state[1] = share;
-    state[2] = v;
-    state[3] = q.n;
-    state[4] = q.at;
-    state[5] = stopped;
-    state[6] = failed;
-    state[7] = q.index;
-    state[8] = q.code;
-    state[9] = q.count;
+    state[place::PHASE] = p;
+    state[place::SHARE] = share;
+    state[place::VTL] = v;
+    state[place::USED] = q.n;
+    state[place::AT] = q.at;
+    state[place::STOPPED] = stopped;
+    state[place::FAILED] = failed;
+    state[place::INDEX] = q.index;
+    state[place::CODE] = q.code;
+    state[place::COUNT] = q.count;
 }
 
 fn option_of(n: u64) -> OptionFlags
@@ -342,13 +362,13 @@ pub fn settings(state: &[u64]) -> Settings
     ensures { λ r. ⌜ r ≡ settingsOf (now (state .entry)) ⌝ }
 {
     Settings {
-        isolation: permissions::isolation_of(state[16]),
-        tracked: state[17] == 1,
-        release: state[18] == 1,
-        enabled: state[19] == 1,
+        isolation: permissions::isolation_of(state[place::ISOLATION]),
+        tracked: state[place::TRACKED] == 1,
+        release: state[place::RELEASE] == 1,
+        enabled: state[place::ENABLED] == 1,
         defaults: DefaultVtlPermissions {
-            vtl0: HvMapGpaFlags::from_bits(state[20]),
-            vtl1: option_of(state[21]),
+            vtl0: HvMapGpaFlags::from_bits(state[place::DEFAULT0]),
+            vtl1: option_of(state[place::DEFAULT1]),
         },
     }
 }
@@ -357,28 +377,28 @@ fn isolation(state: &[u64]) -> IsolationType
     requires { ⌜ length (now state) ≡ stateLen ⌝ }
     ensures { λ r. ⌜ r ≡ settingsOf (now (state .entry)) .isolation ⌝ }
 {
-    permissions::isolation_of(state[16])
+    permissions::isolation_of(state[place::ISOLATION])
 }
 
 pub fn is_tracked(state: &[u64]) -> bool
     requires { ⌜ length (now state) ≡ stateLen ⌝ }
     ensures { λ r. ⌜ r ≡ settingsOf (now (state .entry)) .tracked ⌝ }
 {
-    state[17] == 1
+    state[place::TRACKED] == 1
 }
 
 pub fn default_vtl0(state: &[u64]) -> HvMapGpaFlags
     requires { ⌜ length (now state) ≡ stateLen ⌝ }
     ensures { λ r. ⌜ r ≡ settingsOf (now (state .entry)) .defaults .vtl0 ⌝ }
 {
-    HvMapGpaFlags::from_bits(state[20])
+    HvMapGpaFlags::from_bits(state[place::DEFAULT0])
 }
 
 fn default_vtl1(state: &[u64]) -> HvMapGpaFlags
     requires { ⌜ length (now state) ≡ stateLen ⌝ }
     ensures { λ r. ⌜ r ≡ orNone (settingsOf (now (state .entry)) .defaults .vtl1) ⌝ }
 {
-    acceptor::or_none(option_of(state[21]))
+    acceptor::or_none(option_of(state[place::DEFAULT1]))
 }
 
 // What crosses for the operation of a phase. Only what it needs is read from the state.
@@ -389,17 +409,17 @@ fn asked_at(state: &[u64], phase: Phase, q: Request, run: PageRun) -> Reply
     let vtl0 = GuestVtl::Vtl0;
     let vtl1 = GuestVtl::Vtl1;
     match phase {
-        Phase::Idle => plain(1),
-        Phase::Halted => plain(1),
-        Phase::Wait => plain(1),
-        Phase::FlushAll => plain(2),
+        Phase::Idle => plain(operation::WAIT),
+        Phase::Halted => plain(operation::WAIT),
+        Phase::Wait => plain(operation::WAIT),
+        Phase::FlushAll => plain(operation::FLUSH_ALL),
         Phase::ProtectNone0 => protect(isolation(state), vtl0, HvMapGpaFlags::none(), run),
         Phase::ProtectNone1 => protect(isolation(state), vtl1, HvMapGpaFlags::none(), run),
-        Phase::Invalidate => on_run(4, run),
-        Phase::Release => on_run(5, run),
+        Phase::Invalidate => on_run(operation::INVALIDATE, run),
+        Phase::Release => on_run(operation::RELEASE, run),
         Phase::Modify => modify(q.share, q.n),
-        Phase::Accept => on_run(7, run),
-        Phase::Zero => on_run(8, run),
+        Phase::Accept => on_run(operation::ACCEPT, run),
+        Phase::Zero => on_run(operation::ZERO, run),
         Phase::ProtectDefault0 => protect(isolation(state), vtl0, default_vtl0(state), run),
         Phase::ProtectDefault1 => protect(isolation(state), vtl1, default_vtl1(state), run),
     }
@@ -413,7 +433,7 @@ pub fn next_reply(state: &[u64], turn: Turn, phase: Phase, q: Request, run: Page
     match turn {
         Turn::Ask => asked_at(state, phase, q, run),
         Turn::End => ended(q),
-        Turn::Keep => refused(21),
+        Turn::Keep => refused(refusal::NOTHING_ASKED),
     }
 }
 
@@ -422,27 +442,27 @@ pub fn ram_of(state: &[u64]) -> &[u64]
     requires { ⌜ length (now state) ≡ stateLen ⌝ }
     ensures { λ r. ⌜ now r ≡ ramOf (now (state .entry)) ⌝ }
 {
-    let n = numbers::least(state[31], 32) as usize;
-    let end = 32 + 3 * n;
-    &state[32..end]
+    let n = numbers::least(state[place::ENTRIES], limit::RAM_ENTRIES) as usize;
+    let end = place::RAM + RAM_ENTRY_WORDS * n;
+    &state[place::RAM..end]
 }
 
 // The state block as built.
 pub fn build_state(state: &mut [u64], ram: &[u64], isolation: u64, tracked: u64, release: u64)
-    requires { ⌜ (length (now state) ≡ stateLen) × (length (now ram) ≤ 96) ⌝ }
+    requires { ⌜ (length (now state) ≡ stateLen) × (length (now ram) ≤ ramLen) ⌝ }
     ensures { λ _. ⌜ now (state .exit) ≡ builtState (now (ram .entry)) isolation tracked release ⌝ }
 {
     let n = layout::entry_count(ram);
     words::clear(state);
-    state[16] = isolation;
-    state[17] = tracked;
-    state[18] = release;
-    state[20] = 15;
-    state[21] = 16;
-    state[31] = n;
+    state[place::ISOLATION] = isolation;
+    state[place::TRACKED] = tracked;
+    state[place::RELEASE] = release;
+    state[place::DEFAULT0] = ALL_FLAGS;
+    state[place::DEFAULT1] = NO_FLAGS;
+    state[place::ENTRIES] = n;
     let mut i: usize = 0;
     while i < ram.len() {
-        state[32 + i] = ram[i];
+        state[place::RAM + i] = ram[i];
         i += 1;
     }
 }

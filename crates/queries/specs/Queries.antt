@@ -5,6 +5,7 @@ use mathlib.Core.List.{List, [], _∷_}
 use Prim.Native.Nat.{ℕ}
 use lib.Dec.{eqb, ltb}
 use lib.ListN.{length}
+use Rattle.abi.specs.Refusals as refusal
 use Rattle.laws.specs.Bools.{digit}
 use Rattle.laws.specs.Refusal.{unless}
 use Rattle.bitmap.specs.Pages.{bitAt}
@@ -29,11 +30,11 @@ use Rattle.queries.specs.declared.Value.{Value}
 
 unfoldable pub queryRefusal : List ℕ → ℕ → List ℕ → ℕ
 queryRefusal s shared l =
-    unless (eqb (length s) stateLen) 4
+    unless (eqb (length s) stateLen) refusal.wrongLength
     (unless (eqb (statusIn s) 0) (statusIn s)
-    (unless (eqb shared (mapLen (entriesIn s))) 4
-    (unless (not (isLong l)) 5
-    (unless (not (isRagged l)) 8
+    (unless (eqb shared (mapLen (entriesIn s))) refusal.wrongLength
+    (unless (not (isLong l)) refusal.longList
+    (unless (not (isRagged l)) refusal.unfitNumber
     0))))
 
 -- how many of the pages come before the first that isn't RAM
@@ -61,7 +62,7 @@ query out r = record { out = out; reply = r }
 -- the pages are RAM, or the first that isn't gives 7
 abbrev pub queryTaken : List ℕ → List ℕ → List ℕ → List ℕ → Query
 queryTaken s shared l out =
-    cond (ltb (ramBefore s l) (length (pagesOf l))) (query out (finished 7 (codeOf 7) (ramBefore s l) 0))
+    cond (ltb (ramBefore s l) (length (pagesOf l))) (query out (finished refusal.notRam (codeOf refusal.notRam) (ramBefore s l) 0))
     (query (filledBy (visibilities shared (pagesOf l)) out) (finished 0 0 0 0))
 
 unfoldable pub queryOf : List ℕ → List ℕ → List ℕ → List ℕ → Query
@@ -84,13 +85,13 @@ unfoldable pub faultIn : List ℕ → Maps → ℕ → ℕ → ℕ → ℕ → �
 faultIn s m mapping view address write failure =
     faultValueOf
     (cond (eqb (length s) stateLen) (pageFault (entriesIn s) m (settingsOf s .tracked) mapping view address write failure)
-    (fault.Refused 4))
+    (fault.Refused refusal.wrongLength))
 
 unfoldable pub lowerIn : List ℕ → Maps → ℕ → ℕ → Value
 lowerIn s m vtl gpn =
     permissionsValueOf
-    (cond (eqb (length s) stateLen) (lowerVtlPermissions (entriesIn s) m (settingsOf s .tracked) vtl gpn) (permissions.Refused 4))
+    (cond (eqb (length s) stateLen) (lowerVtlPermissions (entriesIn s) m (settingsOf s .tracked) vtl gpn) (permissions.Refused refusal.wrongLength))
 
 unfoldable pub accessIn : List ℕ → Maps → ℕ → Value
 accessIn s m gpn =
-    permissionsValueOf (cond (eqb (length s) stateLen) (accessPermission (entriesIn s) m (settingsOf s .tracked) gpn) (permissions.Refused 4))
+    permissionsValueOf (cond (eqb (length s) stateLen) (accessPermission (entriesIn s) m (settingsOf s .tracked) gpn) (permissions.Refused refusal.wrongLength))

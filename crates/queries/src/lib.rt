@@ -6,6 +6,8 @@ ghost use Rattle.layout.specs.Layout.{entriesOf, isRam};
 ghost use Rattle.pages.specs.Pages.{pagesOf};
 ghost use Rattle.request.specs.Request.{stopAt};
 ghost use Rattle.queries.specs.Queries.{queryRefusal, visibilities, filledBy, faultValueOf, permissionsValueOf};
+use abi::STATE_WORDS;
+use abi::refusal;
 use access::PermissionsAnswer;
 use fault::PageFaultAction;
 
@@ -38,21 +40,21 @@ pub fn permissions_value(a: PermissionsAnswer) -> Value
 pub fn query_refusal(state: &[u64], shared: u64, list: &[u8]) -> u64
     ensures { λ r. ⌜ r ≡ queryRefusal (now (state .entry)) shared (now (list .entry)) ⌝ }
 {
-    if state.len() != 128 {
-        return 4;
+    if state.len() != STATE_WORDS {
+        return refusal::WRONG_LENGTH;
     }
     let busy = protector::status(state);
     if busy != 0 {
         return busy;
     }
     if shared != layout::map_len(protector_state::ram_of(state)) {
-        return 4;
+        return refusal::WRONG_LENGTH;
     }
     if pages::is_long(list) {
-        return 5;
+        return refusal::LONG_LIST;
     }
     if pages::is_ragged(list) {
-        return 8;
+        return refusal::UNFIT_NUMBER;
     }
     0
 }

@@ -4,6 +4,7 @@ use mathlib.Core.Bool.{Bool, true, cond, not, _&&_}
 use mathlib.Core.List.{List, [], _∷_, _++_}
 use Prim.Native.Nat.{ℕ, suc, _+_}
 use lib.ListN.{length, take, drop}
+use Rattle.abi.specs.Lengths.{placesStart}
 use Rattle.bitmap.specs.Pages.{bitAt, written}
 use Rattle.pages.specs.Pages.{among}
 use Rattle.pages.specs.Runs.{part, runAt}
@@ -24,7 +25,7 @@ over xs t = xs ++ drop (length xs) t
 
 -- the table t once the pages of ps that P holds of are stored in it: what they don't use is as it was
 unfoldable pub tableOf : (ℕ → Bool) → List ℕ → List ℕ → List ℕ
-tableOf P ps t = over (pick P ps) (take 512 t) ++ over (pickPlaces P 0 ps) (drop 512 t)
+tableOf P ps t = over (pick P ps) (take placesStart t) ++ over (pickPlaces P 0 ps) (drop placesStart t)
 
 -- where sharing stops ("From the state" 15): how many pages come before the first that P doesn't hold of
 unfoldable pub stopAt : (ℕ → Bool) → List ℕ → ℕ

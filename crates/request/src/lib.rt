@@ -4,11 +4,14 @@ ghost use mathlib.Core.Path.{_≡_};
 ghost use mathlib.Core.Bool.{true, cond, _&&_};
 ghost use Prim.Native.Nat.{_+_, _<_, _≤_};
 ghost use lib.ListN.{length, getD, set, take};
+ghost use Rattle.abi.specs.Limits as limit;
+ghost use Rattle.abi.specs.Lengths.{pagesLen, placesStart};
 ghost use Rattle.laws.specs.Ranges.{between};
 ghost use Rattle.bitmap.specs.Pages.{bitAt, written};
 ghost use Rattle.pages.specs.Pages.{pagesOf};
 ghost use Rattle.pages.specs.Runs.{runAt};
 ghost use Rattle.request.specs.Request.{pick, tableOf, stopAt, isOpen, wanted, runEnd, put};
+use abi::PLACES_START;
 use pages::PageRun;
 
 // Whether a page is readable and writable.
@@ -49,13 +52,13 @@ fn is_wanted(shared: &[u8], share: bool, p: u64) -> bool
 
 // A page stored with its place behind the k stored before, where it is kept; how many are stored then.
 fn store_one(t: &mut [u64], k: u64, p: u64, place: u64, keep: bool) -> u64
-    requires { ⌜ (k < 512) × (length (now t) ≡ 1024) ⌝ }
-    ensures { λ r. ⌜ (r ≡ cond keep (k + 1) k) × (now (t .exit) ≡ cond keep (set (set (now (t .entry)) k p) (512 + k) place) (now (t .entry))) ⌝ }
+    requires { ⌜ (k < limit.listedPages) × (length (now t) ≡ pagesLen) ⌝ }
+    ensures { λ r. ⌜ (r ≡ cond keep (k + 1) k) × (now (t .exit) ≡ cond keep (set (set (now (t .entry)) k p) (placesStart + k) place) (now (t .entry))) ⌝ }
 {
     if keep {
         let i = k as usize;
         t[i] = p;
-        t[512 + i] = place;
+        t[PLACES_START + i] = place;
         return k + 1;
     }
     k
@@ -63,7 +66,7 @@ fn store_one(t: &mut [u64], k: u64, p: u64, place: u64, keep: bool) -> u64
 
 // The pages before place `stop` of a list that are wanted, with their places; how many they are.
 pub fn store(t: &mut [u64], shared: &[u8], share: bool, list: &[u8], stop: u64) -> u64
-    requires { ⌜ (length (now t) ≡ 1024) × (length (now list) ≤ 4096) ⌝ }
+    requires { ⌜ (length (now t) ≡ pagesLen) × (length (now list) ≤ limit.listBytes) ⌝ }
     ensures { λ r. ⌜ (r ≡ length (pick (wanted (now (shared .entry)) share) (take stop (pagesOf (now (list .entry)))))) × (now (t .exit) ≡ tableOf (wanted (now (shared .entry)) share) (take stop (pagesOf (now (list .entry)))) (now (t .entry))) ⌝ }
 {
     let n = numbers::least(stop, pages::page_count(list));
@@ -79,7 +82,7 @@ pub fn store(t: &mut [u64], shared: &[u8], share: bool, list: &[u8], stop: u64) 
 
 // All pages of a list, with their places.
 pub fn store_all(t: &mut [u64], list: &[u8])
-    requires { ⌜ (length (now t) ≡ 1024) × (length (now list) ≤ 4096) ⌝ }
+    requires { ⌜ (length (now t) ≡ pagesLen) × (length (now list) ≤ limit.listBytes) ⌝ }
     ensures { λ _. ⌜ now (t .exit) ≡ tableOf (λ p. true) (pagesOf (now (list .entry))) (now (t .entry)) ⌝ }
 {
     let n = pages::page_count(list);
@@ -93,10 +96,10 @@ pub fn store_all(t: &mut [u64], list: &[u8])
 
 // The place in the list as sent of the page at place i of the table.
 pub fn place_at(t: &[u64], i: u64) -> u64
-    ensures { λ r. ⌜ r ≡ getD (now (t .entry)) (512 + i) 0 ⌝ }
+    ensures { λ r. ⌜ r ≡ getD (now (t .entry)) (placesStart + i) 0 ⌝ }
 {
     if i < t.len() as u64 {
-        numbers::word_at(t, 512 + i)
+        numbers::word_at(t, PLACES_START as u64 + i)
     } else {
         0
     }

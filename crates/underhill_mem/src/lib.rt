@@ -4,6 +4,9 @@ ghost use Rattle.mapping.specs.Maps.{maps};
 ghost use Rattle.protector.specs.World.{world, outcome};
 ghost use Rattle.protector.specs.Calls.{buildOf, visibilityOf, answerDone, answerFailed};
 ghost use Rattle.queries.specs.Queries.{query, queryOf, faultIn, lowerIn, accessIn};
+use abi::STATE_WORDS;
+use abi::place;
+use abi::refusal;
 use access::PermissionsAnswer;
 use fault::PageFaultAction;
 use protector_state::Reply;
@@ -214,7 +217,12 @@ pub extern "C" fn protector_query_host_visibility(
     }
     let before = queries::ram_before(protector_state::ram_of(state), list);
     if before < pages::page_count(list) {
-        return protector_state::finished(7, permissions::hv_error(7), before, 0);
+        return protector_state::finished(
+            refusal::NOT_RAM,
+            permissions::hv_error(refusal::NOT_RAM),
+            before,
+            0,
+        );
     }
     queries::fill(out, shared, list);
     protector_state::finished(0, 0, 0, 0)
@@ -237,10 +245,10 @@ pub extern "C" fn protector_page_fault(
 ) -> Value
     ensures { λ r. ⌜ r ≡ faultIn (now (state .entry)) (maps (now (private .entry)) (now (shared .entry)) (now (read .entry)) (now (write .entry)) (now (kernel .entry)) (now (user .entry))) mapping view address writes failure ⌝ }
 {
-    if state.len() != 128 {
-        return queries::fault_value(PageFaultAction::Refused(4));
+    if state.len() != STATE_WORDS {
+        return queries::fault_value(PageFaultAction::Refused(refusal::WRONG_LENGTH));
     }
-    let tracked = state[17] == 1;
+    let tracked = state[place::TRACKED] == 1;
     let ram = protector_state::ram_of(state);
     queries::fault_value(fault::page_fault(
         private,
@@ -273,10 +281,10 @@ pub extern "C" fn protector_query_lower_vtl_permissions(
 ) -> Value
     ensures { λ r. ⌜ r ≡ lowerIn (now (state .entry)) (maps (now (private .entry)) (now (shared .entry)) (now (read .entry)) (now (write .entry)) (now (kernel .entry)) (now (user .entry))) vtl gpn ⌝ }
 {
-    if state.len() != 128 {
-        return queries::permissions_value(PermissionsAnswer::Refused(4));
+    if state.len() != STATE_WORDS {
+        return queries::permissions_value(PermissionsAnswer::Refused(refusal::WRONG_LENGTH));
     }
-    let tracked = state[17] == 1;
+    let tracked = state[place::TRACKED] == 1;
     let ram = protector_state::ram_of(state);
     queries::permissions_value(access::query_lower_vtl_permissions(
         private,
@@ -305,10 +313,10 @@ pub extern "C" fn protector_query_access_permission(
 ) -> Value
     ensures { λ r. ⌜ r ≡ accessIn (now (state .entry)) (maps (now (private .entry)) (now (shared .entry)) (now (read .entry)) (now (write .entry)) (now (kernel .entry)) (now (user .entry))) gpn ⌝ }
 {
-    if state.len() != 128 {
-        return queries::permissions_value(PermissionsAnswer::Refused(4));
+    if state.len() != STATE_WORDS {
+        return queries::permissions_value(PermissionsAnswer::Refused(refusal::WRONG_LENGTH));
     }
-    let tracked = state[17] == 1;
+    let tracked = state[place::TRACKED] == 1;
     let ram = protector_state::ram_of(state);
     queries::permissions_value(access::query_access_permission(
         private,

@@ -5,6 +5,8 @@ use mathlib.Core.List.{List}
 use Prim.Native.Nat.{ℕ}
 use lib.Dec.{eqb}
 use lib.ListN.{length, set}
+use Rattle.abi.specs.Places as place
+use Rattle.abi.specs.Refusals as refusal
 use Rattle.laws.specs.Bools.{digit}
 use Rattle.laws.specs.Refusal.{unless}
 use Rattle.permissions.specs.Flags.{bitsOf}
@@ -21,7 +23,7 @@ use Rattle.queries.specs.Queries.{value}
 
 unfoldable pub stateRefusal : List ℕ → ℕ
 stateRefusal s =
-    unless (eqb (length s) stateLen) 4
+    unless (eqb (length s) stateLen) refusal.wrongLength
     (statusIn s)
 
 -- ---- the setter: then 24 where permissions aren't tracked
@@ -29,7 +31,7 @@ stateRefusal s =
 unfoldable pub enableRefusal : List ℕ → ℕ
 enableRefusal s =
     unless (eqb (stateRefusal s) 0) (stateRefusal s)
-    (unless (settingsOf s .tracked) 24
+    (unless (settingsOf s .tracked) refusal.untracked
     0)
 
 -- what it gives: the state block, and the reply
@@ -42,7 +44,7 @@ enabled s r = record { state = s; reply = r }
 
 unfoldable pub enableOf : List ℕ → Enabled
 enableOf s =
-    cond (eqb (enableRefusal s) 0) (enabled (set s 19 1) (finished 0 0 0 0))
+    cond (eqb (enableRefusal s) 0) (enabled (set s place.enabled 1) (finished 0 0 0 0))
     (enabled s (finished (enableRefusal s) (codeOf (enableRefusal s)) 0 0))
 
 -- the settings then

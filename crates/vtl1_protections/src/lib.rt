@@ -3,6 +3,9 @@ ghost use mathlib.Core.Path.{_≡_};
 ghost use Rattle.permissions.specs.HvError.{codeOf};
 ghost use Rattle.queries.specs.Queries.{value};
 ghost use Rattle.vtl1_protections.specs.Calls.{stateRefusal, enableRefusal, enabled, enableOf, enabledIn, defaultIn};
+use abi::STATE_WORDS;
+use abi::place;
+use abi::refusal;
 use protector_state::Reply;
 use queries::Value;
 
@@ -10,8 +13,8 @@ use queries::Value;
 fn state_refusal(state: &[u64]) -> u64
     ensures { λ r. ⌜ r ≡ stateRefusal (now (state .entry)) ⌝ }
 {
-    if state.len() != 128 {
-        return 4;
+    if state.len() != STATE_WORDS {
+        return refusal::WRONG_LENGTH;
     }
     protector::status(state)
 }
@@ -23,8 +26,8 @@ fn enable_refusal(state: &[u64]) -> u64
     if n != 0 {
         return n;
     }
-    if state[17] != 1 {
-        return 24;
+    if state[place::TRACKED] != 1 {
+        return refusal::UNTRACKED;
     }
     0
 }
@@ -55,7 +58,7 @@ pub extern "C" fn protector_set_vtl1_protections_enabled(state: &mut [u64]) -> R
     if n != 0 {
         return protector_state::refused(n);
     }
-    state[19] = 1;
+    state[place::ENABLED] = 1;
     protector_state::finished(0, 0, 0, 0)
 }
 

@@ -5,6 +5,8 @@ use mathlib.Core.List.{List}
 use Prim.Native.Nat.{ℕ, _+_}
 use lib.Dec.{eqb}
 use lib.ListN.{length, set}
+use Rattle.abi.specs.Places as place
+use Rattle.abi.specs.Refusals as refusal
 use Rattle.bitmap.specs.Pages.{bitAt}
 use Rattle.laws.specs.Refusal.{unless}
 use Rattle.permissions.specs.declared.GuestVtl.{GuestVtl}
@@ -25,16 +27,16 @@ use Rattle.protector.specs.Calls.{decided, refusedBy, carriedChange, pageRefusa
 
 unfoldable pub defaultRefusal : List ℕ → Bool → ℕ → ℕ → ℕ
 defaultRefusal s fit vtl flags =
-    unless (eqb (length s) stateLen) 4
+    unless (eqb (length s) stateLen) refusal.wrongLength
     (unless (eqb (statusIn s) 0) (statusIn s)
-    (unless fit 4
-    (unless (fitVtl vtl) 8
-    (unless (fitFlags flags) 8
+    (unless fit refusal.wrongLength
+    (unless (fitVtl vtl) refusal.unfitNumber
+    (unless (fitFlags flags) refusal.unfitNumber
     0))))
 
--- the default is stored before locks are looked at ("Defaults"): word 20 has that of VTL0, word 21 that of VTL1
+-- the default is stored before locks are looked at ("Defaults"): that of VTL1 stands behind that of VTL0
 abbrev pub storedDefault : List ℕ → GuestVtl → ℕ → List ℕ
-storedDefault s v flags = set s (20 + vtlNumber v) flags
+storedDefault s v flags = set s (place.default0 + vtlNumber v) flags
 
 abbrev pub stored : World → GuestVtl → ℕ → World
 stored w v flags = world (w .maps) (storedDefault (w .state) v flags) (w .pages) (w .tables)
@@ -62,7 +64,7 @@ defaultStarted w v flags = carriedChange w (w .pages) (defaultStep (w .maps .pri
 
 -- once the default is stored: a refusal by 10 leaves it
 unfoldable pub defaultTaken : World → GuestVtl → ℕ → Outcome
-defaultTaken w v flags = cond (barred (w .maps .private) (w .state) (w .tables) v) (refusedBy w 10) (defaultStarted (renewedIn w v flags) v flags)
+defaultTaken w v flags = cond (barred (w .maps .private) (w .state) (w .tables) v) (refusedBy w refusal.locked) (defaultStarted (renewedIn w v flags) v flags)
 
 unfoldable pub defaultOf : World → ℕ → ℕ → Outcome
 defaultOf w vtl flags = decided w (defaultRefusal (w .state) (fits w) vtl flags) (defaultTaken (stored w (vtlOf vtl) flags) (vtlOf vtl) flags)
@@ -78,18 +80,18 @@ eachRefusal s tables v l = firstRefusal (pageRefusal (entriesIn s) (overlaysOf t
 abbrev pub pagesRefusal : List ℕ → List ℕ → List ℕ → GuestVtl → List ℕ → ℕ
 pagesRefusal s shared tables v l =
     unless (eqb (eachRefusal s tables v l) 0) (eachRefusal s tables v l)
-    (unless (not (anyShared shared (pagesOf l))) 12
+    (unless (not (anyShared shared (pagesOf l))) refusal.shared
     0)
 
 unfoldable pub protectionRefusal : List ℕ → Bool → List ℕ → List ℕ → ℕ → ℕ → List ℕ → ℕ
 protectionRefusal s fit shared tables vtl flags l =
-    unless (eqb (length s) stateLen) 4
+    unless (eqb (length s) stateLen) refusal.wrongLength
     (unless (eqb (statusIn s) 0) (statusIn s)
-    (unless fit 4
-    (unless (not (isLong l)) 5
-    (unless (fitVtl vtl) 8
-    (unless (fitFlags flags) 8
-    (unless (not (isRagged l)) 8
+    (unless fit refusal.wrongLength
+    (unless (not (isLong l)) refusal.longList
+    (unless (fitVtl vtl) refusal.unfitNumber
+    (unless (fitFlags flags) refusal.unfitNumber
+    (unless (not (isRagged l)) refusal.unfitNumber
     (pagesRefusal s shared tables (vtlOf vtl) l)))))))
 
 -- all listed pages with their places, in list order

@@ -10,6 +10,10 @@ ghost use Rattle.protector_state.specs.Reply.{flatOf};
 ghost use Rattle.change_state.specs.State.{withChange};
 ghost use Rattle.protector.specs.World.{world, outcome, tablesLen, lengthsFit, permittedRun};
 ghost use Rattle.vtl_protections.specs.Calls.{defaultRefusal, storedDefault, barred, renewedTables, firstPiece, defaultStep, defaultOf, anyShared, pagesRefusal, protectionRefusal, protectionStep, protectionOf};
+use abi::STATE_WORDS;
+use abi::place;
+use abi::refusal;
+use abi::table;
 use changes::ChangeStep;
 use pages::PageRun;
 use permissions::GuestVtl;
@@ -32,8 +36,8 @@ fn default_refusal(
 ) -> u64
     ensures { λ r. ⌜ r ≡ defaultRefusal (now (state .entry)) (lengthsFit (now (state .entry)) private shared read write kernel user pages tables) vtl flags ⌝ }
 {
-    if state.len() != 128 {
-        return 4;
+    if state.len() != STATE_WORDS {
+        return refusal::WRONG_LENGTH;
     }
     let busy = protector::status(state);
     if busy != 0 {
@@ -50,13 +54,13 @@ fn default_refusal(
         pages,
         tables,
     ) {
-        return 4;
+        return refusal::WRONG_LENGTH;
     }
     if !permissions::is_vtl(vtl) {
-        return 8;
+        return refusal::UNFIT_NUMBER;
     }
     if !permissions::is_flags(flags) {
-        return 8;
+        return refusal::UNFIT_NUMBER;
     }
     0
 }
@@ -66,7 +70,7 @@ fn store_default(state: &mut [u64], vtl: GuestVtl, flags: u64)
     ensures { λ _. ⌜ now (state .exit) ≡ storedDefault (now (state .entry)) vtl flags ⌝ }
 {
     let v = permissions::vtl_number(vtl);
-    let i = 20 + v;
+    let i = place::DEFAULT0 as u64 + v;
     state[i as usize] = flags;
 }
 
@@ -90,8 +94,18 @@ fn renew(tables: &mut [u64], private: &[u8], state: &[u64], vtl: GuestVtl, flags
 {
     let ram = protector_state::ram_of(state);
     match vtl {
-        GuestVtl::Vtl0 => defaults::renew(&mut tables[0..641], private, ram, flags),
-        GuestVtl::Vtl1 => defaults::renew(&mut tables[641..1282], private, ram, flags),
+        GuestVtl::Vtl0 => defaults::renew(
+            &mut tables[table::OVERLAYS0..table::OVERLAYS1],
+            private,
+            ram,
+            flags,
+        ),
+        GuestVtl::Vtl1 => defaults::renew(
+            &mut tables[table::OVERLAYS1..table::LOCKS0],
+            private,
+            ram,
+            flags,
+        ),
     }
 }
 
@@ -121,7 +135,7 @@ fn default_step(
     ensures { λ r. ⌜ r .written .first + r .written .count ≤ 2 ^ 64 ⌝ }
 {
     let piece = first_piece(private, state, tables, vtl);
-    changes::start_ram(state[17] == 1, vtl, flags, piece)
+    changes::start_ram(state[place::TRACKED] == 1, vtl, flags, piece)
 }
 
 // A step that enters no overlay carried out.
@@ -138,7 +152,7 @@ fn carry_out(
     ensures { λ _. ⌜ now (state .exit) ≡ withChange (x .stage) (x .change) (now (state .entry)) ⌝ }
     ensures { λ r. ⌜ r ≡ flatOf (settingsOf (now (state .entry)) .isolation) (x .answer) ⌝ }
 {
-    let isolation = permissions::isolation_of(state[16]);
+    let isolation = permissions::isolation_of(state[place::ISOLATION]);
     let stage = x.stage;
     let change = x.change;
     let answer = x.answer;
@@ -184,7 +198,7 @@ pub extern "C" fn protector_change_default_vtl_protections(
     let v = permissions::vtl_of(vtl);
     store_default(state, v, flags);
     if is_barred(private, state, tables, v) {
-        return protector_state::refused(10);
+        return protector_state::refused(refusal::LOCKED);
     }
     renew(tables, private, state, v, flags);
     let x = default_step(private, state, tables, v, flags);
@@ -218,7 +232,7 @@ fn pages_refusal(state: &[u64], shared: &[u8], tables: &[u64], vtl: GuestVtl, li
         return each;
     }
     if any {
-        return 12;
+        return refusal::SHARED;
     }
     0
 }
@@ -240,8 +254,8 @@ fn protection_refusal(
 ) -> u64
     ensures { λ r. ⌜ r ≡ protectionRefusal (now (state .entry)) (lengthsFit (now (state .entry)) private (length (now (shared .entry))) read write kernel user pages (length (now (tables .entry)))) (now (shared .entry)) (now (tables .entry)) vtl flags (now (list .entry)) ⌝ }
 {
-    if state.len() != 128 {
-        return 4;
+    if state.len() != STATE_WORDS {
+        return refusal::WRONG_LENGTH;
     }
     let busy = protector::status(state);
     if busy != 0 {
@@ -260,19 +274,19 @@ fn protection_refusal(
         pages,
         held,
     ) {
-        return 4;
+        return refusal::WRONG_LENGTH;
     }
     if pages::is_long(list) {
-        return 5;
+        return refusal::LONG_LIST;
     }
     if !permissions::is_vtl(vtl) {
-        return 8;
+        return refusal::UNFIT_NUMBER;
     }
     if !permissions::is_flags(flags) {
-        return 8;
+        return refusal::UNFIT_NUMBER;
     }
     if pages::is_ragged(list) {
-        return 8;
+        return refusal::UNFIT_NUMBER;
     }
     let v = permissions::vtl_of(vtl);
     pages_refusal(state, shared, tables, v, list)
@@ -284,7 +298,7 @@ fn protection_step(state: &[u64], pages: &[u64], vtl: GuestVtl, flags: u64, n: u
     ensures { λ r. ⌜ r ≡ protectionStep (now (state .entry)) (now (pages .entry)) vtl flags n ⌝ }
     ensures { λ r. ⌜ r .written .first + r .written .count ≤ 2 ^ 64 ⌝ }
 {
-    changes::start_pages(state[17] == 1, vtl, flags, n, pages)
+    changes::start_pages(state[place::TRACKED] == 1, vtl, flags, n, pages)
 }
 
 #[no_mangle]

@@ -1,0 +1,10 @@
+pub mod Refusals
+pub mod Codes
+pub mod Operations
+pub mod Places
+pub mod Phases
+pub mod Stages
+pub mod Limits
+pub mod Overlay
+pub mod Lengths
+pub mod Flags
