@@ -7,7 +7,8 @@ use Rattle.protector_state.specs.State.{settingsOf}
 use Rattle.change_state.specs.State.{isChanging}
 use Rattle.protector.specs.World.{world}
 use Rattle.protector.specs.Calls.{answerDone, visibilityDone, changeDone, afterDone, doneIn}
-use Rattle.protector.proofs.Laws.{chose, chose-not, pages-fit, tables-fit}
+use Rattle.protector.proofs.Laws.{call-refused, call-taken, pages-fit, tables-fit}
+use Rattle.laws.specs.Bools.{chose, chose-not}
 use Rattle.underhill_mem.proofs.Laws as laws
 use Rattle.underhill_mem.proofs.protector_answer_done.Statement.{statement}
 use Rattle.underhill_mem.proofs.protector_answer_done.Tie as tie
@@ -26,7 +27,7 @@ unfolding answerDone
 returns c =
     let a = c .before .before .before .before .before .before .before .before .before .before .before .before .before .args in
     let w = world (maps (a .private .now) (a .shared .now) (a .read .now) (a .write .now) (a .kernel .now) (a .user .now)) (a .state .now) (a .pages .now) (a .tables .now) in
-    laws.call-refused w _ _ (c .before .before .answer-refusal .ensures) (cond (isChanging (a .state .now)) (changeDone w) (visibilityDone w)) (c .refused .result) (c .before .if1 .taken) (c .refused .ensures)
+    call-refused w _ _ (c .before .before .answer-refusal .ensures) (cond (isChanging (a .state .now)) (changeDone w) (visibilityDone w)) (c .refused .result) (c .before .if1 .taken) (c .refused .ensures)
 
 is-changing-requires : tie.Need-is-changing-requires
 is-changing-requires c κs = laws.answer-passed (c .before .before .before .before .before .before .before .before .before .before .before .before .before .args .state .now) _ _ (c .before .if1 .left) false (c .before .before .answer-refusal .ensures)
@@ -67,7 +68,7 @@ unfolding answerDone
 returns-2 c =
     let a = c .before .before .before .before .before .before .before .before .before .before .before .before .before .before .before .before .before .before .before .before .before .before .before .before .before .before .before .before .before .before .before .before .before .before .before .before .args in
     let w = world (maps (a .private .now) (a .shared .now) (a .read .now) (a .write .now) (a .kernel .now) (a .user .now)) (a .state .now) (a .pages .now) (a .tables .now) in
-    laws.call-taken w _ _ (c .before .before .before .before .before .before .before .before .before .before .before .before .before .before .before .before .before .before .before .before .before .before .before .before .before .answer-refusal .ensures) (cond (isChanging (a .state .now)) (changeDone w) (visibilityDone w)) _ (c .before .before .before .before .before .before .before .before .before .before .before .before .before .before .before .before .before .before .before .before .before .before .before .before .if1 .left)
+    call-taken w _ _ (c .before .before .before .before .before .before .before .before .before .before .before .before .before .before .before .before .before .before .before .before .before .before .before .before .before .answer-refusal .ensures) (cond (isChanging (a .state .now)) (changeDone w) (visibilityDone w)) _ (c .before .before .before .before .before .before .before .before .before .before .before .before .before .before .before .before .before .before .before .before .before .before .before .before .if1 .left)
     (chose _ _ (changeDone w) (visibilityDone w) _ (c .before .before .before .before .before .before .before .before .before .before .before .before .before .before .before .before .before .before .before .before .before .before .is-changing .ensures) (c .before .before .before .before .before .before .before .before .before .before .before .before .before .before .before .before .before .before .before .before .before .if2 .taken)
     (laws.changed w (afterDone (a .private .now) (a .state .now) (a .pages .now) (a .tables .now)) _ _ _ _ _ _ _ (c .before .before .before .before .before .before .before .before .before .before .before .before .answer-done .ensures)))
 
@@ -107,7 +108,7 @@ unfolding answerDone
 returns-3 c =
     let a = c .before .before .before .before .before .before .before .before .before .before .before .before .before .before .before .before .before .before .before .before .before .before .before .before .before .before .before .before .before .before .before .before .before .before .before .before .before .before .args in
     let w = world (maps (a .private .now) (a .shared .now) (a .read .now) (a .write .now) (a .kernel .now) (a .user .now)) (a .state .now) (a .pages .now) (a .tables .now) in
-    laws.call-taken w _ _ (c .before .before .before .before .before .before .before .before .before .before .before .before .before .before .before .before .before .before .before .before .before .before .before .before .before .before .before .answer-refusal .ensures) (cond (isChanging (a .state .now)) (changeDone w) (visibilityDone w)) _ (c .before .before .before .before .before .before .before .before .before .before .before .before .before .before .before .before .before .before .before .before .before .before .before .before .before .before .if1 .left)
+    call-taken w _ _ (c .before .before .before .before .before .before .before .before .before .before .before .before .before .before .before .before .before .before .before .before .before .before .before .before .before .before .before .answer-refusal .ensures) (cond (isChanging (a .state .now)) (changeDone w) (visibilityDone w)) _ (c .before .before .before .before .before .before .before .before .before .before .before .before .before .before .before .before .before .before .before .before .before .before .before .before .before .before .if1 .left)
     (chose-not _ _ (changeDone w) (visibilityDone w) _ (c .before .before .before .before .before .before .before .before .before .before .before .before .before .before .before .before .before .before .before .before .before .before .before .before .is-changing .ensures) (c .before .before .before .before .before .before .before .before .before .before .before .before .before .before .before .before .before .before .before .before .before .before .before .if2 .left)
     (laws.carried w (a .pages .now) (settingsOf (a .state .now)) (doneIn (a .state .now) (a .pages .now)) _ _ _ _ refl refl (c .before .before .before .before .before .before .before .before .before .before .before .before .before .before .answer-done2 .ensures .0) (c .before .before .before .before .before .before .before .before .before .before .before .before .before .before .answer-done2 .ensures .1 .0) (c .before .before .before .before .before .before .before .before .before .before .before .before .before .before .answer-done2 .ensures .1 .1)))
 

@@ -5,6 +5,7 @@ use Rattle.mapping.specs.Maps.{maps}
 use Rattle.protector.specs.World.{world}
 use Rattle.protector.specs.Calls.{buildOf, buildTaken}
 use Rattle.protector.specs.Calls.{buildRefusal}
+use Rattle.protector.proofs.Laws.{call-refused, call-taken}
 use Rattle.underhill_mem.proofs.protector_build.Statement.{statement}
 use Rattle.underhill_mem.proofs.protector_build.Tie as tie
 use Rattle.underhill_mem.proofs.Laws as laws
@@ -20,7 +21,7 @@ refused-requires c κs = search needs
 
 returns : tie.Need-returns
 unfolding buildOf
-returns c = let a = c .before .before .before .before .before .before .before .before .before .before .before .before .before .before .args in laws.call-refused (world (maps (a .private .now) (a .shared .now) (a .read .now) (a .write .now) (a .kernel .now) (a .user .now)) (a .state .now) (a .pages .now) (a .tables .now)) _ _ (c .before .before .build-refusal .ensures ∙ ap (buildRefusal (a .ram .now) (a .isolation) (a .tracked) (a .release)) (c .before .before .before .build-fits .ensures)) (buildTaken (world (maps (a .private .now) (a .shared .now) (a .read .now) (a .write .now) (a .kernel .now) (a .user .now)) (a .state .now) (a .pages .now) (a .tables .now)) (a .ram .now) (a .isolation) (a .tracked) (a .release)) (c .refused .result) (c .before .if1 .taken) (c .refused .ensures)
+returns c = let a = c .before .before .before .before .before .before .before .before .before .before .before .before .before .before .args in call-refused (world (maps (a .private .now) (a .shared .now) (a .read .now) (a .write .now) (a .kernel .now) (a .user .now)) (a .state .now) (a .pages .now) (a .tables .now)) _ _ (c .before .before .build-refusal .ensures ∙ ap (buildRefusal (a .ram .now) (a .isolation) (a .tracked) (a .release)) (c .before .before .before .build-fits .ensures)) (buildTaken (world (maps (a .private .now) (a .shared .now) (a .read .now) (a .write .now) (a .kernel .now) (a .user .now)) (a .state .now) (a .pages .now) (a .tables .now)) (a .ram .now) (a .isolation) (a .tracked) (a .release)) (c .refused .result) (c .before .if1 .taken) (c .refused .ensures)
 
 build-requires : tie.Need-build-requires
 build-requires c κs = search needs
@@ -66,7 +67,7 @@ same-length-9 c = search needs
 
 returns-2 : tie.Need-returns-2
 unfolding buildOf
-returns-2 c = let a = c .before .before .before .before .before .before .before .before .before .before .before .before .before .before .before .before .before .before .before .before .before .before .before .before .before .before .before .before .before .before .before .before .before .before .before .before .before .before .before .before .before .before .before .before .before .args in laws.call-taken (world (maps (a .private .now) (a .shared .now) (a .read .now) (a .write .now) (a .kernel .now) (a .user .now)) (a .state .now) (a .pages .now) (a .tables .now)) _ _ (c .before .before .before .before .before .before .before .before .before .before .before .before .before .before .before .before .before .before .before .before .before .before .before .before .before .before .before .before .before .before .before .before .before .build-refusal .ensures ∙ ap (buildRefusal (a .ram .now) (a .isolation) (a .tracked) (a .release)) (c .before .before .before .before .before .before .before .before .before .before .before .before .before .before .before .before .before .before .before .before .before .before .before .before .before .before .before .before .before .before .before .before .before .before .build-fits .ensures)) (buildTaken (world (maps (a .private .now) (a .shared .now) (a .read .now) (a .write .now) (a .kernel .now) (a .user .now)) (a .state .now) (a .pages .now) (a .tables .now)) (a .ram .now) (a .isolation) (a .tracked) (a .release)) _ (c .before .before .before .before .before .before .before .before .before .before .before .before .before .before .before .before .before .before .before .before .before .before .before .before .before .before .before .before .before .before .before .before .if1 .left) (laws.build-made (world (maps (a .private .now) (a .shared .now) (a .read .now) (a .write .now) (a .kernel .now) (a .user .now)) (a .state .now) (a .pages .now) (a .tables .now)) (a .ram .now) (a .isolation) (a .tracked) (a .release) _ _ _ _ _ (c .before .before .before .before .before .before .before .before .before .before .before .before .before .before .before .before .before .before .before .before .before .before .before .before .before .build .ensures) (c .before .before .before .before .before .before .before .before .before .before .before .build-state .ensures) (c .before .before .before .before .before .before .before .clear .ensures) (c .before .before .before .clear2 .ensures) (c .finished .ensures))
+returns-2 c = let a = c .before .before .before .before .before .before .before .before .before .before .before .before .before .before .before .before .before .before .before .before .before .before .before .before .before .before .before .before .before .before .before .before .before .before .before .before .before .before .before .before .before .before .before .before .before .args in call-taken (world (maps (a .private .now) (a .shared .now) (a .read .now) (a .write .now) (a .kernel .now) (a .user .now)) (a .state .now) (a .pages .now) (a .tables .now)) _ _ (c .before .before .before .before .before .before .before .before .before .before .before .before .before .before .before .before .before .before .before .before .before .before .before .before .before .before .before .before .before .before .before .before .before .build-refusal .ensures ∙ ap (buildRefusal (a .ram .now) (a .isolation) (a .tracked) (a .release)) (c .before .before .before .before .before .before .before .before .before .before .before .before .before .before .before .before .before .before .before .before .before .before .before .before .before .before .before .before .before .before .before .before .before .before .build-fits .ensures)) (buildTaken (world (maps (a .private .now) (a .shared .now) (a .read .now) (a .write .now) (a .kernel .now) (a .user .now)) (a .state .now) (a .pages .now) (a .tables .now)) (a .ram .now) (a .isolation) (a .tracked) (a .release)) _ (c .before .before .before .before .before .before .before .before .before .before .before .before .before .before .before .before .before .before .before .before .before .before .before .before .before .before .before .before .before .before .before .before .if1 .left) (laws.build-made (world (maps (a .private .now) (a .shared .now) (a .read .now) (a .write .now) (a .kernel .now) (a .user .now)) (a .state .now) (a .pages .now) (a .tables .now)) (a .ram .now) (a .isolation) (a .tracked) (a .release) _ _ _ _ _ (c .before .before .before .before .before .before .before .before .before .before .before .before .before .before .before .before .before .before .before .before .before .before .before .before .before .build .ensures) (c .before .before .before .before .before .before .before .before .before .before .before .build-state .ensures) (c .before .before .before .before .before .before .before .clear .ensures) (c .before .before .before .clear2 .ensures) (c .finished .ensures))
 
 pub protector-build-spec : {M : Type 1} → statement M
 protector-build-spec =

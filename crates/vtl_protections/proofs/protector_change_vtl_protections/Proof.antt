@@ -3,6 +3,7 @@ use borrow.Author.Needs.{needs}
 use Rattle.permissions.specs.Flags.{vtlOf}
 use Rattle.mapping.specs.Maps.{maps}
 use Rattle.protector.specs.World.{world}
+use Rattle.protector.proofs.Laws.{call-refused, call-taken}
 use Rattle.vtl_protections.specs.Calls.{protectionTaken, protectionOf}
 use Rattle.vtl_protections.proofs.Laws as laws
 use Rattle.vtl_protections.proofs.protector_change_vtl_protections.Statement.{statement}
@@ -22,7 +23,7 @@ unfolding protectionOf
 returns c =
     let a = c .before .before .before .before .before .before .before .before .before .before .before .before .before .before .args in
     let w = world (maps (a .private .now) (a .shared .now) (a .read .now) (a .write .now) (a .kernel .now) (a .user .now)) (a .state .now) (a .pages .now) (a .tables .now) in
-    laws.call-refused w _ _ (c .before .before .protection-refusal .ensures) (protectionTaken w (vtlOf (a .vtl)) (a .flags) (a .list .now)) (c .refused .result) (c .before .if1 .taken) (c .refused .ensures)
+    call-refused w _ _ (c .before .before .protection-refusal .ensures) (protectionTaken w (vtlOf (a .vtl)) (a .flags) (a .list .now)) (c .refused .result) (c .before .if1 .taken) (c .refused .ensures)
 
 vtl-of-requires : tie.Need-vtl-of-requires
 vtl-of-requires c κs = search needs
@@ -71,7 +72,7 @@ unfolding protectionOf
 returns-2 c =
     let a = c .before .before .before .before .before .before .before .before .before .before .before .before .before .before .before .before .before .before .before .before .before .before .before .before .before .before .before .before .before .before .before .before .before .before .before .before .before .before .args in
     let w = world (maps (a .private .now) (a .shared .now) (a .read .now) (a .write .now) (a .kernel .now) (a .user .now)) (a .state .now) (a .pages .now) (a .tables .now) in
-    laws.call-taken w _ _ (c .before .before .before .before .before .before .before .before .before .before .before .before .before .before .before .before .before .before .before .before .before .before .before .before .before .before .protection-refusal .ensures) (protectionTaken w (vtlOf (a .vtl)) (a .flags) (a .list .now)) _ (c .before .before .before .before .before .before .before .before .before .before .before .before .before .before .before .before .before .before .before .before .before .before .before .before .before .if1 .left)
+    call-taken w _ _ (c .before .before .before .before .before .before .before .before .before .before .before .before .before .before .before .before .before .before .before .before .before .before .before .before .before .before .protection-refusal .ensures) (protectionTaken w (vtlOf (a .vtl)) (a .flags) (a .list .now)) _ (c .before .before .before .before .before .before .before .before .before .before .before .before .before .before .before .before .before .before .before .before .before .before .before .before .before .if1 .left)
     (laws.protection-made w (c .before .before .before .before .before .before .before .before .before .before .before .before .before .before .before .before .before .before .before .before .before .before .before .before .vtl-of .result) (vtlOf (a .vtl)) (a .flags) (a .list .now) (c .before .before .before .before .before .before .before .before .before .before .before .before .before .before .before .before .before .before .before .before .before .before .before .page-count .result) _ (c .before .before .before .before .before .before .before .before .before .before .before .before .before .before .before .before .protection-step .result) _ _ (c .before .before .before .before .before .before .before .before .before .before .carry-out .result) (c .before .before .before .before .before .before .before .before .before .before .before .before .before .before .before .before .before .before .before .before .before .before .before .before .vtl-of .ensures) (c .before .before .before .before .before .before .before .before .before .before .before .before .before .before .before .before .before .before .before .before .before .before .before .page-count .ensures) (c .before .before .before .before .before .before .before .before .before .before .before .before .before .before .before .before .before .before .before .before .before .store-all .ensures) (c .before .before .before .before .before .before .before .before .before .before .before .before .before .before .before .before .protection-step .ensures .0) (c .before .before .before .before .before .before .before .before .before .before .carry-out .ensures .0) (c .before .before .before .before .before .before .before .before .before .before .carry-out .ensures .1 .0) (c .before .before .before .before .before .before .before .before .before .before .carry-out .ensures .1 .1))
 
 pub protector-change-vtl-protections-spec : {M : Type 1} → statement M
