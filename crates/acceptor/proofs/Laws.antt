@@ -1,11 +1,12 @@
 -- One law for each way out of a function: what the code has there, in its order, and what the definition says. Assumes nothing.
-use Prim.Native.Nat.{ℕ, _+_, _%_, _^_, _≤_, _<_}
+use Prim.Native.Nat.{ℕ, _+_, _≤_, _<_}
 use mathlib.Core.Path.{_≡_, refl, sym, ap, ap₂, _∙_}
 use mathlib.Core.List.{List}
 use mathlib.Core.Bool.{Bool, true, false, cond, _&&_}
 use lib.ListN.{getD}
 use lib.Dec.{ltb, leb}
 use borrow.Author.Tests.{lt-ltb, le-ltb, le-leb, lt-leb}
+use Rattle.laws.specs.Bools.{took, took-not, and-ends}
 use Rattle.permissions.specs.declared.HvMapGpaFlags.{HvMapGpaFlags}
 use Rattle.permissions.specs.declared.GuestVtl.{GuestVtl}
 use Rattle.permissions.specs.Flags.{noFlags}
@@ -23,28 +24,9 @@ use Rattle.acceptor.specs.declared.Next.{Next}
 use Rattle.acceptor.specs.Next.{asks, ends, keeps, markedBy, writesAt, nextStep}
 use Rattle.acceptor.specs.Steps.{isSnp, isCca, releases, places, writes, noWrites, setPrivate, setShared, setPermissions, operationOf, ask, finished, end, halt, keep, shareRun, defaultRun, returnRun, afterFlush, afterWait, afterModify, afterAccept, cutAt, failedModify, isVtl0, cleared}
 
--- a choice whose test is known
-module _ {A : Type 0} (b : Bool) (x y r : A) where
-  took : b ≡ true → r ≡ x → r ≡ cond b x y
-  took e f = f ∙ ap (λ (t : Bool). cond t x y) (sym e)
-
-  left : b ≡ false → r ≡ y → r ≡ cond b x y
-  left e f = f ∙ ap (λ (t : Bool). cond t x y) (sym e)
-
--- a choice by a test t that the code made as b
-module _ {A : Type 0} (b t : Bool) (x y r : A) (e : b ≡ t) where
-  pub chose : b ≡ true → r ≡ x → r ≡ cond t x y
-  chose h f = took t x y r (sym e ∙ h) f
-
-  pub chose-not : b ≡ false → r ≡ y → r ≡ cond t x y
-  chose-not h f = left t x y r (sym e ∙ h) f
-
 -- a test of two parts of which the first holds
 then : (a b x : Bool) → a ≡ true → b ≡ x → (a && b) ≡ x
 then a b x e f = ap₂ _&&_ e f
-
-never : (a b : Bool) → a ≡ false → (a && b) ≡ false
-never a b e = ap (λ (x : Bool). x && b) e
 
 -- ---- the end
 
@@ -53,10 +35,10 @@ module _ (q : Request) (r : Answer) where
   finished-stopped h f = took (q .stopped) _ _ r h f
 
   pub finished-failed : q .stopped ≡ false → q .failed ≡ true → r ≡ Failed (q .code) (q .index) (q .count) → r ≡ finished q
-  finished-failed h g f = left (q .stopped) _ _ r h (took (q .failed) _ _ r g f)
+  finished-failed h g f = took-not (q .stopped) _ _ r h (took (q .failed) _ _ r g f)
 
   pub finished-done : q .stopped ≡ false → q .failed ≡ false → r ≡ Done (q .count) → r ≡ finished q
-  finished-done h g f = left (q .stopped) _ _ r h (left (q .failed) _ _ r g f)
+  finished-done h g f = took-not (q .stopped) _ _ r h (took-not (q .failed) _ _ r g f)
 
 -- ---- the step that stands for what an answer leads to
 
@@ -99,8 +81,8 @@ module _ (s : Settings) (q : Request) (t : List ℕ) (r : Step) (w : Writes) whe
   pub share-none : (a : ℕ) → q .n ≤ a → w ≡ noWrites → r ≡ ask s at.Modify q t 0 w → r ≡ shareRun s q t a
   unfolding shareRun
   share-none a h e f =
-      left (ltb a (q .n) && isSnp (s .isolation)) _ _ r (never _ _ (le-ltb a (q .n) h))
-      (left (ltb a (q .n) && releases (s .isolation) (s .release)) _ _ r (never _ _ (le-ltb a (q .n) h)) (f ∙ ap (ask s at.Modify q t 0) e))
+      took-not (ltb a (q .n) && isSnp (s .isolation)) _ _ r (sym (and-ends _ _ (le-ltb a (q .n) h)))
+      (took-not (ltb a (q .n) && releases (s .isolation) (s .release)) _ _ r (sym (and-ends _ _ (le-ltb a (q .n) h))) (f ∙ ap (ask s at.Modify q t 0) e))
 
   pub share-snp : (a : ℕ) → a < q .n → isSnp (s .isolation) ≡ true → w ≡ noWrites → r ≡ ask s at.ProtectNone0 q t a w → r ≡ shareRun s q t a
   unfolding shareRun
@@ -111,20 +93,20 @@ module _ (s : Settings) (q : Request) (t : List ℕ) (r : Step) (w : Writes) whe
     pub share-release : releases (s .isolation) (s .release) ≡ true → w ≡ noWrites → r ≡ ask s at.Release q t a w → r ≡ shareRun s q t a
     unfolding shareRun
     share-release k e f =
-        left (ltb a (q .n) && isSnp (s .isolation)) _ _ r (then _ _ false (lt-ltb a (q .n) h) g)
+        took-not (ltb a (q .n) && isSnp (s .isolation)) _ _ r (then _ _ false (lt-ltb a (q .n) h) g)
         (took (ltb a (q .n) && releases (s .isolation) (s .release)) _ _ r (then _ _ true (lt-ltb a (q .n) h) k) (f ∙ ap (ask s at.Release q t a) e))
 
     pub share-bare : releases (s .isolation) (s .release) ≡ false → w ≡ noWrites → r ≡ ask s at.Modify q t 0 w → r ≡ shareRun s q t a
     unfolding shareRun
     share-bare k e f =
-        left (ltb a (q .n) && isSnp (s .isolation)) _ _ r (then _ _ false (lt-ltb a (q .n) h) g)
-        (left (ltb a (q .n) && releases (s .isolation) (s .release)) _ _ r (then _ _ false (lt-ltb a (q .n) h) k) (f ∙ ap (ask s at.Modify q t 0) e))
+        took-not (ltb a (q .n) && isSnp (s .isolation)) _ _ r (then _ _ false (lt-ltb a (q .n) h) g)
+        (took-not (ltb a (q .n) && releases (s .isolation) (s .release)) _ _ r (then _ _ false (lt-ltb a (q .n) h) k) (f ∙ ap (ask s at.Modify q t 0) e))
 
   -- ---- to private
 
   pub default-end : (a : ℕ) → q .n ≤ a → r ≡ end q w → r ≡ defaultRun s q t a w
   unfolding defaultRun
-  default-end a h f = left (ltb a (q .n)) _ _ r (le-ltb a (q .n) h) f
+  default-end a h f = took-not (ltb a (q .n)) _ _ r (le-ltb a (q .n) h) f
 
   pub default-asks : (a b : ℕ) (x : Writes) → a < q .n → b ≡ cond (s .tracked) (runEnd t (q .n) a) a → x ≡ setPermissions w a b (s .defaults .vtl0)
       → r ≡ ask s at.ProtectDefault0 q t a x → r ≡ defaultRun s q t a w
@@ -134,7 +116,7 @@ module _ (s : Settings) (q : Request) (t : List ℕ) (r : Step) (w : Writes) whe
 
   pub return-none : (a : ℕ) (x : Writes) → q .n ≤ a → x ≡ setPrivate w (q .n) → r ≡ defaultRun s q t 0 x → r ≡ returnRun s q t a w
   unfolding returnRun
-  return-none a x h i f = left (ltb a (q .n)) _ _ r (le-ltb a (q .n) h) (f ∙ ap (defaultRun s q t 0) i)
+  return-none a x h i f = took-not (ltb a (q .n)) _ _ r (le-ltb a (q .n) h) (f ∙ ap (defaultRun s q t 0) i)
 
   pub return-cca : (a : ℕ) (x : Writes) → a < q .n → isCca (s .isolation) ≡ true → x ≡ setPrivate w (q .n) → r ≡ defaultRun s q t 0 x
       → r ≡ returnRun s q t a w
@@ -144,7 +126,7 @@ module _ (s : Settings) (q : Request) (t : List ℕ) (r : Step) (w : Writes) whe
 
   pub return-asks : (a : ℕ) → a < q .n → isCca (s .isolation) ≡ false → r ≡ ask s at.Accept q t a w → r ≡ returnRun s q t a w
   unfolding returnRun
-  return-asks a h g f = took (ltb a (q .n)) _ _ r (lt-ltb a (q .n) h) (left (isCca (s .isolation)) _ _ r g f)
+  return-asks a h g f = took (ltb a (q .n)) _ _ r (lt-ltb a (q .n) h) (took-not (isCca (s .isolation)) _ _ r g f)
 
   -- ---- after an operation
 
@@ -154,7 +136,7 @@ module _ (s : Settings) (q : Request) (t : List ℕ) (r : Step) (w : Writes) whe
 
   pub flush-return : q .share ≡ false → w ≡ noWrites → r ≡ ask s at.Modify q t 0 w → r ≡ afterFlush s q t
   unfolding afterFlush
-  flush-return h e f = left (q .share) _ _ r h (f ∙ ap (ask s at.Modify q t 0) e)
+  flush-return h e f = took-not (q .share) _ _ r h (f ∙ ap (ask s at.Modify q t 0) e)
 
   pub wait-snp : isSnp (s .isolation) ≡ true → w ≡ noWrites → r ≡ ask s at.FlushAll q t 0 w → r ≡ afterWait s q t
   unfolding afterWait
@@ -162,7 +144,7 @@ module _ (s : Settings) (q : Request) (t : List ℕ) (r : Step) (w : Writes) whe
 
   pub wait-on : isSnp (s .isolation) ≡ false → r ≡ afterFlush s q t → r ≡ afterWait s q t
   unfolding afterWait
-  wait-on h f = left (isSnp (s .isolation)) _ _ r h f
+  wait-on h f = took-not (isSnp (s .isolation)) _ _ r h f
 
   pub modify-share : (x : Writes) → q .share ≡ true → w ≡ noWrites → x ≡ setShared w 0 (q .n) → r ≡ end q x → r ≡ afterModify s q t
   unfolding afterModify
@@ -170,7 +152,7 @@ module _ (s : Settings) (q : Request) (t : List ℕ) (r : Step) (w : Writes) whe
 
   pub modify-return : q .share ≡ false → w ≡ noWrites → r ≡ returnRun s q t 0 w → r ≡ afterModify s q t
   unfolding afterModify
-  modify-return h e f = left (q .share) _ _ r h (f ∙ ap (returnRun s q t 0) e)
+  modify-return h e f = took-not (q .share) _ _ r h (f ∙ ap (returnRun s q t 0) e)
 
   pub accept-snp : isSnp (s .isolation) ≡ true → w ≡ noWrites → r ≡ ask s at.Zero q t (q .at) w → r ≡ afterAccept s q t
   unfolding afterAccept
@@ -178,7 +160,7 @@ module _ (s : Settings) (q : Request) (t : List ℕ) (r : Step) (w : Writes) whe
 
   pub accept-on : (k : ℕ) → isSnp (s .isolation) ≡ false → k ≡ runEnd t (q .n) (q .at) → w ≡ noWrites → r ≡ returnRun s q t k w → r ≡ afterAccept s q t
   unfolding afterAccept
-  accept-on k h g e f = left (isSnp (s .isolation)) _ _ r h (f ∙ ap₂ (returnRun s q t) g e)
+  accept-on k h g e f = took-not (isSnp (s .isolation)) _ _ r h (f ∙ ap₂ (returnRun s q t) g e)
 
   -- ---- Modify failed
 
@@ -188,14 +170,14 @@ module _ (s : Settings) (q : Request) (t : List ℕ) (r : Step) (w : Writes) whe
 
   pub failed-much : (code k : ℕ) → q .share ≡ false → q .n ≤ k → r ≡ halt q → r ≡ failedModify s q t code k
   unfolding failedModify
-  failed-much code k h g f = left (q .share) _ _ r h (took (leb (q .n) k) _ _ r (le-leb (q .n) k g) f)
+  failed-much code k h g f = took-not (q .share) _ _ r h (took (leb (q .n) k) _ _ r (le-leb (q .n) k g) f)
 
   pub failed-cut : (code k i : ℕ) (x : Writes) → q .share ≡ false → k < q .n → i ≡ getD t (512 + k) 0 → w ≡ noWrites → x ≡ setShared w k (q .n)
       → r ≡ returnRun s (cutAt q k code i) t 0 x → r ≡ failedModify s q t code k
   unfolding failedModify
   failed-cut code k i x h g b e d f =
-      left (q .share) _ _ r h
-      (left (leb (q .n) k) _ _ r (lt-leb (q .n) k g)
+      took-not (q .share) _ _ r h
+      (took-not (leb (q .n) k) _ _ r (lt-leb (q .n) k g)
       (f ∙ ap₂ (λ (y : ℕ) (z : Writes). returnRun s (cutAt q k code y) t 0 z) b (d ∙ ap (λ (y : Writes). setShared y k (q .n)) e)))
 
 -- ---- what a taken call clears
@@ -208,4 +190,4 @@ module _ (tracked : Bool) (vtl : GuestVtl) (share : Bool) (n : ℕ) (f : HvMapGp
 
   pub clears-private : share ≡ false → writes false (places 0 0) (places 0 n) (places 0 0) f ≡ cleared tracked vtl share n
   unfolding cleared
-  clears-private h = left share _ _ _ h (ap (λ (z : HvMapGpaFlags). writes false (places 0 0) (places 0 n) (places 0 0) z) e)
+  clears-private h = took-not share _ _ _ h (ap (λ (z : HvMapGpaFlags). writes false (places 0 0) (places 0 n) (places 0 0) z) e)

@@ -2,9 +2,10 @@
 use Prim.Native.Nat.{ℕ, _+_, _%_, _^_, _≤_, _<_}
 use mathlib.Core.Path.{_≡_, refl, sym, ap, ap₂, _∙_}
 use mathlib.Core.List.{List}
-use mathlib.Core.Bool.{Bool, true, false, cond, _&&_}
+use mathlib.Core.Bool.{Bool, true, false, _&&_}
 use lib.Dec.{eqb, ltb}
 use borrow.Author.Tests.{lt-ltb, le-ltb, eq-eqb, ne-eqb}
+use Rattle.laws.specs.Bools.{took, took-not}
 use Rattle.permissions.specs.declared.HvMapGpaFlags.{HvMapGpaFlags}
 use Rattle.permissions.specs.declared.GuestVtl.{GuestVtl}
 use Rattle.permissions.specs.Flags.{flagsOf}
@@ -23,14 +24,6 @@ use Rattle.changes.specs.declared.Change.{Change}
 use Rattle.changes.specs.declared.ChangeStep.{ChangeStep}
 use Rattle.changes.specs.Changes.{noRun, noChange, counted, step, writtenBy, protect, ask, wait, finish, halt, keep, protectPages, protectRam, overlayOf, startNew, startOld}
 
--- a choice whose test is known
-module _ {A : Type 0} (b : Bool) (x y r : A) where
-  took : b ≡ true → r ≡ x → r ≡ cond b x y
-  took e f = f ∙ ap (λ (t : Bool). cond t x y) (sym e)
-
-  left : b ≡ false → r ≡ y → r ≡ cond b x y
-  left e f = f ∙ ap (λ (t : Bool). cond t x y) (sym e)
-
 -- ---- whether the maps are written
 
 module _ (v t e : Bool) where
@@ -48,7 +41,7 @@ module _ (tracked : Bool) (q : Change) (r : PageRun) where
   written-run h = took (isVtl0 (q .vtl) && (tracked && eqb (q .source) 0)) r noRun r h refl
 
   pub written-none : (x : PageRun) → (isVtl0 (q .vtl) && (tracked && eqb (q .source) 0)) ≡ false → x ≡ noRun → x ≡ writtenBy tracked q r
-  written-none x h f = left (isVtl0 (q .vtl) && (tracked && eqb (q .source) 0)) r noRun x h f
+  written-none x h f = took-not (isVtl0 (q .vtl) && (tracked && eqb (q .source) 0)) r noRun x h f
 
 -- ---- an operation asked for
 
@@ -87,7 +80,7 @@ module _ (tracked : Bool) (q : Change) (s : ChangeStep) where
   module _ (t : List ℕ) (a : ℕ) where
     pub pages-none : q .n ≤ a → s ≡ wait q Keep → s ≡ protectPages tracked q t a
     unfolding protectPages
-    pages-none h f = left (ltb a (q .n)) _ _ s (le-ltb a (q .n) h) f
+    pages-none h f = took-not (ltb a (q .n)) _ _ s (le-ltb a (q .n) h) f
 
     pub pages-next : (r : PageRun) → a < q .n → r ≡ runAt t (q .n) a → s ≡ protect tracked at.ProtectPages q a r → s ≡ protectPages tracked q t a
     unfolding protectPages
@@ -100,14 +93,14 @@ module _ (tracked : Bool) (q : Change) (s : ChangeStep) where
 
     pub ram-next : (r .count ≡ 0 → ⊥) → s ≡ protect tracked at.ProtectRam q (r .first + r .count) r → s ≡ protectRam tracked q r
     unfolding protectRam
-    ram-next h f = left (eqb (r .count) 0) _ _ s (ne-eqb (r .count) 0 h) f
+    ram-next h f = took-not (eqb (r .count) 0) _ _ s (ne-eqb (r .count) 0 h) f
 
 -- ---- an overlay call
 
 module _ (tracked : Bool) (v : GuestVtl) (p : ℕ) (s : ChangeStep) (q : Change) where
   pub new-bare : (source current new : ℕ) → 16 ≤ new → q ≡ overlayOf v p current current source → s ≡ wait q Add → s ≡ startNew tracked v p source current new
   unfolding startNew
-  new-bare source current new h e f = left (ltb new 16) _ _ s (le-ltb new 16 h) (f ∙ ap (λ (x : Change). wait x Add) e)
+  new-bare source current new h e f = took-not (ltb new 16) _ _ s (le-ltb new 16 h) (f ∙ ap (λ (x : Change). wait x Add) e)
 
   pub new-flags : (source current new : ℕ) → new < 16 → q ≡ overlayOf v p new current source → s ≡ protect tracked at.ProtectNew q p (run p 1)
       → s ≡ startNew tracked v p source current new

@@ -7,8 +7,9 @@ use native.Mathlib.Omega.{arith}
 use native.Mathlib.Decide.{decLt}
 use lib.Dec.{eqb, leb}
 use lib.ListN.{length, getD}
-use borrow.Author.Tests.{eq-eqb, ne-eqb, lt-ltb, le-ltb, le-leb, lt-leb, not-true}
+use borrow.Author.Tests.{ne-eqb, lt-ltb, le-ltb, le-leb, lt-leb, not-true}
 use Rattle.pages.specs.Pages.{among}
+use Rattle.pages.proofs.Laws.{among-at}
 use Rattle.overlays.specs.Overlays.{used, placeFrom, isOverlay}
 use Rattle.defaults.specs.Pieces.{non, startOf, lenOf, free, pagesFrom, overlayPages, outside, stopAt, howMany, inside}
 use Rattle.defaults.proofs.Spans as laws
@@ -108,16 +109,6 @@ stop-false P (x ∷ l) h = go (P x) refl (stop-false P l) h
         → P (getD (x ∷ l) (cond b (suc (stopAt P l)) 0) 0) ≡ false
     go true e m g = m (omega arith)
     go false e m g = e
-
-pub among-at : (l : List ℕ) (i : ℕ) → i < length l → among l (getD l i 0) ≡ true
-unfolding among
-among-at [] i h = absurd (omega arith)
-among-at (x ∷ l) zero h = rw (eq-eqb x x refl)
-among-at (x ∷ l) (suc i) h = go (eqb (getD l i 0) x) (among-at l i (omega arith))
-  where
-    go : (b : Bool) → among l (getD l i 0) ≡ true → (b || among l (getD l i 0)) ≡ true
-    go true e = refl
-    go false e = e
 
 pub none-inside : (a k : ℕ) (l : List ℕ) → length l ≤ stopAt (outside a k) l → (q : ℕ) → a ≤ q → q < a + k → not (among l q) ≡ true
 unfolding stopAt among

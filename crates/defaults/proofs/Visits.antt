@@ -17,7 +17,7 @@ use Rattle.layout.specs.Layout.{entryAt, holdsPage, ramByte, isRam, ordered, la
 use Rattle.layout.proofs.Laws.{ordered-cons, ram-below}
 use Rattle.pages.specs.declared.PageRun.{PageRun}
 use Rattle.pages.specs.Pages.{among, stepsFrom, strict}
-use Rattle.defaults.specs.Pieces.{pageUp, pieceIn, nextOf, wanted, nextPiece}
+use Rattle.defaults.specs.Pieces.{pageUp, pieceIn, nextOf, wanted}
 use Rattle.defaults.specs.Visit.{upTo, pick, pagesIn, piecesFrom, pieces, wantedBelow, inOneEntry, eachInOne}
 use Rattle.defaults.proofs.Whole as whole
 
@@ -324,7 +324,3 @@ module _ (private overlays : List ℕ) (es : List MemoryRangeWithNode) (o : orde
         (λ e. and-right (between 0 (0 + n) p) (isRam es p && wanted private overlays p) e)
         (λ e. and-true (between 0 (0 + n) p) (isRam es p && wanted private overlays p)
         (between-true 0 (0 + n) p (omega arith) (omega (arith, all, ram-below es (p * 4096) o (and-left (isRam es p) (wanted private overlays p) e)))) e)
-
-  -- a piece page by page: where it starts, its entry, its pages
-  pub piece-found : (at : ℕ) → (nextPiece private overlays es at .count ≡ 0 → ⊥) → Found (wanted private overlays) es at (nextPiece private overlays es at)
-  piece-found at some = next-some (wanted private overlays) at es 0 o some

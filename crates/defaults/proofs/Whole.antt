@@ -5,6 +5,7 @@ use Prim.Native.Nat.{ℕ, zero, suc, _+_, _-_, _≤_, _<_}
 use native.Mathlib.Omega.{arith}
 use native.Mathlib.Decide.{decLt, ℕ-discrete}
 use borrow.Author.Tests.{not-true, not-false}
+use Rattle.laws.specs.Bools.{and-ends, and-goes}
 use Rattle.defaults.specs.Pieces.{span, non, startOf, lenOf}
 use Rattle.defaults.proofs.Spans as laws
 
@@ -100,12 +101,6 @@ module _ (Q : ℕ → Bool) (a j n : ℕ) (fits : j ≤ n) (stops : a + j < a + 
     | no d ↦ let e : n ≡ j = omega (arith, d) in ap (lenOf Q a) e
   ]
 
-and-left : (b c : Bool) → b ≡ true → c ≡ (b && c)
-and-left b c e = rw e
-
-and-none : (b c : Bool) → b ≡ false → (b && c) ≡ false
-and-none b c e = rw e
-
 -- the piece of two conditions is found in the runs of the first
 module _ (P F : ℕ → Bool) (a end : ℕ) (s n : ℕ) (es : s ≡ startOf P a (end - a)) (en : n ≡ lenOf P a (end - a)) (some : a < end) where
   s-fits : s + n ≤ end
@@ -121,10 +116,10 @@ module _ (P F : ℕ → Bool) (a end : ℕ) (s n : ℕ) (es : s ≡ startOf P a 
   run-moves = omega (arith, es, en, piece-moves P a (end - a) (omega arith))
 
   agree : (q : ℕ) → s ≤ q → q < s + n → F q ≡ (P q && F q)
-  agree q x y = and-left (P q) (F q) (piece-holds P a (end - a) q (omega (arith, es)) (omega (arith, es, en)))
+  agree q x y = and-goes (P q) (F q) (F q) (piece-holds P a (end - a) q (omega (arith, es)) (omega (arith, es, en))) refl
 
   skips : span (non (λ q. P q && F q)) a (s - a) ≡ s - a
-  skips = laws.span-all (non (λ q. P q && F q)) (s - a) a (λ q x y. ap not (and-none (P q) (F q) (piece-before P a (end - a) q x (omega (arith, es, y, a-fits)))))
+  skips = laws.span-all (non (λ q. P q && F q)) (s - a) a (λ q x y. ap not (sym (and-ends (P q) (F q) (piece-before P a (end - a) q x (omega (arith, es, y, a-fits))))))
 
   ahead : end - a ≡ (s - a) + (end - s)
   ahead = omega (arith, a-fits, s-fits)
@@ -139,7 +134,7 @@ module _ (P F : ℕ → Bool) (a end : ℕ) (s n : ℕ) (es : s ≡ startOf P a 
   to-run-len = ap (lenOf (λ q. P q && F q) a) ahead ∙ pass-len (λ q. P q && F q) a (s - a) (end - s) skips ∙ ap (λ (x : ℕ). lenOf (λ q. P q && F q) x (end - s)) here
 
   ends : s + n < s + (end - s) → (P (s + n) && F (s + n)) ≡ false
-  ends h = and-none (P (s + n)) (F (s + n)) (ap P e ∙ piece-after P a (end - a) (omega (arith, h, es, en, some)))
+  ends h = sym (and-ends (P (s + n)) (F (s + n)) (ap P e ∙ piece-after P a (end - a) (omega (arith, h, es, en, some))))
     where
       e : s + n ≡ startOf P a (end - a) + lenOf P a (end - a)
       e = ap₂ (λ (x y : ℕ). x + y) es en

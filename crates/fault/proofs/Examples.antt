@@ -1,12 +1,12 @@
 -- Each action, each view, and past the end: pages 0 to 7. Assumes nothing.
-use mathlib.Core.Bool.{true, false}
-use mathlib.Core.List.{List, [], _∷_}
+use mathlib.Core.Bool.{true}
+use mathlib.Core.List.{[], _∷_}
 use mathlib.Core.Path.{_≡_, refl}
 use Prim.Native.Nat.{ℕ, _*_}
 use Rattle.layout.specs.Layout.{entriesOf}
 use Rattle.mapping.specs.Maps.{Maps, maps, mapsFit}
 use Rattle.fault.specs.declared.PageFaultAction.{PageFaultAction}
-use Rattle.fault.specs.declared.PageFaultAction.the-variants.{Retry, NotMapped, NotShared, NotPrivate, VtlProtected, Refused}
+use Rattle.fault.specs.declared.PageFaultAction.the-variants.{Retry, VtlProtected, Refused}
 use Rattle.fault.specs.Fault.{faultOf, faultRefusal, pageFault}
 
 -- page 1 read, 2 written, 3 executed by the kernel, 4 by the user; all private

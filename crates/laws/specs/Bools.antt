@@ -1,7 +1,7 @@
 -- Tests and what they tell. Assumes nothing.
-use mathlib.Core.Bool.{Bool, true, false, not, _&&_, _||_}
+use mathlib.Core.Bool.{Bool, true, false, not, cond, _&&_, _||_}
 use mathlib.Core.Logic.{_⊎_, inl, inr}
-use mathlib.Core.Path.{_≡_, refl, sym}
+use mathlib.Core.Path.{_≡_, refl, sym, ap, _∙_}
 use Prim.Native.Nat.{ℕ, _≤_, _<_}
 use native.Mathlib.Decide.{decLt}
 use native.Mathlib.Omega.{arith}
@@ -23,6 +23,22 @@ pub same : (a b : Bool) → (a ≡ true → b ≡ true) → (b ≡ true → a �
 same true b f g = sym (f refl)
 same false true f g = g refl
 same false false f g = refl
+
+-- a choice whose test is known
+module _ {A : Type 0} (b : Bool) (x y r : A) where
+  pub took : b ≡ true → r ≡ x → r ≡ cond b x y
+  took e f = f ∙ ap (λ (t : Bool). cond t x y) (sym e)
+
+  pub took-not : b ≡ false → r ≡ y → r ≡ cond b x y
+  took-not e f = f ∙ ap (λ (t : Bool). cond t x y) (sym e)
+
+-- a choice by a test t that the code made as b
+module _ {A : Type 0} (b t : Bool) (x y r : A) (e : b ≡ t) where
+  pub chose : b ≡ true → r ≡ x → r ≡ cond t x y
+  chose h f = took t x y r (sym e ∙ h) f
+
+  pub chose-not : b ≡ false → r ≡ y → r ≡ cond t x y
+  chose-not h f = took-not t x y r (sym e ∙ h) f
 
 -- and: what it tells, and a chain of tests that goes on or ends
 pub and-left : (a b : Bool) → (a && b) ≡ true → a ≡ true

@@ -1,10 +1,11 @@
 -- A chain of refusals (01, "Order"): the number of the first test that fails, or 0. Assumes nothing.
 use mathlib.Core.Bool.{Bool, true, false, cond}
-use mathlib.Core.Path.{_≡_, refl}
+use mathlib.Core.Path.{_≡_, refl, sym, ap, _∙_}
 use Prim.Native.Nat.{ℕ, suc}
 use native.Mathlib.Omega.{arith}
 use lib.Dec.{eqb}
-use borrow.Author.Tests.{eq-eqb, ne-eqb}
+use borrow.Author.Tests.{eq-eqb, ne-eqb, eqb-true}
+use Rattle.laws.specs.Bools.{false≢true}
 
 -- the number where the test fails, else the rest
 abbrev pub unless : Bool → ℕ → ℕ → ℕ
@@ -20,6 +21,14 @@ passes t code rest x e q = rw e q
 pub passed : (t : Bool) (k rest : ℕ) → unless t (suc k) rest ≡ 0 → (t ≡ true) × (rest ≡ 0)
 passed true k rest h = (refl, h)
 passed false k rest h = absurd (omega arith)
+
+-- a chain that begins with another's number n, where it refuses nothing
+pub first-passed : (n rest : ℕ) → unless (eqb n 0) n rest ≡ 0 → (n ≡ 0) × (rest ≡ 0)
+first-passed n rest h = go (eqb n 0) refl
+  where
+    go : (b : Bool) → eqb n 0 ≡ b → (n ≡ 0) × (rest ≡ 0)
+    go true e = (eqb-true n 0 e, sym (ap (λ (t : Bool). unless t n rest) e) ∙ h)
+    go false e = absurd (false≢true (sym e ∙ ap (λ (k : ℕ). eqb k 0) (sym (ap (λ (t : Bool). unless t n rest) e) ∙ h)))
 
 -- a call is refused by the number n that its chain x gives, or answered where that is 0
 module _ {A : Type 0} (n x : ℕ) (e : n ≡ x) where

@@ -1,14 +1,12 @@
 -- Laws of the calls that lock and unlock: one for each way out. Assumes nothing.
-use mathlib.Core.Path.{_≡_, refl, sym, ap, ap₂, _∙_}
-use mathlib.Core.Bool.{Bool, true, false}
+use mathlib.Core.Path.{_≡_, sym, ap, ap₂, _∙_}
 use mathlib.Core.List.{List, _++_}
 use Prim.Native.Nat.{ℕ, _+_, _*_}
 use lib.Dec.{eqb}
 use lib.ListN.{length, take, drop}
 use lib.Seq.{drop-drop}
 use borrow.Author.Tests.{eqb-true}
-use Rattle.laws.specs.Bools.{false≢true}
-use Rattle.laws.specs.Refusal.{unless, passed, refused, answered}
+use Rattle.laws.specs.Refusal.{passed, first-passed, refused, answered}
 use Rattle.permissions.specs.declared.GuestVtl.{GuestVtl}
 use Rattle.permissions.specs.Flags.{vtlOf, vtlNumber}
 use Rattle.permissions.specs.HvError.{codeOf}
@@ -48,19 +46,12 @@ module _ (t ps o : List ℕ) (r : ℕ) (v w : GuestVtl) (e : v ≡ w) where
 
 -- ---- a call refused, and one that isn't
 
-not-busy : (s rest : ℕ) → unless (eqb s 0) s rest ≡ 0 → rest ≡ 0
-not-busy s rest h = go (eqb s 0) refl
-  where
-    go : (b : Bool) → eqb s 0 ≡ b → rest ≡ 0
-    go true e = sym (ap (λ (t : Bool). unless t s rest) e) ∙ h
-    go false e = absurd (false≢true (sym e ∙ ap (λ (k : ℕ). eqb k 0) (sym (ap (λ (t : Bool). unless t s rest) e) ∙ h)))
-
 module _ (s t : List ℕ) (vtl : ℕ) (l : List ℕ) (n : ℕ) (e : n ≡ lockRefusal s (length t) vtl l) where
   pub passed-length : n ≡ 0 → length t ≡ tablesLen
   unfolding lockRefusal
   passed-length z =
       let a = passed (eqb (length s) stateLen) 3 _ (sym e ∙ z) in
-      eqb-true (length t) tablesLen (passed (eqb (length t) tablesLen) 3 _ (not-busy (statusIn s) _ (a .1)) .0)
+      eqb-true (length t) tablesLen (passed (eqb (length t) tablesLen) 3 _ (first-passed (statusIn s) _ (a .1) .1) .0)
 
   module _ (r : Reply) where
     pub lock-refused : (n ≡ 0 → ⊥) → r ≡ finished n (codeOf n) 0 0 → kept t r ≡ lockOf s t vtl l

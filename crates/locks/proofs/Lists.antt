@@ -12,7 +12,7 @@ use Rattle.laws.specs.Bools.{and-left, and-right}
 use Rattle.words.specs.Words.{zeros, padded}
 use Rattle.pages.specs.Runs.{part}
 use Rattle.words.proofs.Padded.{length-padded, sets-padded}
-use Rattle.locks.specs.Locks.{held, total, Fit, roomFor, stream, tableOf, used, nextAt, listsFrom, endFrom, listsOf, lockCode, lockWords}
+use Rattle.locks.specs.Locks.{total, Fit, roomFor, stream, tableOf, used, nextAt, listsFrom, endFrom, listsOf, lockCode, lockWords}
 
 pub length-stream : (ls : List (List ℕ)) → length (stream ls) ≡ length ls + total ls
 unfolding stream total
@@ -110,9 +110,6 @@ module _ (ls : List (List ℕ)) (fit : Fit ls) where
 
   pub table-lists : listsOf (tableOf ls) ≡ ls
   table-lists = ap (λ (k : ℕ). listsFrom (tableOf ls) k 1) table-used ∙ lists-from ls (tableOf ls) (length ls ∷ []) (zeros (left ls)) 1 whole refl
-
-  pub table-holds : (p : ℕ) → held (listsOf (tableOf ls)) p ≡ held ls p
-  table-holds p = ap (λ (xs : List (List ℕ)). held xs p) table-lists
 
   -- ---- lock
   module _ (l : List ℕ) where

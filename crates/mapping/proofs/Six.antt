@@ -1,17 +1,15 @@
 -- Each of the six maps, page by page. Assumes nothing.
-use mathlib.Core.Bool.{Bool, true, false, cond, _&&_}
+use mathlib.Core.Bool.{true, false, cond, _&&_}
 use mathlib.Core.List.{List}
-use mathlib.Core.Path.{_≡_, refl}
+use mathlib.Core.Path.{_≡_}
 use Prim.Native.Nat.{ℕ, _/_}
 use lib.Dec.{ltb}
 use lib.ListN.{length}
-use Rattle.laws.specs.Ranges.{between}
 use Rattle.bitmap.specs.Pages.{bitAt}
 use Rattle.layout.specs.declared.MemoryRangeWithNode.{MemoryRangeWithNode}
 use Rattle.layout.specs.Layout.{isRam}
-use Rattle.permissions.specs.declared.HvMapGpaFlags.{HvMapGpaFlags}
-use Rattle.mapping.specs.Maps.{Permissions, Maps, built, permitted, flagsAt}
-use Rattle.mapping.proofs.Marks.{fresh-page, permitted-page}
+use Rattle.mapping.specs.Maps.{Maps, built}
+use Rattle.mapping.proofs.Marks.{fresh-page}
 
 pub record Built (es : List MemoryRangeWithNode) (m : Maps) (p : ℕ) : Type 0 where
   pub private : bitAt 8 (built es m .private) p ≡ cond (isRam es p && ltb (p / 8) (length (m .private))) true false

@@ -7,7 +7,7 @@ use Prim.Native.Nat.{ℕ, _+_, _-_, _≤_, _<_, _^_}
 use lib.Dec.{eqb, ltb}
 use lib.ListN.{length}
 use borrow.Author.Tests.{eqb-true, ltb-true, lt-ltb, le-ltb}
-use Rattle.laws.specs.Bools.{digit}
+use Rattle.laws.specs.Bools.{digit, chose, chose-not}
 use Rattle.laws.specs.Refusal.{passed, refused, answered}
 use Rattle.permissions.specs.declared.GuestVtl.{GuestVtl}
 use Rattle.permissions.specs.declared.HvMapGpaFlags.{HvMapGpaFlags}
@@ -27,9 +27,8 @@ use Rattle.protector_state.specs.declared.Reply.{Reply}
 use Rattle.protector_state.specs.State.{stateLen, settingsOf, entriesIn}
 use Rattle.protector_state.specs.Reply.{finished, flatOf}
 use Rattle.change_state.specs.State.{withChange}
-use Rattle.protector.specs.World.{World, Outcome, outcome, tablesLen, overlaysOf, locksOf, fits, permittedRun, entered}
-use Rattle.protector.specs.Calls.{decided, refusedBy, carriedChange}
-use Rattle.protector.proofs.Laws as lengths
+use Rattle.protector.specs.World.{World, outcome, tablesLen, overlaysOf, locksOf, permittedRun, entered}
+use Rattle.protector.specs.Calls.{carriedChange}
 use Rattle.queries.specs.declared.Value.{Value}
 use Rattle.queries.specs.Queries.{value}
 use Rattle.overlay_tests.specs.Refusals.{callRefusal, unregisterRefusal, within, neededOf, knownRefusal, guestRefusal, dmaRefusal, pageRefusal, registerRefusal}
@@ -51,20 +50,6 @@ module _ (s t : List ℕ) (vtl p n : ℕ) (e : n ≡ callRefusal s (eqb (length 
   query-taken v o b d r z e1 e2 e3 e4 e5 =
       answered n _ e (value 0 (digit (isOverlay (overlaysOf t (vtlOf vtl)) p))) r (λ k. value k (codeOf k)) z
       (e5 ∙ ap (value 0) (e4 ∙ ap digit (e3 ∙ ap (λ (x : List ℕ). isOverlay x p) (e2 ∙ ap (overlaysOf t) e1))))
-
--- ---- a call refused, and one that isn't
-
-module _ (w : World) (n x : ℕ) (e : n ≡ x) (taken : Outcome) where
-  pub call-refused : (r : Reply) → (n ≡ 0 → ⊥) → r ≡ finished n (codeOf n) 0 0 → outcome (w .maps) (w .state) (w .pages) (w .tables) r ≡ decided w x taken
-  call-refused r h q = ap (outcome (w .maps) (w .state) (w .pages) (w .tables)) q ∙ refused n x e taken (refusedBy w) h
-
-  pub call-taken : (o : Outcome) → n ≡ 0 → o ≡ taken → o ≡ decided w x taken
-  call-taken o h q = answered n x e taken o (refusedBy w) h q
-
-pub tables-fit : (w : World) → fits w ≡ true → length (w .tables) ≡ tablesLen
-tables-fit w h =
-    lengths.tables-fit (w .state) (length (w .maps .private)) (length (w .maps .shared)) (length (w .maps .permissions .read)) (length (w .maps .permissions .write))
-    (length (w .maps .permissions .kernel)) (length (w .maps .permissions .user)) (length (w .pages)) (length (w .tables)) h
 
 -- ---- a step carried out
 
@@ -104,7 +89,7 @@ module _ (w : World) (v : GuestVtl) (p : ℕ) (e : OverlayPage) (q : e ≡ entry
       → outcome (w .maps) (w .state) (w .pages) t r ≡ unregisterTaken w v p
   unfolding unregisterTaken
   unregister-counted t r h a b =
-      rw (a, b) (lengths.chose (ltb 1 (e .«ref_count»)) (ltb 1 (entryIn (w .tables) v p .«ref_count»)) _ _ (counting w v p (e .«ref_count» - 1))
+      rw (a, b) (chose (ltb 1 (e .«ref_count»)) (ltb 1 (entryIn (w .tables) v p .«ref_count»)) _ _ (counting w v p (e .«ref_count» - 1))
       (ap (λ (k : OverlayPage). ltb 1 (k .«ref_count»)) q) (lt-ltb 1 (e .«ref_count») h) (ap (λ (k : OverlayPage). counting w v p (k .«ref_count» - 1)) q))
 
   pub unregister-carried : (set : Settings) (x : ChangeStep) (m : Permissions) (s t : List ℕ) (r : Reply) → e .«ref_count» ≤ 1 → set ≡ settingsOf (w .state)
@@ -114,7 +99,7 @@ module _ (w : World) (v : GuestVtl) (p : ℕ) (e : OverlayPage) (q : e ≡ entry
       → outcome (withPerms (w .maps) m) s (w .pages) t r ≡ unregisterTaken w v p
   unfolding unregisterTaken
   unregister-carried set x m s t r h d f a b c g =
-      lengths.chose-not (ltb 1 (e .«ref_count»)) (ltb 1 (entryIn (w .tables) v p .«ref_count»)) _ _ _
+      chose-not (ltb 1 (e .«ref_count»)) (ltb 1 (entryIn (w .tables) v p .«ref_count»)) _ _ _
       (ap (λ (k : OverlayPage). ltb 1 (k .«ref_count»)) q) (le-ltb 1 (e .«ref_count») h)
       (carried w set x _ m s t r d f a b c g
       ∙ ap (λ (k : Settings). carriedChange w (w .pages) (startOld (k .tracked) v p (e .«previous_permissions») (e .«gpn_source»))) d
@@ -166,7 +151,7 @@ module _ (w : World) (v : GuestVtl) (p source new : ℕ) (o : List ℕ) (b : Boo
       → outcome (w .maps) (w .state) (w .pages) t r ≡ registerTaken w v p source new
   unfolding registerTaken
   register-counted e t r h q a d =
-      lengths.chose b (isOverlay (overlaysOf (w .tables) v) p) _ _ _ whether h
+      chose b (isOverlay (overlaysOf (w .tables) v) p) _ _ _ whether h
       (ap₂ (λ (x : List ℕ) (y : Reply). outcome (w .maps) (w .state) (w .pages) x y) (a ∙ ap (λ (k : OverlayPage). recounted (w .tables) v p (k .«ref_count» + 1)) q) d)
 
   pub register-carried : (set : Settings) (current : HvMapGpaFlags) (bits : ℕ) (x : ChangeStep) (m : Permissions) (s t : List ℕ) (r : Reply) → b ≡ false → set ≡ settingsOf (w .state)
@@ -176,6 +161,6 @@ module _ (w : World) (v : GuestVtl) (p source new : ℕ) (o : List ℕ) (b : Boo
       → outcome (withPerms (w .maps) m) s (w .pages) t r ≡ registerTaken w v p source new
   unfolding registerTaken
   register-carried set current bits x m s t r h d i j f a k c g =
-      lengths.chose-not b (isOverlay (overlaysOf (w .tables) v) p) _ _ _ whether h
+      chose-not b (isOverlay (overlaysOf (w .tables) v) p) _ _ _ whether h
       (carried w set x _ m s t r d f a k c g
       ∙ ap₂ (λ (y : Settings) (z : ℕ). carriedChange w (w .pages) (startNew (y .tracked) v p source z new)) d (j ∙ ap bitsOf i))

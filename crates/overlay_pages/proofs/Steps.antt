@@ -20,12 +20,12 @@ use Rattle.overlays.specs.declared.OverlayPage.{OverlayPage}
 use Rattle.overlays.specs.Overlays.{knows, entry, entryOf, dropFirst, tableOf, isOverlay, placeOf, entryAt, addCode, addWords, removeWords}
 use Rattle.overlays.proofs.Lists.{first, drop-length, table-length, table-overlay, table-remove, table-add-code, table-add}
 use Rattle.acceptor.specs.declared.Operation.the-variants.{Wait, Protect, Flush, TlbWait}
-use Rattle.acceptor.specs.declared.Answer.the-variants.{Done, Failed, Ask}
+use Rattle.acceptor.specs.declared.Answer.the-variants.{Done, Ask}
 use Rattle.changes.specs.declared.Change.{Change}
 use Rattle.changes.specs.declared.ChangeStep.{ChangeStep}
 use Rattle.changes.specs.declared.Stage.the-variants as at
 use Rattle.changes.specs.declared.Entry.the-variants.{Keep, Add, Remove}
-use Rattle.changes.specs.Changes.{ask, wait, protect, finish, operationDenied, overlayOf, doneOf, failedOf, startNew, startOld}
+use Rattle.changes.specs.Changes.{ask, wait, protect, finish, overlayOf, doneOf, startNew, startOld}
 use Rattle.protector_state.specs.State.{settingsOf, entriesIn}
 use Rattle.protector_state.specs.Reply.{askedOf, flatOf}
 use Rattle.protector.specs.World.{World, Outcome, tablesLen, overlaysOf, locksOf, isLocked, fits, withoutPage, entered}
@@ -62,30 +62,11 @@ module _ (tracked : Bool) (v : GuestVtl) (p source current new : ℕ) (t : List 
   unfolding startNew protect wait ask doneOf finish
   without-flags h = (ap started h, refl, refl, refl, refl, refl)
 
-  -- with new flags: Protect, entered as it is done; 4 operations. A failed Protect ends it with 16, and no entry
+  -- with new flags: Protect, entered as it is done; 4 operations
   pub with-flags : ltb new 16 ≡ true → (startNew tracked v p source current new ≡ started true) × (started true .answer ≡ Ask (Protect v (flagsOf new) (run p 1))) × (started true .entry ≡ Keep)
       × (second true .answer ≡ Ask Wait) × (second true .entry ≡ Add) × (third true .answer ≡ Ask (Flush v)) × (fourth true .answer ≡ Ask (TlbWait v)) × (fifth true .answer ≡ Done 4)
   unfolding startNew protect wait ask doneOf finish
   with-flags h = (ap started h, refl, refl, refl, refl, refl, refl, refl)
-
-  pub flags-failed : (failedOf (started true .stage) (started true .change) .answer ≡ Failed operationDenied 0 1) × (failedOf (started true .stage) (started true .change) .entry ≡ Keep)
-  unfolding protect failedOf finish
-  flags-failed = (refl, refl)
-
--- an entry that goes: its previous permissions, then Wait, Flush, TlbWait; 4 operations, the entry goes as Protect is done
-module _ (tracked : Bool) (v : GuestVtl) (p previous source : ℕ) (t : List ℕ) (r : PageRun) where
-  abbrev old : ChangeStep
-  old = startOld tracked v p previous source
-
-  pub old-page : (old .answer ≡ Ask (Protect v (flagsOf previous) (run p 1))) × (old .entry ≡ Keep) × (next tracked t r old .answer ≡ Ask Wait) × (next tracked t r old .entry ≡ Remove)
-      × (next tracked t r (next tracked t r old) .answer ≡ Ask (Flush v)) × (next tracked t r (next tracked t r (next tracked t r old)) .answer ≡ Ask (TlbWait v))
-      × (next tracked t r (next tracked t r (next tracked t r (next tracked t r old))) .answer ≡ Done 4)
-  unfolding startOld protect wait ask doneOf finish
-  old-page = (refl, refl, refl, refl, refl, refl, refl)
-
-  pub old-failed : (failedOf (old .stage) (old .change) .answer ≡ Failed operationDenied 0 1) × (failedOf (old .stage) (old .change) .entry ≡ Keep)
-  unfolding startOld protect failedOf finish
-  old-failed = (refl, refl)
 
 -- ---- what is entered and taken out, where the words of the VTL are the table of a list
 

@@ -10,7 +10,7 @@ use lib.Seq.{getD-at, getD-append-add, sets}
 use borrow.Author.Tests.{eq-eqb, ne-eqb, eqb-true, ltb-true}
 use Rattle.laws.specs.Bools.{false≢true, or-false}
 use Rattle.words.specs.Words.{zeros, padded, closedTo}
-use Rattle.words.proofs.Laws.{set-append-add}
+use Rattle.laws.specs.Lists.{set-append-add}
 use Rattle.words.proofs.Padded.{length-padded, set-padded, sets-padded, closed-padded}
 use Rattle.overlays.specs.declared.OverlayPage.{OverlayPage}
 use Rattle.overlays.specs.Overlays.{knows, entryOf, changed, dropFirst, withPrevious, withCount, wordsOf, flat, tableOf, used, placeFrom, placeOf, isOverlay, entryAt, addCode, addWords, previousWords, countWords, removeWords}
@@ -234,9 +234,6 @@ module _ (es : List OverlayPage) (fits : length es ≤ 128) (p : ℕ) (f : First
 
   pub table-entry : entryAt (tableOf es) (placeOf (tableOf es) p) ≡ entryOf es p
   table-entry = at-first entryAt ∙ entry-here (f .pre) (f .entry) (f .post) room ∙ sym (is (λ e. e) .0)
-
-  pub table-previous : (v : ℕ) → previousWords (tableOf es) (placeOf (tableOf es) p) v ≡ tableOf (changed (withPrevious v) es p)
-  table-previous v = at-first (λ t o. previousWords t o v) ∙ previous-here (f .pre) (f .entry) (f .post) room v ∙ ap tableOf (sym (is (withPrevious v) .1))
 
   pub table-count : (n : ℕ) → countWords (tableOf es) (placeOf (tableOf es) p) n ≡ tableOf (changed (withCount n) es p)
   table-count n = at-first (λ t o. countWords t o n) ∙ count-here (f .pre) (f .entry) (f .post) room n ∙ ap tableOf (sym (is (withCount n) .1))

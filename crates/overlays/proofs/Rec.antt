@@ -1,6 +1,6 @@
 -- What the proofs by hand of this crate cite of an `OverlayPage`: its type, its machine value and its laws. For another struct change the name, the widths in `page-fits` and the size.
 -- Assumes nothing.
-use Prim.Native.Nat.{ℕ, _*_, _+_, _<_, _^_}
+use Prim.Native.Nat.{ℕ, _*_, _<_, _^_}
 use native.Mathlib.Omega.{arith}
 use mathlib.Core.List.{List, [], _∷_}
 use lib.Dec.{T as Holds}

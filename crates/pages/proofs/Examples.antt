@@ -1,11 +1,11 @@
 -- Limits of page lists. Assumes nothing.
 use mathlib.Core.Bool.{true, false}
-use mathlib.Core.List.{List, [], _∷_, _++_}
+use mathlib.Core.List.{List, [], _∷_}
 use mathlib.Core.Path.{_≡_, refl}
 use Prim.Native.Nat.{ℕ}
 use lib.ListN.{replicate}
 use Rattle.pages.specs.Pages.{numberOf, numberAt, numbersFrom, pagesOf, isLong, among, repeats, isRagged}
-use Rattle.pages.specs.Runs.{run, part, neighbours, runAt}
+use Rattle.pages.specs.Runs.{run, neighbours, runAt}
 
 of-4096 : isLong (replicate 4096 0) ≡ false
 of-4096 = refl

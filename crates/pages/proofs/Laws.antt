@@ -1,5 +1,5 @@
 -- Laws of page lists: how a loop over their pages goes on and ends, and that a list that ascends or descends has no repeat. Assumes nothing.
-use mathlib.Core.Bool.{Bool, true, false}
+use mathlib.Core.Bool.{Bool, true, false, not}
 use mathlib.Core.List.{List, [], _∷_}
 use mathlib.Core.Path.{_≡_, refl, sym, ap, _∙_}
 use Prim.Native.Nat.{ℕ, zero, suc, _+_, _/_, _≤_, _<_}
@@ -8,9 +8,18 @@ use native.Mathlib.Omega.{arith}
 use lib.Dec.{eqb}
 use lib.ListN.{length, getD, drop, drop-of-length-le, List·getD-eq-default}
 use lib.Seq.{drop-cons}
-use borrow.Author.Tests.{eq-eqb, ne-eqb, ltb-true}
-use Rattle.laws.specs.Bools.{and-left, and-right}
-use Rattle.pages.specs.Pages.{numberAt, numbersFrom, pagesOf, among, repeats, steps, stepsFrom, strict}
+use borrow.Author.Tests.{eq-eqb, ne-eqb, ltb-true, ltb-false, not-true}
+use Rattle.laws.specs.Bools.{and-left, and-right, or-right}
+use Rattle.pages.specs.Pages.{numberAt, numbersFrom, pagesOf, isLong, among, repeats, steps, stepsFrom, strict}
+
+pub long-le : (l : List ℕ) → not (isLong l) ≡ true → length l ≤ 4096
+long-le l h = ltb-false 4096 (length l) (not-true (isLong l) h)
+
+pub among-at : (l : List ℕ) (i : ℕ) → i < length l → among l (getD l i 0) ≡ true
+unfolding among
+among-at [] i h = absurd (omega arith)
+among-at (x ∷ l) zero h = rw (eq-eqb x x refl)
+among-at (x ∷ l) (suc i) h = or-right (eqb (getD l i 0) x) (among l (getD l i 0)) (among-at l i (omega arith))
 
 pub count-numbers : (l : List ℕ) (i k : ℕ) → length (numbersFrom l i k) ≡ k
 unfolding numbersFrom

@@ -10,12 +10,14 @@ use lib.ListN.{length, getD, drop, drop-of-length-le}
 use lib.Seq.{drop-cons}
 use borrow.Author.Tests.{eq-eqb, ne-eqb, eqb-true, leb-true}
 use Rattle.laws.specs.Bools.{and-left, and-right, false≢true}
+use Rattle.laws.specs.Refusal.{refused, answered}
 use Rattle.layout.specs.Layout.{entriesOf, mapLen}
 use Rattle.permissions.specs.declared.GuestVtl.{GuestVtl}
 use Rattle.pages.specs.Pages.{pagesOf}
 use Rattle.mapping.specs.Maps.{Permissions, Maps, perms, maps, marksFit, permissionLen, permissionsFit}
 use Rattle.permissions.specs.declared.HvMapGpaFlags.{HvMapGpaFlags}
 use Rattle.permissions.specs.Flags.{noFlags}
+use Rattle.permissions.specs.HvError.{codeOf}
 use Rattle.pages.specs.declared.PageRun.{PageRun}
 use Rattle.pages.specs.Runs.{runAt}
 use Rattle.request.specs.Request.{runEnd, put}
@@ -29,20 +31,20 @@ use Rattle.acceptor.specs.Steps.{places, doneOf}
 use Rattle.acceptor.specs.Next.{isDefault0, runIn, answerBy, requestBy, permittedAt, flagsAt, nextStep}
 use Rattle.acceptor.specs.declared.Writes.{Writes}
 use Rattle.protector_state.specs.declared.Reply.{Reply}
-use Rattle.protector_state.specs.Reply.{flatOf}
+use Rattle.protector_state.specs.Reply.{finished, flatOf}
 use Rattle.protector_state.specs.State.{phaseIn, requestOf, withRequest, settingsOf, ramOf, entriesIn}
 use Rattle.request.proofs.Runs.{put-none, end-none}
-use Rattle.protector.specs.World.{pagesLen, tablesLen, overlaysOf, locksOf, lengthsFit, putPlaces, putPermissions, applied, isEmpty, isNothing}
-use Rattle.protector.specs.Calls.{pageRefusal, firstRefusal}
+use Rattle.protector.specs.World.{World, Outcome, outcome, fits, pagesLen, tablesLen, overlaysOf, locksOf, lengthsFit, putPlaces, putPermissions, applied, isEmpty, isNothing}
+use Rattle.protector.specs.Calls.{pageRefusal, firstRefusal, decided, refusedBy}
 
--- ---- a choice by a test t that the code made as b
+-- ---- a call refused, and one that isn't
 
-module _ {A : Type 0} (b t : Bool) (x y r : A) (e : b ≡ t) where
-  pub chose : b ≡ true → r ≡ x → r ≡ cond t x y
-  chose h q = q ∙ ap (λ (k : Bool). cond k x y) (sym h ∙ e)
+module _ (w : World) (n x : ℕ) (e : n ≡ x) (taken : Outcome) where
+  pub call-refused : (r : Reply) → (n ≡ 0 → ⊥) → r ≡ finished n (codeOf n) 0 0 → outcome (w .maps) (w .state) (w .pages) (w .tables) r ≡ decided w x taken
+  call-refused r h q = ap (outcome (w .maps) (w .state) (w .pages) (w .tables)) q ∙ refused n x e taken (refusedBy w) h
 
-  pub chose-not : b ≡ false → r ≡ y → r ≡ cond t x y
-  chose-not h q = q ∙ ap (λ (k : Bool). cond k x y) (sym h ∙ e)
+  pub call-taken : (o : Outcome) → n ≡ 0 → o ≡ taken → o ≡ decided w x taken
+  call-taken o h q = answered n x e taken o (refusedBy w) h q
 
 -- ---- the first page that is refused
 
@@ -87,6 +89,20 @@ module _ (s : List ℕ) (private shared read write kernel user pages tables : �
   pub tables-fit : tables ≡ tablesLen
   tables-fit = eqb-true tables tablesLen (and-right (eqb pages pagesLen) (eqb tables tablesLen) blocks)
 
+module _ (w : World) (h : fits w ≡ true) where
+  fits-blocks : (length (w .pages) ≡ pagesLen) × (length (w .tables) ≡ tablesLen)
+  fits-blocks =
+      let m = w .maps in let p = m .permissions in (
+        pages-fit (w .state) (length (m .private)) (length (m .shared)) (length (p .read)) (length (p .write)) (length (p .kernel)) (length (p .user)) (length (w .pages)) (length (w .tables)) h,
+        tables-fit (w .state) (length (m .private)) (length (m .shared)) (length (p .read)) (length (p .write)) (length (p .kernel)) (length (p .user)) (length (w .pages)) (length (w .tables)) h,
+      )
+
+  pub fits-pages : length (w .pages) ≡ pagesLen
+  fits-pages = fits-blocks .0
+
+  pub fits-tables : length (w .tables) ≡ tablesLen
+  fits-tables = fits-blocks .1
+
 -- ---- what a step writes
 
 pub applies : (t : List ℕ) (w : Writes) (m : Maps) (p s r x k u : List ℕ) → p ≡ putPlaces t (w .private) (w .state) (m .private) → s ≡ putPlaces t (w .shared) (w .state) (m .shared)
@@ -104,7 +120,15 @@ nothing-applied t w m b e h =
     let rest = and-right (isEmpty (w .private)) (isEmpty (w .shared) && isEmpty (w .permissions)) all in
     let s = leb-true (w .shared .to) (w .shared .from) (and-left (isEmpty (w .shared)) (isEmpty (w .permissions)) rest) in
     let x = leb-true (w .permissions .to) (w .permissions .from) (and-right (isEmpty (w .shared)) (isEmpty (w .permissions)) rest) in
-    rw (put-none t (w .private .to) (w .private .from) (w .state) (m .private) p, put-none t (w .shared .to) (w .shared .from) (w .state) (m .shared) s, put-none t (w .permissions .to) (w .permissions .from) (w .flags .readable) (m .permissions .read) x, put-none t (w .permissions .to) (w .permissions .from) (w .flags .writable) (m .permissions .write) x, put-none t (w .permissions .to) (w .permissions .from) (w .flags .«kernel_executable») (m .permissions .kernel) x, put-none t (w .permissions .to) (w .permissions .from) (w .flags .«user_executable») (m .permissions .user) x) refl
+    let no : (b : Bool) (k : List ℕ) → put t (w .permissions .from) (w .permissions .to) b k ≡ k = λ b k. put-none t (w .permissions .to) (w .permissions .from) b k x in
+    rw (
+      put-none t (w .private .to) (w .private .from) (w .state) (m .private) p,
+      put-none t (w .shared .to) (w .shared .from) (w .state) (m .shared) s,
+      no (w .flags .readable) (m .permissions .read),
+      no (w .flags .writable) (m .permissions .write),
+      no (w .flags .«kernel_executable») (m .permissions .kernel),
+      no (w .flags .«user_executable») (m .permissions .user),
+    ) refl
 
 -- ---- what an answer of done writes
 

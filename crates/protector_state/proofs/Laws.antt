@@ -1,13 +1,13 @@
 -- Laws of the state block, one for each way that the code goes. Assumes nothing.
 use native.Mathlib.Omega.{arith}
 use native.Mathlib.Decide.{decLt}
-use native.Mathlib.Numerals.{add-one}
 use mathlib.Core.Path.{_≡_, refl, sym, ap, ap₂, _∙_}
-use mathlib.Core.List.{List, [], _∷_, _++_, append-assoc}
+use mathlib.Core.List.{List, [], _∷_, _++_}
 use Prim.Native.Nat.{ℕ, suc, _+_, _-_, _*_, _≤_, _<_, min}
 use lib.ListN.{length, getD, drop, take, set, replicate, length-drop}
-use lib.Seq.{set-at, take-all, take-suc, take-length, length-take-le}
-use Rattle.laws.specs.Bools.{digit}
+use lib.Seq.{take-all, take-length}
+use Rattle.laws.specs.Bools.{digit, chose, chose-not}
+use Rattle.words.proofs.Laws.{filled-next}
 use Rattle.layout.specs.Layout.{entriesOf}
 use Rattle.permissions.specs.Flags.{vtlNumber}
 use Rattle.acceptor.specs.declared.Phase.{Phase}
@@ -17,7 +17,6 @@ use Rattle.permissions.specs.HvError.{codeOf}
 use mathlib.Core.Bool.{Bool, true, false, cond}
 use Rattle.acceptor.specs.declared.Answer.the-variants.{Done, AccessDenied, Failed}
 use Rattle.acceptor.specs.Steps as acceptor
-use Rattle.acceptor.proofs.Laws.{chose, chose-not}
 use Rattle.protector_state.specs.declared.Reply.{Reply}
 use Rattle.protector_state.specs.Reply.{finished, endedOf, flatOf}
 use Rattle.protector_state.specs.State.{phaseNumber, withRequest, ramOf, builtState}
@@ -65,19 +64,12 @@ pub filled-none : (s t ram : List ℕ) (iso tracked release n : ℕ) → length 
 filled-none s t ram iso tracked release n h f e =
     ap₂ (λ (l : List ℕ) (m : ℕ). set (set (set (set (set (set l 16 iso) 17 tracked) 18 release) 20 15) 21 16) 31 m) (f ∙ ap (λ (k : ℕ). replicate k 0) h) e
 
-filled-next : (ram : List ℕ) (i : ℕ) → i < length ram → i < 96 → set (take i ram ++ replicate (96 - i) 0) i (getD ram i 0) ≡ take (i + 1) ram ++ replicate (96 - (i + 1)) 0
-filled-next ram i h k =
-    let d : 96 - i ≡ suc (96 - (i + 1)) = omega arith in
-    ap (λ (m : ℕ). set (take i ram ++ replicate m 0) i (getD ram i 0)) d
-    ∙ set-at (take i ram) 0 (replicate (96 - (i + 1)) 0) (getD ram i 0) i (length-take-le i ram (omega arith))
-    ∙ sym (ap (λ (l : List ℕ). l ++ replicate (96 - (i + 1)) 0) (ap (λ (m : ℕ). take m ram) (add-one i) ∙ take-suc ram i 0 h) ∙ append-assoc (take i ram) (getD ram i 0 ∷ []) (replicate (96 - (i + 1)) 0))
-
 module _ (ram : List ℕ) (iso tracked release i : ℕ) where
   pub filled-more : i < length ram → i < 96 → set (filledTo ram iso tracked release i) (32 + i) (getD ram i 0) ≡ filledTo ram iso tracked release (i + 1)
   filled-more h k =
       let d : 32 + i ≡ suc (suc (suc (suc (suc (suc (suc (suc (suc (suc (suc (suc (suc (suc (suc (suc (suc (suc (suc (suc (suc (suc (suc (suc (suc (suc (suc (suc (suc (suc (suc (suc i))))))))))))))))))))))))))))))) = omega arith in
       ap (λ (m : ℕ). set (filledTo ram iso tracked release i) m (getD ram i 0)) d
-      ∙ ap (λ (l : List ℕ). 0 ∷ 0 ∷ 0 ∷ 0 ∷ 0 ∷ 0 ∷ 0 ∷ 0 ∷ 0 ∷ 0 ∷ 0 ∷ 0 ∷ 0 ∷ 0 ∷ 0 ∷ 0 ∷ iso ∷ tracked ∷ release ∷ 0 ∷ 15 ∷ 16 ∷ 0 ∷ 0 ∷ 0 ∷ 0 ∷ 0 ∷ 0 ∷ 0 ∷ 0 ∷ 0 ∷ length (entriesOf ram) ∷ l) (filled-next ram i h k)
+      ∙ ap (λ (l : List ℕ). 0 ∷ 0 ∷ 0 ∷ 0 ∷ 0 ∷ 0 ∷ 0 ∷ 0 ∷ 0 ∷ 0 ∷ 0 ∷ 0 ∷ 0 ∷ 0 ∷ 0 ∷ 0 ∷ iso ∷ tracked ∷ release ∷ 0 ∷ 15 ∷ 16 ∷ 0 ∷ 0 ∷ 0 ∷ 0 ∷ 0 ∷ 0 ∷ 0 ∷ 0 ∷ 0 ∷ length (entriesOf ram) ∷ l) (filled-next 96 ram i h k)
 
   pub filled-all : length ram ≤ i → i ≤ length ram → filledTo ram iso tracked release i ≡ builtState ram iso tracked release
   filled-all h k =

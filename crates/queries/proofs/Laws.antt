@@ -2,32 +2,12 @@
 use native.Mathlib.Omega.{arith}
 use native.Mathlib.Numerals.{add-one}
 use mathlib.Core.Path.{_≡_, refl, sym, ap, _∙_}
-use mathlib.Core.Bool.{Bool, true, false, cond}
 use mathlib.Core.List.{List, [], _∷_}
 use Prim.Native.Nat.{ℕ, zero, suc, _+_, _≤_, _<_, min}
-use lib.ListN.{length, getD, set, drop, take, drop-of-length-le}
-use lib.Seq.{drop-cons}
+use lib.ListN.{length, getD, set, take}
 use Rattle.laws.specs.Bools.{digit}
 use Rattle.bitmap.specs.Pages.{bitAt}
-use Rattle.request.specs.Request.{stopAt}
 use Rattle.queries.specs.Queries.{visibilities, filledBy}
-
--- ---- the first page that P doesn't hold of
-
-module _ (P : ℕ → Bool) (ps : List ℕ) (i p : ℕ) (b : Bool) (h : i < length ps) (e : p ≡ getD ps i 0) (d : b ≡ P p) where
-  turn : stopAt P (drop i ps) ≡ cond b (suc (stopAt P (drop (i + 1) ps))) 0
-  unfolding stopAt
-  turn = ap (stopAt P) (drop-cons ps i 0 h) ∙ rw (← e, ← d, add-one i)
-
-  pub stops : b ≡ false → stopAt P (drop i ps) ≡ 0
-  stops f = turn ∙ ap (λ (x : Bool). cond x (suc (stopAt P (drop (i + 1) ps))) 0) f
-
-  pub goes-on : b ≡ true → stopAt P (drop i ps) ≡ suc (stopAt P (drop (i + 1) ps))
-  goes-on f = turn ∙ ap (λ (x : Bool). cond x (suc (stopAt P (drop (i + 1) ps))) 0) f
-
-pub stops-last : (P : ℕ → Bool) (ps : List ℕ) (i : ℕ) → length ps ≤ i → stopAt P (drop i ps) ≡ 0
-unfolding stopAt
-stops-last P ps i h = ap (stopAt P) (drop-of-length-le ps {i = i} h)
 
 -- ---- the output
 

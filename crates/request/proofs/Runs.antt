@@ -127,10 +127,10 @@ module _ (t : List ℕ) (to a end first last : ℕ) (h : a < to) (g : a < length
       ∙ ap₂ (λ (l : List ℕ) (b : Bool). among l q || b) rest (ap₂ (λ (x y : ℕ). between x y q) (sym e) (sym v)))
 
 -- ---- the pages at the places of a run
-abbrev first : ℕ → List ℕ → List ℕ
+abbrev pub first : ℕ → List ℕ → List ℕ
 first p ps = take (suc (neighbours p ps)) (p ∷ ps)
 
-own-pages : (p : ℕ) (ps : List ℕ) (q : ℕ) → among (first p ps) q ≡ between p (p + suc (neighbours p ps)) q
+pub own-pages : (p : ℕ) (ps : List ℕ) (q : ℕ) → among (first p ps) q ≡ between p (p + suc (neighbours p ps)) q
 unfolding among neighbours
 own-pages p [] q = or-swap (eqb q p) false ∙ one-between p q
 own-pages p (r ∷ rs) q = go (eqb r (p + 1)) (eqb-true r (p + 1)) (own-pages r rs q)
@@ -147,10 +147,10 @@ own-pages p (r ∷ rs) q = go (eqb r (p + 1)) (eqb-true r (p + 1)) (own-pages r 
     go false h e = or-swap (eqb q p) false ∙ one-between p q
 
 module _ (t : List ℕ) (n a : ℕ) (h : a < n) (g : n ≤ length t) where
-  run-is : runAt t n a ≡ record { first = getD t a 0; count = suc (more t n a h) }
+  pub run-is : runAt t n a ≡ record { first = getD t a 0; count = suc (more t n a h) }
   run-is = sym (run-here t n a (getD t a 0) (suc (more t n a h)) h refl refl)
 
-  part-run : part t (runEnd t n a) a ≡ first (getD t a 0) (part t n (a + 1))
+  pub part-run : part t (runEnd t n a) a ≡ first (getD t a 0) (part t n (a + 1))
   unfolding runEnd
   part-run =
       let m : ℕ = suc (more t n a h) in

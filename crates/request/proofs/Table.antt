@@ -8,7 +8,8 @@ use native.Mathlib.Numerals.{add-one}
 use native.Mathlib.Omega.{arith}
 use lib.ListN.{length, getD, set, take, drop, length-append, length-take, length-drop, take-append-drop, drop-of-length-le, List·getD-append}
 use lib.Seq.{drop-cons, take-suc, take-all, take-append-seam, set-append-left, set-append-seam, getD-append-add}
-use Rattle.laws.specs.Bools.{lt-or-le}
+use Rattle.laws.specs.Bools.{lt-or-le, took}
+use Rattle.laws.specs.Lists.{set-append-add}
 use Rattle.bitmap.specs.Pages.{bitAt}
 use Rattle.pages.specs.Pages.{pagesOf}
 use Rattle.pages.specs.Runs.{part}
@@ -16,45 +17,34 @@ use Rattle.pages.proofs.Laws.{count-numbers}
 use Rattle.request.specs.Request.{pick, pickPlaces, over, tableOf, stopAt, isOpen}
 
 -- ---- where a list stops
-pub stop-le : (P : ℕ → Bool) (ps : List ℕ) → stopAt P ps ≤ length ps
-unfolding stopAt
-stop-le P [] = omega arith
-stop-le P (p ∷ ps) = go (P p) (stop-le P ps)
-  where
-    go : (b : Bool) → stopAt P ps ≤ length ps → cond b (suc (stopAt P ps)) 0 ≤ suc (length ps)
-    go true h = omega arith
-    go false h = omega arith
-
 stop-all : (P : ℕ → Bool) (ps : List ℕ) → ((p : ℕ) → P p ≡ true) → stopAt P ps ≡ length ps
 unfolding stopAt
 stop-all P [] h = refl
 stop-all P (p ∷ ps) h = rw (h p) (ap suc (stop-all P ps h))
 
-module _ (read write : List ℕ) (asked : Bool) (ps : List ℕ) where
-  abbrev P : ℕ → Bool
-  P = isOpen read write asked
-
-  pub stop-unasked : asked ≡ false → stopAt P ps ≡ length ps
-  stop-unasked e = stop-all P ps (λ p. rw e)
-
-  -- the loop over pages: it ends here, it goes on, there is none left
+-- the loop over pages: there is none left, it ends here, it goes on
+module _ (P : ℕ → Bool) (ps : List ℕ) where
   pub stop-end : (i : ℕ) → length ps ≤ i → stopAt P (drop i ps) ≡ 0
   unfolding stopAt
   stop-end i h = rw (drop-of-length-le ps h)
 
-  module _ (i q : ℕ) (b : Bool) (a : asked ≡ true) (h : i < length ps) (e : q ≡ getD ps i 0) (d : b ≡ (bitAt 8 read q && bitAt 8 write q)) where
-    next : drop i ps ≡ q ∷ drop (i + 1) ps
-    next = rw (add-one, drop-cons ps i 0 h) (ap (λ (x : ℕ). x ∷ drop (suc i) ps) (sym e))
-
+  module _ (i p : ℕ) (b : Bool) (h : i < length ps) (e : p ≡ getD ps i 0) (d : b ≡ P p) where
     stop-turn : stopAt P (drop i ps) ≡ cond b (suc (stopAt P (drop (i + 1) ps))) 0
     unfolding stopAt
-    stop-turn = rw (next, a, ← d)
+    stop-turn = ap (stopAt P) (drop-cons ps i 0 h) ∙ rw (← e, ← d, add-one i)
 
     pub stop-hit : b ≡ false → stopAt P (drop i ps) ≡ 0
     stop-hit f = rw f at stop-turn
 
     pub stop-miss : b ≡ true → stopAt P (drop i ps) ≡ suc (stopAt P (drop (i + 1) ps))
     stop-miss f = rw f at stop-turn
+
+module _ (read write : List ℕ) (asked : Bool) where
+  pub stop-unasked : (ps : List ℕ) → asked ≡ false → stopAt (isOpen read write asked) ps ≡ length ps
+  stop-unasked ps e = stop-all (isOpen read write asked) ps (λ p. rw e)
+
+  pub open-asked : asked ≡ true → (p : ℕ) (b : Bool) → b ≡ (bitAt 8 read p && bitAt 8 write p) → b ≡ isOpen read write asked p
+  open-asked a p b d = took asked _ _ b a d
 
 -- ---- the pages that are picked, and their places
 module _ (P : ℕ → Bool) where
@@ -111,12 +101,6 @@ over-more xs t v h =
     ∙ set-append-seam xs (getD t (length xs) 0) (drop (suc (length xs)) t) v
     ∙ ap (λ (n : ℕ). xs ++ v ∷ drop n t) e
     ∙ sym (append-assoc xs (v ∷ []) (drop (length (xs ++ (v ∷ []))) t))
-
-set-right : (x y : List ℕ) (k v : ℕ) → set (x ++ y) (length x + k) v ≡ x ++ set y k v
-set-right [] y k v = let e : 0 + k ≡ k = omega arith in ap (λ (j : ℕ). set y j v) e
-set-right (a ∷ x) y k v =
-    let e : length (a ∷ x) + k ≡ suc (length x + k) = omega arith in
-    ap (λ (j : ℕ). set (a ∷ (x ++ y)) j v) e ∙ ap (λ (r : List ℕ). a ∷ r) (set-right x y k v)
 
 -- ---- the table
 pub table-none : (P : ℕ → Bool) (t : List ℕ) → t ≡ tableOf P [] t
@@ -192,7 +176,7 @@ module _ (P : ℕ → Bool) (ps t : List ℕ) (p : ℕ) where
       (set-append-left (over (pick P ps) a) (over ys b) k p (omega (arith, length-pages P ps t n (omega arith)))
       ∙ ap (λ (l : List ℕ). l ++ over ys b) (over-more (pick P ps) a p (omega arith)))
       ∙ ap (λ (j : ℕ). set (over xs a ++ over ys b) j (length ps)) f
-      ∙ set-right (over xs a) (over ys b) (length ys) (length ps)
+      ∙ set-append-add (over xs a) (over ys b) (length ys) (length ps)
       ∙ ap (λ (l : List ℕ). over xs a ++ l) (over-more ys b (length ps) (omega arith))
       ∙ ap₂ (λ (xs ys : List ℕ). over xs a ++ over ys b) (sym more) (sym theirs)
 
@@ -227,7 +211,7 @@ module _ (P : ℕ → Bool) (ps : List ℕ) (i k p : ℕ) (b : Bool) (h : i < le
       go false d = u ∙ skipped P (take i ps) t₀ p (sym d)
 
 -- ---- all pages of a list
-pick-each : (ps : List ℕ) → pick (λ p. true) ps ≡ ps
+pub pick-each : (ps : List ℕ) → pick (λ p. true) ps ≡ ps
 unfolding pick
 pick-each [] = refl
 pick-each (p ∷ ps) = ap (λ (qs : List ℕ). p ∷ qs) (pick-each ps)

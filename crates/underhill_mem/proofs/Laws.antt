@@ -6,9 +6,9 @@ use mathlib.Core.List.{List}
 use Prim.Native.Nat.{ℕ, _≤_, _<_}
 use lib.Dec.{eqb, ltb}
 use lib.ListN.{length, take, replicate}
-use borrow.Author.Tests.{eqb-true, lt-ltb, le-ltb, ltb-false}
+use borrow.Author.Tests.{eqb-true, lt-ltb, le-ltb}
 use Rattle.laws.specs.Bools.{and-left, and-right, false≢true}
-use Rattle.laws.specs.Refusal.{unless, passed, refused, answered}
+use Rattle.laws.specs.Refusal.{unless, passed, first-passed, refused, answered}
 use Rattle.layout.specs.Layout.{entriesOf, refusalOf, mapLen}
 use Rattle.layout.proofs.Laws.{fit, entries-count}
 use Rattle.permissions.specs.declared.GuestVtl.{GuestVtl}
@@ -16,6 +16,7 @@ use Rattle.permissions.specs.Flags.{fitIsolation, flagsOf}
 use Rattle.permissions.specs.HvError.{codeOf}
 use Rattle.mapping.specs.Maps.{Maps, Permissions, maps, perms, built, marksFit}
 use Rattle.pages.specs.Pages.{pagesOf, isLong}
+use Rattle.pages.proofs.Laws.{long-le}
 use Rattle.request.specs.Request.{pick, tableOf, stopAt, isOpen, wanted}
 use Rattle.acceptor.specs.declared.Settings.{Settings}
 use Rattle.acceptor.specs.declared.Step.{Step}
@@ -25,34 +26,11 @@ use Rattle.protector_state.specs.declared.Reply.{Reply}
 use Rattle.protector_state.specs.State.{stateLen, withRequest, settingsOf, builtState}
 use Rattle.protector_state.specs.Reply.{finished, flatOf}
 use Rattle.change_state.specs.State.{withChange}
-use Rattle.protector.specs.World.{World, Outcome, outcome, pagesLen, tablesLen, statusIn, permittedRun, entered, applied}
+use Rattle.protector.specs.World.{World, outcome, pagesLen, tablesLen, statusIn, permittedRun, entered, applied}
 use Rattle.queries.specs.Queries.{queryRefusal, ramBefore, visibilities, filledBy, Query, query, queryTaken, queryOf}
-use Rattle.protector.specs.Calls.{decided, refusedBy, carriedOut, withPermissions, carriedChange, permissionMapsFit, buildFits, buildRefusal, buildTaken, visibilityRefusal, looksAt, visibilityTaken, answerRefusal}
-
--- ---- a call refused, and one that isn't
-
-module _ (w : World) (n x : ℕ) (e : n ≡ x) (taken : Outcome) where
-  pub call-refused : (r : Reply) → (n ≡ 0 → ⊥) → r ≡ finished n (codeOf n) 0 0 → outcome (w .maps) (w .state) (w .pages) (w .tables) r ≡ decided w x taken
-  call-refused r h q = ap (outcome (w .maps) (w .state) (w .pages) (w .tables)) q ∙ refused n x e taken (refusedBy w) h
-
-  pub call-taken : (o : Outcome) → n ≡ 0 → o ≡ taken → o ≡ decided w x taken
-  call-taken o h q = answered n x e taken o (refusedBy w) h q
+use Rattle.protector.specs.Calls.{carriedOut, withPermissions, carriedChange, permissionMapsFit, buildFits, buildRefusal, buildTaken, visibilityRefusal, looksAt, visibilityTaken, answerRefusal}
 
 -- ---- what a call that isn't refused knows of its lengths
-
-not-busy : (s rest : ℕ) → unless (eqb s 0) s rest ≡ 0 → rest ≡ 0
-not-busy s rest h = go (eqb s 0) refl
-  where
-    go : (b : Bool) → eqb s 0 ≡ b → rest ≡ 0
-    go true e = sym (ap (λ (t : Bool). unless t s rest) e) ∙ h
-    go false e = absurd (false≢true (sym e ∙ ap (λ (k : ℕ). eqb k 0) (sym (ap (λ (t : Bool). unless t s rest) e) ∙ h)))
-
-long-le : (l : List ℕ) → not (isLong l) ≡ true → length l ≤ 4096
-long-le l h = ltb-false 4096 (length l) (go (isLong l) h)
-  where
-    go : (b : Bool) → not b ≡ true → b ≡ false
-    go true e = sym e
-    go false e = refl
 
 module _ (s : List ℕ) (fits : Bool) (n : ℕ) (z : n ≡ 0) where
   pub visibility-passed : (tables : List ℕ) (vtl visibility : ℕ) (l : List ℕ) → n ≡ visibilityRefusal s fits tables vtl visibility l
@@ -60,7 +38,7 @@ module _ (s : List ℕ) (fits : Bool) (n : ℕ) (z : n ≡ 0) where
   unfolding visibilityRefusal
   visibility-passed tables vtl visibility l e =
       let a = passed (eqb (length s) stateLen) 3 _ (sym e ∙ z) in
-      let b = passed fits 3 _ (not-busy (statusIn s) _ (a .1)) in
+      let b = passed fits 3 _ (first-passed (statusIn s) _ (a .1) .1) in
       let d = passed (not (isLong l)) 4 _ (b .1) in
       (eqb-true (length s) stateLen (a .0), b .0, long-le l (d .0))
 

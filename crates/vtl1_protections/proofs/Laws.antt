@@ -1,13 +1,12 @@
 -- Laws of the setter and the getters: one for each way out. Assumes nothing.
 use mathlib.Core.Path.{_≡_, refl, sym, ap, _∙_}
-use mathlib.Core.Bool.{Bool, true, false}
 use mathlib.Core.List.{List}
 use Prim.Native.Nat.{ℕ}
 use lib.Dec.{eqb}
 use lib.ListN.{length, getD, set}
 use borrow.Author.Tests.{eq-eqb, ne-eqb, eqb-true}
-use Rattle.laws.specs.Bools.{digit, false≢true}
-use Rattle.laws.specs.Refusal.{unless, refuses, passes, passed, refused, answered}
+use Rattle.laws.specs.Bools.{digit}
+use Rattle.laws.specs.Refusal.{refuses, passes, passed, first-passed, refused, answered}
 use Rattle.permissions.specs.Flags.{bitsOf}
 use Rattle.permissions.specs.HvError.{codeOf}
 use Rattle.acceptor.specs.declared.Settings.{Settings}
@@ -18,14 +17,6 @@ use Rattle.protector.specs.World.{statusIn}
 use Rattle.queries.specs.declared.Value.{Value}
 use Rattle.queries.specs.Queries.{value}
 use Rattle.vtl1_protections.specs.Calls.{stateRefusal, enableRefusal, enabled, enableOf, enabledIn, defaultIn}
-
--- a chain that starts with another's number, where it refuses nothing
-first-passed : (n rest : ℕ) → unless (eqb n 0) n rest ≡ 0 → (n ≡ 0) × (rest ≡ 0)
-first-passed n rest h = go (eqb n 0) refl
-  where
-    go : (b : Bool) → eqb n 0 ≡ b → (n ≡ 0) × (rest ≡ 0)
-    go true e = (eqb-true n 0 e, sym (ap (λ (t : Bool). unless t n rest) e) ∙ h)
-    go false e = absurd (false≢true (sym e ∙ ap (λ (k : ℕ). eqb k 0) (sym (ap (λ (t : Bool). unless t n rest) e) ∙ h)))
 
 state-length : (s : List ℕ) → stateRefusal s ≡ 0 → length s ≡ stateLen
 unfolding stateRefusal

@@ -5,18 +5,12 @@ use mathlib.Core.List.{List}
 use Prim.Native.Nat.{ℕ}
 use lib.ListN.{getD, set, length-set}
 use lib.Seq.{getD-set-same, getD-set-other}
-use borrow.Author.Tests.{eq-eqb, ne-eqb}
-use Rattle.permissions.specs.HvError.{codeOf}
+use borrow.Author.Tests.{eq-eqb}
 use Rattle.protector_state.specs.State.{settingsOf}
 use Rattle.protector_state.specs.Reply.{finished}
 use Rattle.queries.specs.Queries.{value}
 use Rattle.vtl1_protections.specs.Calls.{stateRefusal, enableRefusal, Enabled, enabled, enableOf, enabling, enabledIn, defaultIn}
 use Rattle.vtl1_protections.proofs.Laws.{enable-state, enable-length}
-
--- a refused setter changes nothing
-pub enable-nothing : (s : List ℕ) → (enableRefusal s ≡ 0 → ⊥) → enableOf s ≡ enabled s (finished (enableRefusal s) (codeOf (enableRefusal s)) 0 0)
-unfolding enableOf
-enable-nothing s h = rw (ne-eqb (enableRefusal s) 0 h) refl
 
 -- ---- a setter that is taken
 

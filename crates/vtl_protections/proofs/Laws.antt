@@ -8,16 +8,15 @@ use lib.Dec.{eqb, ltb}
 use native.Mathlib.Numerals.{add-one}
 use lib.ListN.{length, getD, take, drop, length-set, drop-of-length-le}
 use lib.Seq.{drop-cons}
-use borrow.Author.Tests.{eqb-true, ltb-false}
-use Rattle.laws.specs.Bools.{false≢true}
-use Rattle.laws.specs.Refusal.{unless, passed, refused, answered}
+use borrow.Author.Tests.{eqb-true}
+use Rattle.laws.specs.Refusal.{passed, first-passed}
 use Rattle.layout.specs.Layout.{entriesOf}
 use Rattle.permissions.specs.declared.GuestVtl.{GuestVtl}
-use Rattle.permissions.specs.declared.GuestVtl.the-variants.{Vtl0, Vtl1}
 use Rattle.permissions.specs.Flags.{vtlNumber, flagsOf}
 use Rattle.permissions.specs.HvError.{codeOf}
 use Rattle.pages.specs.declared.PageRun.{PageRun}
 use Rattle.pages.specs.Pages.{pagesOf, isLong}
+use Rattle.pages.proofs.Laws.{long-le}
 use Rattle.pages.specs.Runs.{run, part, neighbours, runAt}
 use Rattle.mapping.specs.Maps.{Permissions}
 use Rattle.defaults.specs.Pieces.{nextPiece}
@@ -34,14 +33,10 @@ use Rattle.protector_state.specs.declared.Reply.{Reply}
 use Rattle.protector_state.specs.State.{stateLen, settingsOf, ramOf, entriesIn}
 use Rattle.protector_state.specs.Reply.{finished, flatOf}
 use Rattle.change_state.specs.State.{withChange}
-use Rattle.protector.proofs.Laws as lengths
+use Rattle.protector.proofs.Laws.{fits-pages, fits-tables}
 use Rattle.protector.specs.World.{World, Outcome, world, outcome, pagesLen, tablesLen, fits, statusIn, overlaysOf, locksOf, permittedRun, entered}
-use Rattle.protector.specs.Calls.{decided, refusedBy, withPermissions, carriedChange}
+use Rattle.protector.specs.Calls.{refusedBy, withPermissions, carriedChange}
 use Rattle.vtl_protections.specs.Calls.{defaultRefusal, storedDefault, stored, barred, renewedTables, renewedIn, firstPiece, defaultStep, defaultStarted, defaultTaken, protectionRefusal, allListed, protectionStep, protectionTaken}
-
-pub vtl-le : (v : GuestVtl) → vtlNumber v ≤ 1
-vtl-le Vtl0 = omega arith
-vtl-le Vtl1 = omega arith
 
 -- ---- the tables and the layout that a default change looks at
 
@@ -76,22 +71,6 @@ ram-within tracked v flags r h = go (eqb (r .count) 0)
     go true = omega arith
     go false = within (isVtl0 v && (tracked && eqb 0 0)) r (omega (arith, h))
 
--- ---- a call refused, and one that isn't
-
-module _ (w : World) (n x : ℕ) (e : n ≡ x) (taken : Outcome) where
-  pub call-refused : (r : Reply) → (n ≡ 0 → ⊥) → r ≡ finished n (codeOf n) 0 0 → outcome (w .maps) (w .state) (w .pages) (w .tables) r ≡ decided w x taken
-  call-refused r h q = ap (outcome (w .maps) (w .state) (w .pages) (w .tables)) q ∙ refused n x e taken (refusedBy w) h
-
-  pub call-taken : (o : Outcome) → n ≡ 0 → o ≡ taken → o ≡ decided w x taken
-  call-taken o h q = answered n x e taken o (refusedBy w) h q
-
-not-busy : (s rest : ℕ) → unless (eqb s 0) s rest ≡ 0 → rest ≡ 0
-not-busy s rest h = go (eqb s 0) refl
-  where
-    go : (b : Bool) → eqb s 0 ≡ b → rest ≡ 0
-    go true e = sym (ap (λ (t : Bool). unless t s rest) e) ∙ h
-    go false e = absurd (false≢true (sym e ∙ ap (λ (k : ℕ). eqb k 0) (sym (ap (λ (t : Bool). unless t s rest) e) ∙ h)))
-
 -- ---- a default change that isn't refused: its lengths
 
 module _ (w : World) (vtl flags n : ℕ) (e : n ≡ defaultRefusal (w .state) (fits w) vtl flags) (z : n ≡ 0) where
@@ -99,7 +78,7 @@ module _ (w : World) (vtl flags n : ℕ) (e : n ≡ defaultRefusal (w .state) (f
   unfolding defaultRefusal
   default-passed =
       let a = passed (eqb (length (w .state)) stateLen) 3 _ (sym e ∙ z) in
-      let b = passed (fits w) 3 _ (not-busy (statusIn (w .state)) _ (a .1)) in
+      let b = passed (fits w) 3 _ (first-passed (statusIn (w .state)) _ (a .1) .1) in
       (eqb-true (length (w .state)) stateLen (a .0), b .0)
 
   pub state-fits : length (w .state) ≡ stateLen
@@ -109,7 +88,7 @@ module _ (w : World) (vtl flags n : ℕ) (e : n ≡ defaultRefusal (w .state) (f
   stored-fits v s q = ap length q ∙ length-set (w .state) (20 + vtlNumber v) flags ∙ default-passed .0
 
   pub tables-fit : length (w .tables) ≡ tablesLen
-  tables-fit = lengths.tables-fit (w .state) (length (w .maps .private)) (length (w .maps .shared)) (length (w .maps .permissions .read)) (length (w .maps .permissions .write)) (length (w .maps .permissions .kernel)) (length (w .maps .permissions .user)) (length (w .pages)) (length (w .tables)) (default-passed .1)
+  tables-fit = fits-tables w (default-passed .1)
 
 -- ---- a step that enters no overlay carried out
 
@@ -231,26 +210,17 @@ module _ (tracked : Bool) (v : GuestVtl) (flags n : ℕ) (t : List ℕ) where
 
 -- ---- a protection change that isn't refused
 
-off : (b : Bool) → not b ≡ true → b ≡ false
-off true e = sym e
-off false e = refl
-
-long-le : (l : List ℕ) → not (isLong l) ≡ true → length l ≤ 4096
-long-le l h = ltb-false 4096 (length l) (off (isLong l) h)
-
 module _ (w : World) (vtl flags : ℕ) (l : List ℕ) (n : ℕ) (e : n ≡ protectionRefusal (w .state) (fits w) (w .maps .shared) (w .tables) vtl flags l) (z : n ≡ 0) where
   pub protection-passed : (length (w .state) ≡ stateLen) × (fits w ≡ true) × (length l ≤ 4096)
   unfolding protectionRefusal
   protection-passed =
       let a = passed (eqb (length (w .state)) stateLen) 3 _ (sym e ∙ z) in
-      let b = passed (fits w) 3 _ (not-busy (statusIn (w .state)) _ (a .1)) in
+      let b = passed (fits w) 3 _ (first-passed (statusIn (w .state)) _ (a .1) .1) in
       let d = passed (not (isLong l)) 4 _ (b .1) in
       (eqb-true (length (w .state)) stateLen (a .0), b .0, long-le l (d .0))
 
   pub table-fits : length (w .pages) ≡ pagesLen
-  table-fits =
-      lengths.pages-fit (w .state) (length (w .maps .private)) (length (w .maps .shared)) (length (w .maps .permissions .read)) (length (w .maps .permissions .write))
-      (length (w .maps .permissions .kernel)) (length (w .maps .permissions .user)) (length (w .pages)) (length (w .tables)) (protection-passed .1)
+  table-fits = fits-pages w (protection-passed .1)
 
 pub protection-made : (w : World) (v x : GuestVtl) (flags : ℕ) (l : List ℕ) (count : ℕ) (table : List ℕ) (y : ChangeStep) (p : Permissions) (s : List ℕ) (r : Reply)
     → v ≡ x → count ≡ length (pagesOf l) → table ≡ allListed l (w .pages) → y ≡ protectionStep (w .state) table v flags count

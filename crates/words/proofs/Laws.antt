@@ -4,9 +4,9 @@ use mathlib.Core.Logic.{⊎-elim}
 use mathlib.Core.Path.{_≡_, refl, sym, ap, ap₂, _∙_}
 use Prim.Native.Nat.{ℕ, suc, _+_, _-_, _≤_, _<_, min}
 use native.Mathlib.Omega.{arith}
-use native.Mathlib.Nat.{zero-add, suc-add}
+use native.Mathlib.Numerals.{add-one}
 use lib.ListN.{length, getD, set, take, drop, length-append, length-take, length-drop, length-replicate, length-reverse, take-append-drop, replicate-append-replicate, drop-of-length-le, List·getD-eq-default}
-use lib.Seq.{length-take-le, set-split, take-at, drop-at, set-at, getD-at, set-out, take-all, take-append-add, drop-append-add, drop-append-le, getD-append-add, split-at, drop-cons}
+use lib.Seq.{length-take-le, set-split, take-at, drop-at, set-at, getD-at, set-out, take-all, take-append-add, drop-append-add, drop-append-le, getD-append-add, split-at, drop-cons, take-suc}
 use Rattle.laws.specs.Bools.{lt-or-le}
 use Rattle.words.specs.Words.{zeros, padded, closed, closedTo, swapped, turned}
 
@@ -22,9 +22,15 @@ set-after t i v =
     ⊎-elim (λ (h : i < length t). let d : min (length t) i ≡ i = omega arith in ap (λ (k : ℕ). set t k v) d)
     (λ (h : length t ≤ i). set-out t _ v (omega arith) ∙ sym (set-out t i v h)) (lt-or-le i (length t))
 
-pub set-append-add : (a s : List ℕ) (k v : ℕ) → set (a ++ s) (length a + k) v ≡ a ++ set s k v
-set-append-add [] s k v = ap (λ (i : ℕ). set s i v) (zero-add k)
-set-append-add (x ∷ a) s k v = ap (λ (i : ℕ). set (x ∷ (a ++ s)) i v) (suc-add (length a) k) ∙ ap (λ (r : List ℕ). x ∷ r) (set-append-add a s k v)
+-- ---- filled with the words of another, one after the other
+
+pub filled-next : (n : ℕ) (ws : List ℕ) (i : ℕ) → i < length ws → i < n → set (take i ws ++ zeros (n - i)) i (getD ws i 0) ≡ take (i + 1) ws ++ zeros (n - (i + 1))
+filled-next n ws i h k =
+    let d : n - i ≡ suc (n - (i + 1)) = omega arith in
+    let rest = zeros (n - (i + 1)) in
+    ap (λ (m : ℕ). set (take i ws ++ zeros m) i (getD ws i 0)) d
+    ∙ set-at (take i ws) 0 rest (getD ws i 0) i (length-take-le i ws (omega arith))
+    ∙ sym (ap (λ (l : List ℕ). l ++ rest) (ap (λ (m : ℕ). take m ws) (add-one i) ∙ take-suc ws i 0 h) ∙ append-assoc (take i ws) (getD ws i 0 ∷ []) rest)
 
 -- ---- padding
 

@@ -1,9 +1,9 @@
 -- `acceptor::permitted_at` meets its contract. Assumes nothing.
 use borrow.Author.Needs.{needs}
 use mathlib.Core.Path.{refl, ap}
+use Rattle.laws.specs.Bools.{chose, chose-not}
 use Rattle.acceptor.specs.Steps.{places}
 use Rattle.acceptor.specs.Next.{isDefault0}
-use Rattle.acceptor.proofs.Laws as laws
 use Rattle.acceptor.proofs.permitted_at.Statement.{statement}
 use Rattle.acceptor.proofs.permitted_at.Tie as tie
 
@@ -14,10 +14,10 @@ permission-end-requires : tie.Need-permission-end-requires
 permission-end-requires c κs = search needs
 
 returns : tie.Need-returns
-returns c = laws.chose _ (isDefault0 (c .before .before .before .before .args .phase)) _ _ _ (c .before .before .is-default0 .ensures) (c .before .if1 .taken) (ap (places (c .before .before .before .before .args .at)) (c .permission-end .ensures))
+returns c = chose _ (isDefault0 (c .before .before .before .before .args .phase)) _ _ _ (c .before .before .is-default0 .ensures) (c .before .if1 .taken) (ap (places (c .before .before .before .before .args .at)) (c .permission-end .ensures))
 
 returns-2 : tie.Need-returns-2
-returns-2 c = laws.chose-not _ (isDefault0 (c .before .before .before .args .phase)) _ _ _ (c .before .is-default0 .ensures) (c .if1 .left) refl
+returns-2 c = chose-not _ (isDefault0 (c .before .before .before .args .phase)) _ _ _ (c .before .is-default0 .ensures) (c .if1 .left) refl
 
 pub permitted-at-spec : {M : Type 1} → statement M
 permitted-at-spec =

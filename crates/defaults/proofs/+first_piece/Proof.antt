@@ -278,16 +278,21 @@ first-piece-returns-3 : (t : ℕ) → first-piece-lts.Need-returns-3 (
   first-piece.Post,
 ) (first-piece-at t) first-piece.Post
 first-piece-returns-3 t c =
-    let b = c .before .before .before .before .before .before .before .before .before in
+    let c4 = c .before .before .before .before in let c5 = c4 .before in let c6 = c5 .before in let c7 = c6 .before in let c9 = c7 .before .before in
+    let b = c9 in
     let a = b .args in
-    let i = c .before .before .before .before .before .before .before .find-inside .result in
-    let e = c .before .before .before .before .before .before .before .find-inside .ensures in
-    let below : i < used (a .overlays .now) = omega (arith, c .before .before .before .before .before .if1 .left, c .before .before .before .before .before .before .overlay-count .ensures) in
-    let p = c .before .before .before .before .word-at .result in
-    let read = c .before .before .before .before .word-at .ensures in
+    let i = c7 .find-inside .result in
+    let e = c7 .find-inside .ensures in
+    let below : i < used (a .overlays .now) = omega (arith, c5 .if1 .left, c6 .overlay-count .ensures) in
+    let p = c4 .word-at .result in
+    let read = c4 .word-at .ensures in
     let r = c .before .before .before .first-piece in
-    let q = c .first-piece2 in
-    (laws.from-right-start (a .overlays .now) (a .first) (a .count) i e below p read (r .result .first) (r .result .count) (r .ensures .0) (r .ensures .1) (c .before .if2 .left) (q .result .first) (q .ensures .0), laws.from-right-len (a .overlays .now) (a .first) (a .count) i e below p read (r .result .first) (r .result .count) (r .ensures .0) (r .ensures .1) (c .before .if2 .left) (q .result .count) (q .ensures .1))
+    let q = c .first-piece2 in (
+      laws.from-right-start (a .overlays .now) (a .first) (a .count) i e below p read (r .result .first) (r .result .count) (r .ensures .0) (r .ensures .1) (c .before .if2 .left)
+          (q .result .first) (q .ensures .0),
+      laws.from-right-len (a .overlays .now) (a .first) (a .count) i e below p read (r .result .first) (r .result .count) (r .ensures .0)
+          (r .ensures .1) (c .before .if2 .left) (q .result .count) (q .ensures .1),
+    )
 
 pub +first-piece-spec : {M : Type 1} → statement M
 +first-piece-spec = close μ-first-piece λ t. first-piece-lts.spec (

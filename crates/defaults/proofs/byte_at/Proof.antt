@@ -2,13 +2,9 @@
 use mathlib.Core.Path.{sym}
 use Prim.Native.Nat.{_-_}
 use lib.ListN.{List·getD-eq-default}
-use Rattle.defaults.proofs.Spans as spans
-use Rattle.defaults.proofs.Bytes as laws
 use borrow.Author.Needs.{needs}
 use Rattle.defaults.proofs.byte_at.Statement.{statement}
 use Rattle.defaults.proofs.byte_at.Tie as tie
-use Rattle.defaults.proofs.byte_at.Reads as reads
-use Rattle.defaults.proofs.byte_at.Lts as lts
 
 shared-slice-read-result : tie.Need-shared-slice-read-result
 shared-slice-read-result c = search needs

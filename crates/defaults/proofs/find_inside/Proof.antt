@@ -34,7 +34,16 @@ is-outside-requires : tie.Need-is-outside-requires Inv-loop μ-loop
 is-outside-requires c κs = search needs
 
 returns : tie.Need-returns Inv-loop μ-loop
-returns c = let a = c .before .before .before .before .before .before .before .args in let h = c .before .before .before .before .loop in omega (arith, h .inv, laws.find-hit (outside (a .first) (a .count)) (a .overlays .now) (c .before .before .word-at .result) (c .before .before .before .before .before .overlay-count .result) (h .i) (c .before .before .before .loop-test .taken) (c .before .before .word-at .ensures) (sym (c .before .is-outside .ensures) ∙ not-true _ (c .if1 .taken)))
+returns c =
+    let c4 = c .before .before .before .before in let c5 = c4 .before in
+    let a = c5 .before .before .args in
+    let h = c4 .loop in
+    omega (
+      arith,
+      h .inv,
+      laws.find-hit (outside (a .first) (a .count)) (a .overlays .now) (c .before .before .word-at .result) (c5 .overlay-count .result) (h .i)
+          (c .before .before .before .loop-test .taken) (c .before .before .word-at .ensures) (sym (c .before .is-outside .ensures) ∙ not-true _ (c .if1 .taken)),
+    )
 
 add-i : tie.Need-add-i Inv-loop μ-loop
 add-i c = search needs
@@ -43,7 +52,16 @@ loop-less : tie.Need-loop-less Inv-loop μ-loop
 loop-less c = search needs
 
 loop-again : tie.Need-loop-again Inv-loop μ-loop
-loop-again c = let a = c .before .before .before .before .before .before .before .args in let h = c .before .before .before .before .loop in omega (arith, h .inv, laws.find-miss (outside (a .first) (a .count)) (a .overlays .now) (c .before .before .word-at .result) (c .before .before .before .before .before .overlay-count .result) (h .i) (c .before .before .before .loop-test .taken) (c .before .before .word-at .ensures) (sym (c .before .is-outside .ensures) ∙ not-false _ (c .if1 .left)))
+loop-again c =
+    let c4 = c .before .before .before .before in let c5 = c4 .before in
+    let a = c5 .before .before .args in
+    let h = c4 .loop in
+    omega (
+      arith,
+      h .inv,
+      laws.find-miss (outside (a .first) (a .count)) (a .overlays .now) (c .before .before .word-at .result) (c5 .overlay-count .result) (h .i)
+          (c .before .before .before .loop-test .taken) (c .before .before .word-at .ensures) (sym (c .before .is-outside .ensures) ∙ not-false _ (c .if1 .left)),
+    )
 
 returns-2 : tie.Need-returns-2 Inv-loop μ-loop
 returns-2 c = let a = c .before .before .before .before .args in let h = c .before .loop in omega (arith, h .inv, laws.find-end (outside (a .first) (a .count)) (a .overlays .now) 0 (c .before .before .overlay-count .result) (h .i) (c .loop-test .left))

@@ -29,7 +29,14 @@ is-barring-requires : tie.Need-is-barring-requires Inv-loop μ-loop
 is-barring-requires c κs = search needs
 
 returns : tie.Need-returns Inv-loop μ-loop
-returns c = let a = c .before .before .before .before .before .before .before .before .before .before .args in let h = c .before .before .before .before .loop in let least = c .before .before .before .before .before .least .ensures in laws.any-hit (barring (a .private .now) (a .overlays .now) (entriesOf (a .ram .now))) (a .locks .now) (h .i) (a .to) (c .before .before .word-at .result) (omega arith) (omega arith) (c .before .before .word-at .ensures) (anyOf (barring (a .private .now) (a .overlays .now) (entriesOf (a .ram .now))) (part (a .locks .now) (a .to) (a .from))) (h .inv) (c .before .is-barring .result) (c .before .is-barring .ensures) (c .if1 .taken)
+returns c =
+    let c4 = c .before .before .before .before in let c5 = c4 .before in
+    let a = c5 .before .before .before .before .before .args in
+    let h = c4 .loop in
+    let least = c5 .least .ensures in
+    laws.any-hit (barring (a .private .now) (a .overlays .now) (entriesOf (a .ram .now))) (a .locks .now) (h .i) (a .to) (c .before .before .word-at .result) (omega arith)
+    (omega arith) (c .before .before .word-at .ensures) (anyOf (barring (a .private .now) (a .overlays .now) (entriesOf (a .ram .now))) (part (a .locks .now) (a .to) (a .from)))
+    (h .inv) (c .before .is-barring .result) (c .before .is-barring .ensures) (c .if1 .taken)
 
 add-i : tie.Need-add-i Inv-loop μ-loop
 add-i c = search needs
@@ -38,10 +45,21 @@ loop-less : tie.Need-loop-less Inv-loop μ-loop
 loop-less c = search needs
 
 loop-again : tie.Need-loop-again Inv-loop μ-loop
-loop-again c = let a = c .before .before .before .before .before .before .before .before .before .before .args in let h = c .before .before .before .before .loop in let least = c .before .before .before .before .before .least .ensures in laws.any-miss (barring (a .private .now) (a .overlays .now) (entriesOf (a .ram .now))) (a .locks .now) (h .i) (a .to) (c .before .before .word-at .result) (omega arith) (omega arith) (c .before .before .word-at .ensures) (anyOf (barring (a .private .now) (a .overlays .now) (entriesOf (a .ram .now))) (part (a .locks .now) (a .to) (a .from))) (h .inv) (c .before .is-barring .result) (c .before .is-barring .ensures) (c .if1 .left)
+loop-again c =
+    let c4 = c .before .before .before .before in let c5 = c4 .before in
+    let a = c5 .before .before .before .before .before .args in
+    let h = c4 .loop in
+    let least = c5 .least .ensures in
+    laws.any-miss (barring (a .private .now) (a .overlays .now) (entriesOf (a .ram .now))) (a .locks .now) (h .i) (a .to) (c .before .before .word-at .result) (omega arith)
+    (omega arith) (c .before .before .word-at .ensures) (anyOf (barring (a .private .now) (a .overlays .now) (entriesOf (a .ram .now))) (part (a .locks .now) (a .to) (a .from)))
+    (h .inv) (c .before .is-barring .result) (c .before .is-barring .ensures) (c .if1 .left)
 
 returns-2 : tie.Need-returns-2 Inv-loop μ-loop
-returns-2 c = let a = c .before .before .before .before .before .before .before .args in let h = c .before .loop in laws.any-end (barring (a .private .now) (a .overlays .now) (entriesOf (a .ram .now))) (a .locks .now) (h .i) (a .to) (omega (arith, c .before .before .least .ensures)) (anyOf (barring (a .private .now) (a .overlays .now) (entriesOf (a .ram .now))) (part (a .locks .now) (a .to) (a .from))) (h .inv)
+returns-2 c =
+    let a = c .before .before .before .before .before .before .before .args in
+    let h = c .before .loop in
+    laws.any-end (barring (a .private .now) (a .overlays .now) (entriesOf (a .ram .now))) (a .locks .now) (h .i) (a .to) (omega (arith, c .before .before .least .ensures))
+    (anyOf (barring (a .private .now) (a .overlays .now) (entriesOf (a .ram .now))) (part (a .locks .now) (a .to) (a .from))) (h .inv)
 
 pub is-any-barring-spec : {M : Type 1} → statement M
 is-any-barring-spec =

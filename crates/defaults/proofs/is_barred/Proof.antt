@@ -36,7 +36,13 @@ is-any-barring-requires : tie.Need-is-any-barring-requires Inv-loop μ-loop
 is-any-barring-requires c κs = search needs
 
 returns : tie.Need-returns Inv-loop μ-loop
-returns c = let a = c .before .before .before .before .before .before .before .before .before .before .before .args in let h = c .before .before .before .before .loop in laws.in-hit (barring (a .private .now) (a .overlays .now) (entriesOf (a .ram .now))) (a .locks .now) (h .place) (c .before .before .list-end .result) (barred (a .private .now) (a .overlays .now) (a .locks .now) (entriesOf (a .ram .now))) (h .left) (omega arith) (c .before .before .list-end .ensures) (c .before .is-any-barring .result) (c .before .is-any-barring .ensures) (c .if1 .taken) (h .inv .1)
+returns c =
+    let c4 = c .before .before .before .before in
+    let a = c4 .before .before .before .before .before .before .before .args in
+    let h = c4 .loop in
+    laws.in-hit (barring (a .private .now) (a .overlays .now) (entriesOf (a .ram .now))) (a .locks .now) (h .place) (c .before .before .list-end .result)
+    (barred (a .private .now) (a .overlays .now) (a .locks .now) (entriesOf (a .ram .now))) (h .left) (omega arith) (c .before .before .list-end .ensures)
+    (c .before .is-any-barring .result) (c .before .is-any-barring .ensures) (c .if1 .taken) (h .inv .1)
 
 sub-left : tie.Need-sub-left Inv-loop μ-loop
 sub-left c = search needs
@@ -45,7 +51,15 @@ loop-less : tie.Need-loop-less Inv-loop μ-loop
 loop-less c = search needs
 
 loop-again : tie.Need-loop-again Inv-loop μ-loop
-loop-again c = let a = c .before .before .before .before .before .before .before .before .before .before .before .args in let h = c .before .before .before .before .loop in (omega (arith, c .before .before .list-end .ensures), laws.in-miss (barring (a .private .now) (a .overlays .now) (entriesOf (a .ram .now))) (a .locks .now) (h .place) (c .before .before .list-end .result) (barred (a .private .now) (a .overlays .now) (a .locks .now) (entriesOf (a .ram .now))) (h .left) (omega arith) (c .before .before .list-end .ensures) (c .before .is-any-barring .result) (c .before .is-any-barring .ensures) (c .if1 .left) (h .inv .1))
+loop-again c =
+    let c4 = c .before .before .before .before in
+    let a = c4 .before .before .before .before .before .before .before .args in
+    let h = c4 .loop in (
+      omega (arith, c .before .before .list-end .ensures),
+      laws.in-miss (barring (a .private .now) (a .overlays .now) (entriesOf (a .ram .now))) (a .locks .now) (h .place)
+          (c .before .before .list-end .result) (barred (a .private .now) (a .overlays .now) (a .locks .now) (entriesOf (a .ram .now))) (h .left) (omega arith)
+          (c .before .before .list-end .ensures) (c .before .is-any-barring .result) (c .before .is-any-barring .ensures) (c .if1 .left) (h .inv .1),
+    )
 
 returns-2 : tie.Need-returns-2 Inv-loop μ-loop
 returns-2 c = let a = c .before .before .before .before .before .before .before .before .args in let h = c .before .loop in laws.in-end (barring (a .private .now) (a .overlays .now) (entriesOf (a .ram .now))) (a .locks .now) (h .place) 0 (barred (a .private .now) (a .overlays .now) (a .locks .now) (entriesOf (a .ram .now))) (h .left) (omega arith) (h .inv .1)

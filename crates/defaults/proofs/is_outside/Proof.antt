@@ -4,8 +4,6 @@ use Prim.Native.Nat.{_-_}
 use Rattle.defaults.proofs.Split as laws
 use Rattle.defaults.proofs.is_outside.Statement.{statement}
 use Rattle.defaults.proofs.is_outside.Tie as tie
-use Rattle.defaults.proofs.is_outside.Reads as reads
-use Rattle.defaults.proofs.is_outside.Lts as lts
 
 returns : tie.Need-returns
 returns c = let a = c .before .args in sym (laws.low-true (a .first) (a .count) (a .p) (c .if1 .taken))

@@ -3,14 +3,9 @@ use mathlib.Core.Path.{sym, ap, _∙_}
 use mathlib.Core.Bool.{Bool, not}
 use Prim.Native.Nat.{_-_}
 use Rattle.defaults.specs.Pieces.{is}
-use Rattle.defaults.proofs.Spans as spans
-use Rattle.defaults.proofs.Bytes as laws
 use borrow.Author.Needs.{needs}
 use Rattle.defaults.proofs.is_state.Statement.{statement}
 use Rattle.defaults.proofs.is_state.Tie as tie
-use Rattle.defaults.proofs.is_state.Reads as reads
-use Rattle.defaults.proofs.is_state.Lts as lts
-use Rattle.bitmap.proofs.page_state.Reads as page-state-reads
 
 page-state-requires : tie.Need-page-state-requires
 page-state-requires c κs = search needs

@@ -4,15 +4,10 @@ use mathlib.Core.Path.{sym, _∙_}
 use Prim.Native.Nat.{_-_}
 use borrow.Author.Tests.{eqb-true}
 use Rattle.defaults.proofs.Split.{true-false}
-use Rattle.defaults.proofs.Spans as spans
 use Rattle.defaults.proofs.Bytes as laws
 use borrow.Author.Needs.{needs}
 use Rattle.defaults.proofs.is_whole.Statement.{statement}
 use Rattle.defaults.proofs.is_whole.Tie as tie
-use Rattle.defaults.proofs.is_whole.Reads as reads
-use Rattle.defaults.proofs.is_whole.Lts as lts
-use Rattle.defaults.proofs.byte_at.Reads as byte-at-reads
-use Rattle.defaults.proofs.whole_byte.Reads as whole-byte-reads
 
 returns : tie.Need-returns
 returns c = λ e. true-false (sym e)

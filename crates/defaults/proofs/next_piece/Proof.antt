@@ -39,12 +39,22 @@ piece-between-requires c κs = search needs
 
 returns : tie.Need-returns Inv-loop μ-loop
 returns c =
-    let a = c .before .before .before .before .before .before .before .before .before .before .before .before .before .args in
-    let h = c .before .before .before .before .before .before .before .before .loop in
+    let c4 = c .before .before .before .before in let c5 = c4 .before in let c6 = c5 .before in let c7 = c6 .before in let c8 = c7 .before in let c9 = c8 .before in
+    let a = c9 .before .before .before .before .args in
+    let h = c8 .loop in
     let r = c .before .before .piece-between in
     let P = wanted (a .private .now) (a .overlays .now) in
-    let es = entriesOf (a .ram .now) in
-    (laws.next-hit P es (a .at) (h .i) (omega (arith, c .before .before .before .before .before .before .before .loop-test .taken, c .before .before .before .before .before .before .before .before .before .entry-count .ensures)) (c .before .before .before .before .before .before .entry-at .result) (c .before .before .before .before .before .before .entry-at .ensures) (c .before .before .before .before .before .page-up .result) (c .before .before .before .page-up2 .result) (c .before .before .before .before .greatest .result) (c .before .before .before .before .before .page-up .ensures) (c .before .before .before .before .greatest .ensures) (c .before .before .before .page-up2 .ensures) (r .result) (r .ensures) (c .if1 .taken) ∙ h .inv, omega (arith, laws.piece-low P (c .before .before .before .before .greatest .result) (c .before .before .before .page-up2 .result) (r .result) (r .ensures) (c .if1 .taken), c .before .before .before .page-up2 .ok))
+    let es = entriesOf (a .ram .now) in (
+      laws.next-hit P es (a .at) (h .i) (omega (arith, c7 .loop-test .taken, c9 .entry-count .ensures)) (c6 .entry-at .result) (c6 .entry-at .ensures) (c5 .page-up .result)
+          (c .before .before .before .page-up2 .result) (c4 .greatest .result) (c5 .page-up .ensures) (c4 .greatest .ensures) (c .before .before .before .page-up2 .ensures) (r .result)
+          (r .ensures) (c .if1 .taken) ∙ h .inv,
+      omega (
+        arith,
+        laws.piece-low P (c4 .greatest .result) (c .before .before .before .page-up2 .result) (r .result) (r .ensures)
+            (c .if1 .taken),
+        c .before .before .before .page-up2 .ok,
+      ),
+    )
 
 add-i : tie.Need-add-i Inv-loop μ-loop
 add-i c = search needs
@@ -54,12 +64,15 @@ loop-less c = search needs
 
 loop-again : tie.Need-loop-again Inv-loop μ-loop
 loop-again c =
-    let a = c .before .before .before .before .before .before .before .before .before .before .before .before .before .args in
-    let h = c .before .before .before .before .before .before .before .before .loop in
+    let c4 = c .before .before .before .before in let c5 = c4 .before in let c6 = c5 .before in let c7 = c6 .before in let c8 = c7 .before in let c9 = c8 .before in
+    let a = c9 .before .before .before .before .args in
+    let h = c8 .loop in
     let r = c .before .before .piece-between in
     let P = wanted (a .private .now) (a .overlays .now) in
     let es = entriesOf (a .ram .now) in
-    sym (laws.next-miss P es (a .at) (h .i) (omega (arith, c .before .before .before .before .before .before .before .loop-test .taken, c .before .before .before .before .before .before .before .before .before .entry-count .ensures)) (c .before .before .before .before .before .before .entry-at .result) (c .before .before .before .before .before .before .entry-at .ensures) (c .before .before .before .before .before .page-up .result) (c .before .before .before .page-up2 .result) (c .before .before .before .before .greatest .result) (c .before .before .before .before .before .page-up .ensures) (c .before .before .before .before .greatest .ensures) (c .before .before .before .page-up2 .ensures) (r .result) (r .ensures) (c .if1 .left)) ∙ h .inv
+    sym (laws.next-miss P es (a .at) (h .i) (omega (arith, c7 .loop-test .taken, c9 .entry-count .ensures)) (c6 .entry-at .result) (c6 .entry-at .ensures) (c5 .page-up .result)
+    (c .before .before .before .page-up2 .result) (c4 .greatest .result) (c5 .page-up .ensures) (c4 .greatest .ensures) (c .before .before .before .page-up2 .ensures) (r .result)
+    (r .ensures) (c .if1 .left)) ∙ h .inv
 
 returns-2 : tie.Need-returns-2 Inv-loop μ-loop
 returns-2 c =

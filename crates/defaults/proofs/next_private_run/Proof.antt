@@ -1,13 +1,9 @@
 -- `defaults::next_private_run` meets its contract. Assumes nothing.
 use Prim.Native.Nat.{_-_}
-use Rattle.defaults.proofs.Spans as spans
 use Rattle.defaults.proofs.Bytes as laws
 use borrow.Author.Needs.{needs}
 use Rattle.defaults.proofs.next_private_run.Statement.{statement}
 use Rattle.defaults.proofs.next_private_run.Tie as tie
-use Rattle.defaults.proofs.next_private_run.Reads as reads
-use Rattle.defaults.proofs.next_private_run.Lts as lts
-use Rattle.defaults.proofs.scan.Reads as scan-reads
 
 scan-requires : tie.Need-scan-requires
 scan-requires c κs = search needs

@@ -18,7 +18,11 @@ same-length : tie.Need-same-length
 same-length c = search needs
 
 returns : tie.Need-returns
-returns c = let a = c .before .before .before .before .before .before .before .before .before .before .before .args in laws.renew-hit (a .private .now) (entriesOf (a .ram .now)) (a .bits) (a .overlays .now) (a .place) _ _ (c .before .before .before .before .before .before .word-at .ensures) (c .before .before .before .before .before .is-private-ram .ensures) (c .before .before .before .before .if1 .taken) _ (c .before .before .set-previous .ensures)
+returns c =
+    let c4 = c .before .before .before .before in let c5 = c4 .before in let c6 = c5 .before in
+    let a = c6 .before .before .before .before .before .args in
+    laws.renew-hit (a .private .now) (entriesOf (a .ram .now)) (a .bits) (a .overlays .now) (a .place) _ _ (c6 .word-at .ensures) (c5 .is-private-ram .ensures) (c4 .if1 .taken) _
+    (c .before .before .set-previous .ensures)
 
 same-length-2 : tie.Need-same-length-2
 same-length-2 c = search needs

@@ -8,9 +8,6 @@ use Rattle.defaults.proofs.Spans as spans
 use Rattle.defaults.proofs.Bytes as laws
 use Rattle.defaults.proofs.scan.Statement.{statement}
 use Rattle.defaults.proofs.scan.Tie as tie
-use Rattle.defaults.proofs.scan.Reads as reads
-use Rattle.defaults.proofs.scan.Lts as lts
-use Rattle.defaults.proofs.step.Reads as step-reads
 
 abbrev Inv-loop : tie.InvT-loop
 Inv-loop map s from end p₀ p = from + span (is s map) from (end - from) ≡ p + span (is s map) p (end - p)

@@ -3,16 +3,10 @@ use native.Mathlib.Omega.{arith}
 use mathlib.Core.Path.{sym, _∙_}
 use Prim.Native.Nat.{_-_}
 use Rattle.defaults.specs.Pieces.{is}
-use Rattle.defaults.proofs.Spans as spans
 use Rattle.defaults.proofs.Bytes as laws
 use borrow.Author.Needs.{needs}
 use Rattle.defaults.proofs.step.Statement.{statement}
 use Rattle.defaults.proofs.step.Tie as tie
-use Rattle.defaults.proofs.step.Reads as reads
-use Rattle.defaults.proofs.step.Lts as lts
-use Rattle.defaults.proofs.is_state.Reads as is-state-reads
-use Rattle.defaults.proofs.is_whole.Reads as is-whole-reads
-use Rattle.defaults.proofs.whole_step.Reads as whole-step-reads
 
 is-whole-requires : tie.Need-is-whole-requires
 is-whole-requires c κs = search needs

@@ -42,9 +42,12 @@ is-allowed-requires c κs = search needs
 
 returns-4 : tie.Need-returns-4
 returns-4 c =
-    let a = c .before .before .before .before .before .before .before .before .before .before .before .before .before .before .args in
+    let c4 = c .before .before .before .before in let c5 = c4 .before in let c7 = c5 .before .before in
+    let a = c7 .before .before .before .before .before .before .before .args in
     let m = maps (a .private .now) (a .shared .now) (a .read .now) (a .write .now) (a .kernel .now) (a .user .now) in
-    vtl-protected m (a .tracked) (a .mapping) (a .view) (a .gpn) (a .writes) (a .failure) (not-false (a .failure) (c .before .before .before .before .before .before .before .if1 .left)) (c .before .before .before .before .before .enum-told2 .given .1) (sym (c .before .before .before .before .page-state2 .ensures) ∙ not-false (c .before .before .before .before .page-state2 .result) (c .before .before .before .if3 .left)) (c .before .before .if4 .taken) (sym (c .before .is-allowed .ensures) ∙ not-true (c .before .is-allowed .result) (c .if5 .taken))
+    vtl-protected m (a .tracked) (a .mapping) (a .view) (a .gpn) (a .writes) (a .failure) (not-false (a .failure) (c7 .if1 .left)) (c5 .enum-told2 .given .1)
+    (sym (c4 .page-state2 .ensures) ∙ not-false (c4 .page-state2 .result) (c .before .before .before .if3 .left)) (c .before .before .if4 .taken)
+    (sym (c .before .is-allowed .ensures) ∙ not-true (c .before .is-allowed .result) (c .if5 .taken))
 
 returns-5 : tie.Need-returns-5
 returns-5 c =
@@ -54,9 +57,12 @@ returns-5 c =
 
 returns-6 : tie.Need-returns-6
 returns-6 c =
-    let a = c .before .before .before .before .before .before .before .before .before .before .before .before .before .before .args in
+    let c4 = c .before .before .before .before in let c5 = c4 .before in let c7 = c5 .before .before in
+    let a = c7 .before .before .before .before .before .before .before .args in
     let m = maps (a .private .now) (a .shared .now) (a .read .now) (a .write .now) (a .kernel .now) (a .user .now) in
-    retry-allowed m (a .tracked) (a .mapping) (a .view) (a .gpn) (a .writes) (a .failure) (not-false (a .failure) (c .before .before .before .before .before .before .before .if1 .left)) (c .before .before .before .before .before .enum-told2 .given .1) (sym (c .before .before .before .before .page-state2 .ensures) ∙ not-false (c .before .before .before .before .page-state2 .result) (c .before .before .before .if3 .left)) (c .before .before .if4 .taken) (sym (c .before .is-allowed .ensures) ∙ not-false (c .before .is-allowed .result) (c .if5 .left))
+    retry-allowed m (a .tracked) (a .mapping) (a .view) (a .gpn) (a .writes) (a .failure) (not-false (a .failure) (c7 .if1 .left)) (c5 .enum-told2 .given .1)
+    (sym (c4 .page-state2 .ensures) ∙ not-false (c4 .page-state2 .result) (c .before .before .before .if3 .left)) (c .before .before .if4 .taken)
+    (sym (c .before .is-allowed .ensures) ∙ not-false (c .before .is-allowed .result) (c .if5 .left))
 
 returns-7 : tie.Need-returns-7
 returns-7 c =

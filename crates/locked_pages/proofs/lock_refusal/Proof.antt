@@ -31,22 +31,38 @@ is-vtl-requires c κs = search needs
 
 returns-4 : tie.Need-returns-4
 unfolding lockRefusal
-returns-4 c = passes _ _ _ _ (eq-eqb _ _ (c .before .before .before .before .before .before .if1 .left)) (passes _ _ _ _ (eq-eqb _ _ (sym (c .before .before .before .before .before .status .ensures) ∙ c .before .before .before .before .if2 .left)) (passes _ _ _ _ (eq-eqb _ _ (c .before .before .before .if3 .left)) (refuses _ _ _ (ap not (sym (c .before .before .is-long .ensures) ∙ c .if4 .taken)))))
+returns-4 c =
+    let c4 = c .before .before .before .before in let c5 = c4 .before in let c6 = c5 .before in
+    passes _ _ _ _ (eq-eqb _ _ (c6 .if1 .left)) (passes _ _ _ _ (eq-eqb _ _ (sym (c5 .status .ensures) ∙ c4 .if2 .left))
+    (passes _ _ _ _ (eq-eqb _ _ (c .before .before .before .if3 .left)) (refuses _ _ _ (ap not (sym (c .before .before .is-long .ensures) ∙ c .if4 .taken)))))
 
 returns-5 : tie.Need-returns-5
 unfolding lockRefusal
-returns-5 c = passes _ _ _ _ (eq-eqb _ _ (c .before .before .before .before .before .before .before .if1 .left)) (passes _ _ _ _ (eq-eqb _ _ (sym (c .before .before .before .before .before .before .status .ensures) ∙ c .before .before .before .before .before .if2 .left)) (passes _ _ _ _ (eq-eqb _ _ (c .before .before .before .before .if3 .left)) (passes _ _ _ _ (ap not (sym (c .before .before .before .is-long .ensures) ∙ c .before .if4 .left)) (refuses _ _ _ (sym (c .before .before .is-vtl .ensures) ∙ not-true _ (c .if5 .taken))))))
+returns-5 c =
+    let c4 = c .before .before .before .before in let c5 = c4 .before in let c6 = c5 .before in let c7 = c6 .before in
+    passes _ _ _ _ (eq-eqb _ _ (c7 .if1 .left)) (passes _ _ _ _ (eq-eqb _ _ (sym (c6 .status .ensures) ∙ c5 .if2 .left))
+    (passes _ _ _ _ (eq-eqb _ _ (c4 .if3 .left)) (passes _ _ _ _ (ap not (sym (c .before .before .before .is-long .ensures) ∙ c .before .if4 .left))
+    (refuses _ _ _ (sym (c .before .before .is-vtl .ensures) ∙ not-true _ (c .if5 .taken))))))
 
 is-ragged-requires : tie.Need-is-ragged-requires
 is-ragged-requires c κs = search needs
 
 returns-6 : tie.Need-returns-6
 unfolding lockRefusal
-returns-6 c = passes _ _ _ _ (eq-eqb _ _ (c .before .before .before .before .before .before .before .before .before .if1 .left)) (passes _ _ _ _ (eq-eqb _ _ (sym (c .before .before .before .before .before .before .before .before .status .ensures) ∙ c .before .before .before .before .before .before .before .if2 .left)) (passes _ _ _ _ (eq-eqb _ _ (c .before .before .before .before .before .before .if3 .left)) (passes _ _ _ _ (ap not (sym (c .before .before .before .before .before .is-long .ensures) ∙ c .before .before .before .if4 .left)) (passes _ _ _ _ (sym (c .before .before .before .before .is-vtl .ensures) ∙ not-false _ (c .before .before .if5 .left)) (refuses _ _ _ (ap not (sym (c .before .is-ragged .ensures) ∙ c .if6 .taken)))))))
+returns-6 c =
+    let c4 = c .before .before .before .before in let c5 = c4 .before in let c6 = c5 .before in let c7 = c6 .before in let c8 = c7 .before in let c9 = c8 .before in
+    passes _ _ _ _ (eq-eqb _ _ (c9 .if1 .left)) (passes _ _ _ _ (eq-eqb _ _ (sym (c8 .status .ensures) ∙ c7 .if2 .left))
+    (passes _ _ _ _ (eq-eqb _ _ (c6 .if3 .left)) (passes _ _ _ _ (ap not (sym (c5 .is-long .ensures) ∙ c .before .before .before .if4 .left))
+    (passes _ _ _ _ (sym (c4 .is-vtl .ensures) ∙ not-false _ (c .before .before .if5 .left)) (refuses _ _ _ (ap not (sym (c .before .is-ragged .ensures) ∙ c .if6 .taken)))))))
 
 returns-7 : tie.Need-returns-7
 unfolding lockRefusal
-returns-7 c = passes _ _ _ _ (eq-eqb _ _ (c .before .before .before .before .before .before .before .before .before .if1 .left)) (passes _ _ _ _ (eq-eqb _ _ (sym (c .before .before .before .before .before .before .before .before .status .ensures) ∙ c .before .before .before .before .before .before .before .if2 .left)) (passes _ _ _ _ (eq-eqb _ _ (c .before .before .before .before .before .before .if3 .left)) (passes _ _ _ _ (ap not (sym (c .before .before .before .before .before .is-long .ensures) ∙ c .before .before .before .if4 .left)) (passes _ _ _ _ (sym (c .before .before .before .before .is-vtl .ensures) ∙ not-false _ (c .before .before .if5 .left)) (passes _ _ _ _ (ap not (sym (c .before .is-ragged .ensures) ∙ c .if6 .left)) (refl))))))
+returns-7 c =
+    let c4 = c .before .before .before .before in let c5 = c4 .before in let c6 = c5 .before in let c7 = c6 .before in let c8 = c7 .before in let c9 = c8 .before in
+    passes _ _ _ _ (eq-eqb _ _ (c9 .if1 .left)) (passes _ _ _ _ (eq-eqb _ _ (sym (c8 .status .ensures) ∙ c7 .if2 .left))
+    (passes _ _ _ _ (eq-eqb _ _ (c6 .if3 .left)) (passes _ _ _ _ (ap not (sym (c5 .is-long .ensures) ∙ c .before .before .before .if4 .left))
+    (passes _ _ _ _ (sym (c4 .is-vtl .ensures) ∙ not-false _ (c .before .before .if5 .left))
+    (passes _ _ _ _ (ap not (sym (c .before .is-ragged .ensures) ∙ c .if6 .left)) (refl))))))
 
 pub lock-refusal-spec : {M : Type 1} → statement M
 lock-refusal-spec =

@@ -26,7 +26,11 @@ same-length : tie.Need-same-length
 same-length c = search needs
 
 returns-2 : tie.Need-returns-2
-returns-2 c = let a = c .before .before .before .before .before .before .before .before .before .before .before .args in laws.lock-taken (a .state .now) (a .tables .now) (a .vtl) (a .list .now) (c .before .before .before .before .before .before .before .lock-refusal .result) (c .before .before .before .before .before .before .before .lock-refusal .ensures) (c .refused2 .result) (c .before .before .before .before .before .before .if1 .left) (c .before .before .before .before .before .vtl-of .result) (c .before .before .before .before .before .vtl-of .ensures) _ (c .before .before .before .lock-of .result) (c .before .before .before .lock-of .ensures) (c .refused2 .ensures)
+returns-2 c =
+    let c5 = c .before .before .before .before .before in let c6 = c5 .before in let c7 = c6 .before in
+    let a = c7 .before .before .before .before .args in
+    laws.lock-taken (a .state .now) (a .tables .now) (a .vtl) (a .list .now) (c7 .lock-refusal .result) (c7 .lock-refusal .ensures) (c .refused2 .result) (c6 .if1 .left)
+    (c5 .vtl-of .result) (c5 .vtl-of .ensures) _ (c .before .before .before .lock-of .result) (c .before .before .before .lock-of .ensures) (c .refused2 .ensures)
 
 pub protector-lock-gpns-spec : {M : Type 1} → statement M
 protector-lock-gpns-spec =

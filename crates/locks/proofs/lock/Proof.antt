@@ -44,9 +44,11 @@ same-length-2 c = search needs
 
 returns-2 : tie.Need-returns-2
 returns-2 c =
-    let a = c .before .before .before .before .before .before .before .before .before .before .before .before .before .before .before .before .before .before .before .before .before .args in
-    laws.lock-made (a .t .now) (pagesOf (a .list .now)) _ _ _ _ (c .before .before .before .before .before .before .before .before .before .before .before .before .before .before .before .before .before .before .page-count .ensures) (c .before .before .before .before .before .before .before .before .before .before .before .before .before .before .before .before .count .ensures) (c .before .before .before .before .before .before .before .before .before .before .before .before .before .before .extent-of .ensures .1) (c .before .before .before .before .before .before .before .before .before .before .before .before .before .has-room .ensures)
-    (not-false (c .before .before .before .before .before .before .before .before .before .before .before .before .before .has-room .result) (c .before .before .before .before .before .before .before .before .before .before .before .before .if1 .left)) _ _ _ _ (c .before .before .before .before .before .before .before .before .before .before .before .before .before .before .extent-of .ensures .0) (c .before .before .before .before .before .before .before .before .before .before .put .ensures) (c .before .before .before .before .before .before .put-pages .ensures) (c .before .before .put2 .ensures)
+    let c6 = c .before .before .before .before .before .before in let c10 = c6 .before .before .before .before in let c12 = c10 .before .before in let c13 = c12 .before in
+    let c14 = c13 .before in let c16 = c14 .before .before in let c18 = c16 .before .before in
+    let a = c18 .before .before .before .args in
+    laws.lock-made (a .t .now) (pagesOf (a .list .now)) _ _ _ _ (c18 .page-count .ensures) (c16 .count .ensures) (c14 .extent-of .ensures .1) (c13 .has-room .ensures)
+    (not-false (c13 .has-room .result) (c12 .if1 .left)) _ _ _ _ (c14 .extent-of .ensures .0) (c10 .put .ensures) (c6 .put-pages .ensures) (c .before .before .put2 .ensures)
 
 pub lock-spec : {M : Type 1} → statement M
 lock-spec =

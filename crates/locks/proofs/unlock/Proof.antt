@@ -49,12 +49,14 @@ same-length-2 c = search needs
 
 returns-2 : tie.Need-returns-2
 returns-2 c =
-    let a = c .before .before .before .before .before .before .before .before .before .before .before .before .before .before .before .before .before .before .before .before .before .before .before .before .before .before .before .args in
-    let start = c .before .before .before .before .before .before .before .before .before .before .before .before .before .before .before .before .before .before .before .before in
+    let c6 = c .before .before .before .before .before .before in let c7 = c6 .before in let c11 = c7 .before .before .before .before in let c13 = c11 .before .before in
+    let c15 = c13 .before .before in let c17 = c15 .before .before in let c19 = c17 .before .before in let c20 = c19 .before in
+    let a = c20 .before .before .before .before .before .before .before .args in
+    let start = c20 in
     let found = start .before .find .ensures in
-    laws.unlock-made (a .t .now) (pagesOf (a .list .now)) _ _ (start .before .before .before .count .ensures) (found .0) (start .if1 .left) _ _ _ _ _ _ (found .1 (start .if1 .left))
-    (c .before .before .before .before .before .before .before .before .before .before .before .before .before .before .before .before .before .before .before .minus .ensures) (c .before .before .before .before .before .before .before .before .before .before .before .before .before .before .before .before .before .next .ensures) (c .before .before .before .before .before .before .before .before .before .before .before .before .before .before .before .end-of .ensures) (c .before .before .before .before .before .before .before .before .before .before .before .before .before .next2 .ensures) (c .before .before .before .before .before .before .before .minus2 .ensures)
-    _ _ _ (c .before .before .before .before .before .before .before .before .before .before .before .bring-last .ensures) (c .before .before .before .before .before .before .close-gap .ensures) (c .before .before .put .ensures)
+    laws.unlock-made (a .t .now) (pagesOf (a .list .now)) _ _ (start .before .before .before .count .ensures) (found .0) (start .if1 .left) _ _ _ _ _ _
+    (found .1 (start .if1 .left)) (c19 .minus .ensures) (c17 .next .ensures) (c15 .end-of .ensures) (c13 .next2 .ensures) (c7 .minus2 .ensures) _ _ _ (c11 .bring-last .ensures)
+    (c6 .close-gap .ensures) (c .before .before .put .ensures)
 
 pub unlock-spec : {M : Type 1} → statement M
 unlock-spec =

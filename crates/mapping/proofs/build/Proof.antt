@@ -43,9 +43,11 @@ same-length-6 c = search needs
 
 returns : tie.Need-returns
 returns c =
-    let a = c .before .before .before .before .before .before .before .before .before .before .before .before .before .before .before .before .before .before .before .before .before .before .before .before .before .before .before .before .before .before .before .args in
-    built-is (entriesOf (a .ram .now)) (a .private .now) (a .shared .now) (a .read .now) (a .write .now) (a .kernel .now) (a .user .now) _ _ _ _ _ _
-    (c .before .before .before .before .before .before .before .before .before .before .before .before .before .before .before .before .before .before .before .before .before .before .init .ensures) (c .before .before .before .before .before .before .before .before .before .before .before .before .before .before .before .before .before .before .init2 .ensures) (c .before .before .before .before .before .before .before .before .before .before .before .before .before .before .init3 .ensures) (c .before .before .before .before .before .before .before .before .before .before .init4 .ensures) (c .before .before .before .before .before .before .init5 .ensures) (c .before .before .init6 .ensures)
+    let c6 = c .before .before .before .before .before .before in let c10 = c6 .before .before .before .before in let c14 = c10 .before .before .before .before in
+    let c18 = c14 .before .before .before .before in let c22 = c18 .before .before .before .before in
+    let a = c22 .before .before .before .before .before .before .before .before .before .args in
+    built-is (entriesOf (a .ram .now)) (a .private .now) (a .shared .now) (a .read .now) (a .write .now) (a .kernel .now) (a .user .now) _ _ _ _ _ _ (c22 .init .ensures)
+    (c18 .init2 .ensures) (c14 .init3 .ensures) (c10 .init4 .ensures) (c6 .init5 .ensures) (c .before .before .init6 .ensures)
 
 pub build-spec : {M : Type 1} → statement M
 build-spec =

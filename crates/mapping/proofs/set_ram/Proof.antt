@@ -43,7 +43,14 @@ loop-less : tie.Need-loop-less Inv-loop μ-loop
 loop-less c = search needs
 
 loop-again : tie.Need-loop-again Inv-loop μ-loop
-loop-again c = let u = c .before .before .before .before .before .before .before .before in let es = entriesOf (c .before .before .before .before .before .before .before .before .before .before .before .before .args .ram .now) in (search needs, ram-step es (u .loop .i) (u .loop .map) _ _ _ _ (omega (arith, c .before .before .before .before .before .before .before .before .before .entry-count .ensures)) (c .before .before .before .before .before .before .entry-at .ensures) (c .before .before .before .before .page-up .ensures) (c .before .before .before .page-up2 .ensures) (c .before .before .update .ensures) ∙ u .loop .inv .1)
+loop-again c =
+    let c4 = c .before .before .before .before in let c6 = c4 .before .before in let c8 = c6 .before .before in let c9 = c8 .before in let c12 = c9 .before .before .before in
+    let u = c8 in
+    let es = entriesOf (c12 .args .ram .now) in (
+      search needs,
+      ram-step es (u .loop .i) (u .loop .map) _ _ _ _ (omega (arith, c9 .entry-count .ensures)) (c6 .entry-at .ensures) (c4 .page-up .ensures)
+          (c .before .before .before .page-up2 .ensures) (c .before .before .update .ensures) ∙ u .loop .inv .1,
+    )
 
 same-length : tie.Need-same-length Inv-loop μ-loop
 same-length c = let u = c .before in let es = entriesOf (c .before .before .before .before .before .args .ram .now) in sym (length-written 8 (isRam (drop (u .loop .i) es)) true (u .loop .map)) ∙ ap length (u .loop .inv .1) ∙ length-written 8 (isRam es) true (c .before .before .before .before .before .args .map .now)

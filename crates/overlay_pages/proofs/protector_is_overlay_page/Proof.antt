@@ -27,7 +27,11 @@ digit-of-requires : tie.Need-digit-of-requires
 digit-of-requires c κs = search needs
 
 returns-2 : tie.Need-returns-2
-returns-2 c = let a = c .before .before .before .before .before .before .before .before .args in laws.query-taken (a .state .now) (a .tables .now) (a .vtl) (a .gpn) _ (c .before .before .before .before .before .table-refusal .ensures) _ _ _ _ _ (c .before .before .before .before .if1 .left) (c .before .before .before .vtl-of .ensures) (c .before .before .overlays-of .ensures) (c .before .is-overlay .ensures) (c .digit-of .ensures .0) refl
+returns-2 c =
+    let c4 = c .before .before .before .before in let c5 = c4 .before in
+    let a = c5 .before .before .before .args in
+    laws.query-taken (a .state .now) (a .tables .now) (a .vtl) (a .gpn) _ (c5 .table-refusal .ensures) _ _ _ _ _ (c4 .if1 .left) (c .before .before .before .vtl-of .ensures)
+    (c .before .before .overlays-of .ensures) (c .before .is-overlay .ensures) (c .digit-of .ensures .0) refl
 
 pub protector-is-overlay-page-spec : {M : Type 1} → statement M
 protector-is-overlay-page-spec =

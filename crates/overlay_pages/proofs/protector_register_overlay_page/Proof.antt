@@ -6,6 +6,7 @@ use Rattle.mapping.specs.Maps.{maps}
 use Rattle.permissions.specs.declared.GuestVtl.{GuestVtl}
 use Rattle.permissions.specs.Flags.{vtlOf}
 use Rattle.protector.specs.World.{world, fits}
+use Rattle.protector.proofs.Laws.{call-refused, call-taken, fits-tables}
 use Rattle.overlay_pages.specs.Calls.{registerOf, registerTaken}
 use Rattle.overlay_pages.proofs.Laws as laws
 use Rattle.overlay_pages.proofs.protector_register_overlay_page.Statement.{statement}
@@ -43,22 +44,51 @@ same-length-6 c = search needs
 
 returns : tie.Need-returns
 unfolding registerOf
-returns c = let a = c .before .before .before .before .before .before .before .before .before .before .before .before .before .before .before .before .before .before .before .before .before .args in laws.call-refused (world (maps (a .private .now) (a .shared .now) (a .read .now) (a .write .now) (a .kernel .now) (a .user .now)) (a .state .now) (a .pages .now) (a .tables .now)) _ _ (laws.register-asks (world (maps (a .private .now) (a .shared .now) (a .read .now) (a .write .now) (a .kernel .now) (a .user .now)) (a .state .now) (a .pages .now) (a .tables .now)) (fits (world (maps (a .private .now) (a .shared .now) (a .read .now) (a .write .now) (a .kernel .now) (a .user .now)) (a .state .now) (a .pages .now) (a .tables .now))) (c .before .before .before .before .before .before .before .before .before .before .before .vtl-of .result) (a .vtl) (a .gpn) (a .source) (a .checked) (a .new) _ _ (c .before .before .before .before .before .before .before .before .before .before .before .vtl-of .ensures) (c .before .before .before .before .before .current-flags .ensures) (c .before .before .register-refusal .ensures)) (registerTaken (world (maps (a .private .now) (a .shared .now) (a .read .now) (a .write .now) (a .kernel .now) (a .user .now)) (a .state .now) (a .pages .now) (a .tables .now)) (vtlOf (a .vtl)) (a .gpn) (a .source) (a .new)) _ (c .before .if1 .taken) (c .refused .ensures)
+returns c =
+    let c5 = c .before .before .before .before .before in let c11 = c5 .before .before .before .before .before .before in
+    let a = c11 .before .before .before .before .before .before .before .before .before .before .args in
+    let w = world (maps (a .private .now) (a .shared .now) (a .read .now) (a .write .now) (a .kernel .now) (a .user .now)) (a .state .now) (a .pages .now) (a .tables .now) in
+    call-refused w _ _ (laws.register-asks w (fits w) (c11 .vtl-of .result) (a .vtl) (a .gpn) (a .source) (a .checked) (a .new) _ _ (c11 .vtl-of .ensures)
+    (c5 .current-flags .ensures) (c .before .before .register-refusal .ensures)) (registerTaken w (vtlOf (a .vtl)) (a .gpn) (a .source) (a .new)) _ (c .before .if1 .taken)
+    (c .refused .ensures)
 
 overlays-of-requires : tie.Need-overlays-of-requires
-overlays-of-requires c κs = let a = c .before .before .before .before .before .before .before .before .before .before .before .before .before .before .before .before .before .before .before .before .before .args in laws.tables-fit (world (maps (a .private .now) (a .shared .now) (a .read .now) (a .write .now) (a .kernel .now) (a .user .now)) (a .state .now) (a .pages .now) (a .tables .now)) (laws.register-fits (a .state .now) (fits (world (maps (a .private .now) (a .shared .now) (a .read .now) (a .write .now) (a .kernel .now) (a .user .now)) (a .state .now) (a .pages .now) (a .tables .now))) (a .shared .now) (a .tables .now) (c .before .before .before .before .before .current-flags .result) (a .vtl) (a .gpn) (a .source) (a .checked) (a .new) _ (c .before .before .register-refusal .ensures) (c .before .if1 .left))
+overlays-of-requires c κs =
+    let c5 = c .before .before .before .before .before in
+    let a = c5 .before .before .before .before .before .before .before .before .before .before .before .before .before .before .before .before .args in
+    let w = world (maps (a .private .now) (a .shared .now) (a .read .now) (a .write .now) (a .kernel .now) (a .user .now)) (a .state .now) (a .pages .now) (a .tables .now) in
+    fits-tables w (laws.register-fits (a .state .now) (fits w) (a .shared .now) (a .tables .now) (c5 .current-flags .result) (a .vtl) (a .gpn) (a .source) (a .checked) (a .new) _
+    (c .before .before .register-refusal .ensures) (c .before .if1 .left))
 
 is-overlay-requires : tie.Need-is-overlay-requires
 is-overlay-requires c κs = search needs
 
 entry-of-requires : tie.Need-entry-of-requires
-entry-of-requires c κs = let a = c .before .before .before .before .before .before .before .before .before .before .before .before .before .before .before .before .before .before .before .before .before .before .before .before .before .args in laws.tables-fit (world (maps (a .private .now) (a .shared .now) (a .read .now) (a .write .now) (a .kernel .now) (a .user .now)) (a .state .now) (a .pages .now) (a .tables .now)) (laws.register-fits (a .state .now) (fits (world (maps (a .private .now) (a .shared .now) (a .read .now) (a .write .now) (a .kernel .now) (a .user .now)) (a .state .now) (a .pages .now) (a .tables .now))) (a .shared .now) (a .tables .now) (c .before .before .before .before .before .before .before .before .before .current-flags .result) (a .vtl) (a .gpn) (a .source) (a .checked) (a .new) _ (c .before .before .before .before .before .before .register-refusal .ensures) (c .before .before .before .before .before .if1 .left))
+entry-of-requires c κs =
+    let c5 = c .before .before .before .before .before in let c6 = c5 .before in let c9 = c6 .before .before .before in
+    let a = c9 .before .before .before .before .before .before .before .before .before .before .before .before .before .before .before .before .args in
+    let w = world (maps (a .private .now) (a .shared .now) (a .read .now) (a .write .now) (a .kernel .now) (a .user .now)) (a .state .now) (a .pages .now) (a .tables .now) in
+    fits-tables w (laws.register-fits (a .state .now) (fits w) (a .shared .now) (a .tables .now) (c9 .current-flags .result) (a .vtl) (a .gpn) (a .source) (a .checked) (a .new) _
+    (c6 .register-refusal .ensures) (c5 .if1 .left))
 
 add-set-ref-count : tie.Need-add-set-ref-count
-add-set-ref-count c = let a = c .before .before .before .before .before .before .before .before .before .before .before .before .before .before .before .before .before .before .before .before .before .before .before .before .before .before .before .before .args in let h = laws.register-room (a .state .now) (fits (world (maps (a .private .now) (a .shared .now) (a .read .now) (a .write .now) (a .kernel .now) (a .user .now)) (a .state .now) (a .pages .now) (a .tables .now))) (a .shared .now) (a .tables .now) (c .before .before .before .before .before .before .before .before .before .before .before .before .current-flags .result) (a .vtl) (a .gpn) (a .source) (a .checked) (a .new) _ (c .before .before .before .before .before .before .before .before .before .register-refusal .ensures) (c .before .before .before .before .before .before .before .before .if1 .left) (c .before .before .before .before .before .before .before .before .before .before .before .before .before .before .before .before .before .before .vtl-of .result) _ _ _ (c .before .before .before .before .before .before .before .before .before .before .before .before .before .before .before .before .before .before .vtl-of .ensures) (c .before .before .before .before .before .before .overlays-of .ensures) (c .before .before .before .before .before .is-overlay .ensures) (c .before .before .before .before .if2 .taken) (c .before .before .entry-of .ensures) in omega (arith, h)
+add-set-ref-count c =
+    let c4 = c .before .before .before .before in let c5 = c4 .before in let c6 = c5 .before in let c8 = c6 .before .before in let c9 = c8 .before in
+    let c12 = c9 .before .before .before in let c18 = c12 .before .before .before .before .before .before in
+    let a = c18 .before .before .before .before .before .before .before .before .before .before .args in
+    let h = laws.register-room (a .state .now) (fits (world (maps (a .private .now) (a .shared .now) (a .read .now) (a .write .now) (a .kernel .now) (a .user .now)) (a .state .now)
+    (a .pages .now) (a .tables .now))) (a .shared .now) (a .tables .now) (c12 .current-flags .result) (a .vtl) (a .gpn) (a .source) (a .checked) (a .new) _
+    (c9 .register-refusal .ensures) (c8 .if1 .left) (c18 .vtl-of .result) _ _ _ (c18 .vtl-of .ensures) (c6 .overlays-of .ensures) (c5 .is-overlay .ensures) (c4 .if2 .taken)
+    (c .before .before .entry-of .ensures) in
+    omega (arith, h)
 
 set-ref-count-requires : tie.Need-set-ref-count-requires
-set-ref-count-requires c κs = let a = c .before .before .before .before .before .before .before .before .before .before .before .before .before .before .before .before .before .before .before .before .before .before .before .before .before .before .before .before .args in laws.tables-fit (world (maps (a .private .now) (a .shared .now) (a .read .now) (a .write .now) (a .kernel .now) (a .user .now)) (a .state .now) (a .pages .now) (a .tables .now)) (laws.register-fits (a .state .now) (fits (world (maps (a .private .now) (a .shared .now) (a .read .now) (a .write .now) (a .kernel .now) (a .user .now)) (a .state .now) (a .pages .now) (a .tables .now))) (a .shared .now) (a .tables .now) (c .before .before .before .before .before .before .before .before .before .before .before .before .current-flags .result) (a .vtl) (a .gpn) (a .source) (a .checked) (a .new) _ (c .before .before .before .before .before .before .before .before .before .register-refusal .ensures) (c .before .before .before .before .before .before .before .before .if1 .left))
+set-ref-count-requires c κs =
+    let c8 = c .before .before .before .before .before .before .before .before in let c9 = c8 .before in let c12 = c9 .before .before .before in
+    let a = c12 .before .before .before .before .before .before .before .before .before .before .before .before .before .before .before .before .args in
+    let w = world (maps (a .private .now) (a .shared .now) (a .read .now) (a .write .now) (a .kernel .now) (a .user .now)) (a .state .now) (a .pages .now) (a .tables .now) in
+    fits-tables w (laws.register-fits (a .state .now) (fits w) (a .shared .now) (a .tables .now) (c12 .current-flags .result) (a .vtl) (a .gpn) (a .source) (a .checked) (a .new) _
+    (c9 .register-refusal .ensures) (c8 .if1 .left))
 
 finished-requires : tie.Need-finished-requires
 finished-requires c κs = search needs
@@ -83,10 +113,24 @@ same-length-12 c = search needs
 
 returns-2 : tie.Need-returns-2
 unfolding registerOf
-returns-2 c = let a = c .before .before .before .before .before .before .before .before .before .before .before .before .before .before .before .before .before .before .before .before .before .before .before .before .before .before .before .before .before .before .before .before .args in laws.call-taken (world (maps (a .private .now) (a .shared .now) (a .read .now) (a .write .now) (a .kernel .now) (a .user .now)) (a .state .now) (a .pages .now) (a .tables .now)) _ _ (laws.register-asks (world (maps (a .private .now) (a .shared .now) (a .read .now) (a .write .now) (a .kernel .now) (a .user .now)) (a .state .now) (a .pages .now) (a .tables .now)) (fits (world (maps (a .private .now) (a .shared .now) (a .read .now) (a .write .now) (a .kernel .now) (a .user .now)) (a .state .now) (a .pages .now) (a .tables .now))) (c .before .before .before .before .before .before .before .before .before .before .before .before .before .before .before .before .before .before .before .before .before .before .vtl-of .result) (a .vtl) (a .gpn) (a .source) (a .checked) (a .new) _ _ (c .before .before .before .before .before .before .before .before .before .before .before .before .before .before .before .before .before .before .before .before .before .before .vtl-of .ensures) (c .before .before .before .before .before .before .before .before .before .before .before .before .before .before .before .before .current-flags .ensures) (c .before .before .before .before .before .before .before .before .before .before .before .before .before .register-refusal .ensures)) (registerTaken (world (maps (a .private .now) (a .shared .now) (a .read .now) (a .write .now) (a .kernel .now) (a .user .now)) (a .state .now) (a .pages .now) (a .tables .now)) (vtlOf (a .vtl)) (a .gpn) (a .source) (a .new)) _ (c .before .before .before .before .before .before .before .before .before .before .before .before .if1 .left) (laws.register-counted (world (maps (a .private .now) (a .shared .now) (a .read .now) (a .write .now) (a .kernel .now) (a .user .now)) (a .state .now) (a .pages .now) (a .tables .now)) (c .before .before .before .before .before .before .before .before .before .before .before .before .before .before .before .before .before .before .before .before .before .before .vtl-of .result) (a .gpn) (a .source) (a .new) _ _ (c .before .before .before .before .before .before .before .before .before .before .overlays-of .ensures) (c .before .before .before .before .before .before .before .before .before .is-overlay .ensures) _ _ _ (c .before .before .before .before .before .before .before .before .if2 .taken) (c .before .before .before .before .before .before .entry-of .ensures) (c .before .before .before .set-ref-count .ensures) (c .finished .ensures) ∙ ap (λ (x : GuestVtl). registerTaken (world (maps (a .private .now) (a .shared .now) (a .read .now) (a .write .now) (a .kernel .now) (a .user .now)) (a .state .now) (a .pages .now) (a .tables .now)) x (a .gpn) (a .source) (a .new)) (c .before .before .before .before .before .before .before .before .before .before .before .before .before .before .before .before .before .before .before .before .before .before .vtl-of .ensures))
+returns-2 c =
+    let c6 = c .before .before .before .before .before .before in let c8 = c6 .before .before in let c9 = c8 .before in let c10 = c9 .before in let c12 = c10 .before .before in
+    let c13 = c12 .before in let c16 = c13 .before .before .before in let c22 = c16 .before .before .before .before .before .before in
+    let a = c22 .before .before .before .before .before .before .before .before .before .before .args in
+    let w = world (maps (a .private .now) (a .shared .now) (a .read .now) (a .write .now) (a .kernel .now) (a .user .now)) (a .state .now) (a .pages .now) (a .tables .now) in
+    call-taken w _ _ (laws.register-asks w (fits w) (c22 .vtl-of .result) (a .vtl) (a .gpn) (a .source) (a .checked) (a .new) _ _ (c22 .vtl-of .ensures)
+    (c16 .current-flags .ensures) (c13 .register-refusal .ensures)) (registerTaken w (vtlOf (a .vtl)) (a .gpn) (a .source) (a .new)) _ (c12 .if1 .left)
+    (laws.register-counted w (c22 .vtl-of .result) (a .gpn) (a .source) (a .new) _ _ (c10 .overlays-of .ensures) (c9 .is-overlay .ensures) _ _ _ (c8 .if2 .taken)
+    (c6 .entry-of .ensures) (c .before .before .before .set-ref-count .ensures) (c .finished .ensures) ∙ ap (λ (x : GuestVtl). registerTaken w x (a .gpn) (a .source) (a .new))
+    (c22 .vtl-of .ensures))
 
 settings-requires : tie.Need-settings-requires
-settings-requires c κs = let a = c .before .before .before .before .before .before .before .before .before .before .before .before .before .before .before .before .before .before .before .before .before .before .before .before .before .args in laws.register-state (a .state .now) (fits (world (maps (a .private .now) (a .shared .now) (a .read .now) (a .write .now) (a .kernel .now) (a .user .now)) (a .state .now) (a .pages .now) (a .tables .now))) (a .shared .now) (a .tables .now) (c .before .before .before .before .before .before .before .before .before .current-flags .result) (a .vtl) (a .gpn) (a .source) (a .checked) (a .new) _ (c .before .before .before .before .before .before .register-refusal .ensures) (c .before .before .before .before .before .if1 .left)
+settings-requires c κs =
+    let c5 = c .before .before .before .before .before in let c6 = c5 .before in let c9 = c6 .before .before .before in
+    let a = c9 .before .before .before .before .before .before .before .before .before .before .before .before .before .before .before .before .args in
+    laws.register-state (a .state .now) (fits (world (maps (a .private .now) (a .shared .now) (a .read .now) (a .write .now) (a .kernel .now) (a .user .now)) (a .state .now)
+    (a .pages .now) (a .tables .now))) (a .shared .now) (a .tables .now) (c9 .current-flags .result) (a .vtl) (a .gpn) (a .source) (a .checked) (a .new) _
+    (c6 .register-refusal .ensures) (c5 .if1 .left)
 
 into-bits-requires : tie.Need-into-bits-requires
 into-bits-requires c κs = search needs
@@ -95,7 +139,19 @@ start-new-requires : tie.Need-start-new-requires
 start-new-requires c κs = search needs
 
 carry-out-requires : tie.Need-carry-out-requires
-carry-out-requires c κs = let a = c .before .before .before .before .before .before .before .before .before .before .before .before .before .before .before .before .before .before .before .before .before .before .before .before .before .before .before .before .before .before .before .before .before .before .args in (laws.register-state (a .state .now) (fits (world (maps (a .private .now) (a .shared .now) (a .read .now) (a .write .now) (a .kernel .now) (a .user .now)) (a .state .now) (a .pages .now) (a .tables .now))) (a .shared .now) (a .tables .now) (c .before .before .before .before .before .before .before .before .before .before .before .before .before .before .before .before .before .before .current-flags .result) (a .vtl) (a .gpn) (a .source) (a .checked) (a .new) _ (c .before .before .before .before .before .before .before .before .before .before .before .before .before .before .before .register-refusal .ensures) (c .before .before .before .before .before .before .before .before .before .before .before .before .before .before .if1 .left), laws.tables-fit (world (maps (a .private .now) (a .shared .now) (a .read .now) (a .write .now) (a .kernel .now) (a .user .now)) (a .state .now) (a .pages .now) (a .tables .now)) (laws.register-fits (a .state .now) (fits (world (maps (a .private .now) (a .shared .now) (a .read .now) (a .write .now) (a .kernel .now) (a .user .now)) (a .state .now) (a .pages .now) (a .tables .now))) (a .shared .now) (a .tables .now) (c .before .before .before .before .before .before .before .before .before .before .before .before .before .before .before .before .before .before .current-flags .result) (a .vtl) (a .gpn) (a .source) (a .checked) (a .new) _ (c .before .before .before .before .before .before .before .before .before .before .before .before .before .before .before .register-refusal .ensures) (c .before .before .before .before .before .before .before .before .before .before .before .before .before .before .if1 .left)), laws.new-fits _ (c .before .before .before .before .before .before .before .before .before .before .before .before .before .before .before .before .before .before .before .before .before .before .before .before .vtl-of .result) (a .gpn) _ _ _ _ (c .before .before .before .before .before .before .start-new .ensures) (omega (arith, c .before .before .before .before .before .before .before .before .before .before .before .before .before .before .before .before .before .before .before .before .before .before .before .before .before .before .before .before .before .before .before .before .before .before .fits .gpn)))
+carry-out-requires c κs =
+    let c6 = c .before .before .before .before .before .before in let c14 = c6 .before .before .before .before .before .before .before .before in let c15 = c14 .before in
+    let c18 = c15 .before .before .before in let c24 = c18 .before .before .before .before .before .before in
+    let c34 = c24 .before .before .before .before .before .before .before .before .before .before in
+    let a = c34 .args in
+    let w = world (maps (a .private .now) (a .shared .now) (a .read .now) (a .write .now) (a .kernel .now) (a .user .now)) (a .state .now) (a .pages .now) (a .tables .now) in (
+      laws.register-state (a .state .now) (fits w) (a .shared .now) (a .tables .now) (c18 .current-flags .result) (a .vtl) (a .gpn) (a .source) (a .checked) (a .new) _
+          (c15 .register-refusal .ensures) (c14 .if1 .left),
+      fits-tables w
+          (laws.register-fits (a .state .now) (fits w) (a .shared .now) (a .tables .now) (c18 .current-flags .result) (a .vtl) (a .gpn) (a .source) (a .checked) (a .new) _
+          (c15 .register-refusal .ensures) (c14 .if1 .left)),
+      laws.new-fits _ (c24 .vtl-of .result) (a .gpn) _ _ _ _ (c6 .start-new .ensures) (omega (arith, c34 .fits .gpn)),
+    )
 
 same-length-13 : tie.Need-same-length-13
 same-length-13 c = search needs
@@ -117,7 +173,19 @@ same-length-18 c = search needs
 
 returns-3 : tie.Need-returns-3
 unfolding registerOf
-returns-3 c = let a = c .before .before .before .before .before .before .before .before .before .before .before .before .before .before .before .before .before .before .before .before .before .before .before .before .before .before .before .before .before .before .before .before .before .before .before .before .before .before .before .before .before .before .before .before .before .before .before .args in laws.call-taken (world (maps (a .private .now) (a .shared .now) (a .read .now) (a .write .now) (a .kernel .now) (a .user .now)) (a .state .now) (a .pages .now) (a .tables .now)) _ _ (laws.register-asks (world (maps (a .private .now) (a .shared .now) (a .read .now) (a .write .now) (a .kernel .now) (a .user .now)) (a .state .now) (a .pages .now) (a .tables .now)) (fits (world (maps (a .private .now) (a .shared .now) (a .read .now) (a .write .now) (a .kernel .now) (a .user .now)) (a .state .now) (a .pages .now) (a .tables .now))) (c .before .before .before .before .before .before .before .before .before .before .before .before .before .before .before .before .before .before .before .before .before .before .before .before .before .before .before .before .before .before .before .before .before .before .before .before .before .vtl-of .result) (a .vtl) (a .gpn) (a .source) (a .checked) (a .new) _ _ (c .before .before .before .before .before .before .before .before .before .before .before .before .before .before .before .before .before .before .before .before .before .before .before .before .before .before .before .before .before .before .before .before .before .before .before .before .before .vtl-of .ensures) (c .before .before .before .before .before .before .before .before .before .before .before .before .before .before .before .before .before .before .before .before .before .before .before .before .before .before .before .before .before .before .before .current-flags .ensures) (c .before .before .before .before .before .before .before .before .before .before .before .before .before .before .before .before .before .before .before .before .before .before .before .before .before .before .before .before .register-refusal .ensures)) (registerTaken (world (maps (a .private .now) (a .shared .now) (a .read .now) (a .write .now) (a .kernel .now) (a .user .now)) (a .state .now) (a .pages .now) (a .tables .now)) (vtlOf (a .vtl)) (a .gpn) (a .source) (a .new)) _ (c .before .before .before .before .before .before .before .before .before .before .before .before .before .before .before .before .before .before .before .before .before .before .before .before .before .before .before .if1 .left) (laws.register-carried (world (maps (a .private .now) (a .shared .now) (a .read .now) (a .write .now) (a .kernel .now) (a .user .now)) (a .state .now) (a .pages .now) (a .tables .now)) (c .before .before .before .before .before .before .before .before .before .before .before .before .before .before .before .before .before .before .before .before .before .before .before .before .before .before .before .before .before .before .before .before .before .before .before .before .before .vtl-of .result) (a .gpn) (a .source) (a .new) _ _ (c .before .before .before .before .before .before .before .before .before .before .before .before .before .before .before .before .before .before .before .before .before .before .before .before .before .overlays-of .ensures) (c .before .before .before .before .before .before .before .before .before .before .before .before .before .before .before .before .before .before .before .before .before .before .before .before .is-overlay .ensures) (c .before .before .before .before .before .before .before .before .before .before .before .before .before .before .before .before .before .before .before .before .before .settings .result) (c .before .before .before .before .before .before .before .before .before .before .before .before .before .before .before .before .before .before .before .before .before .before .before .before .before .before .before .before .before .before .before .current-flags .result) _ (c .before .before .before .before .before .before .before .before .before .before .before .before .before .before .before .before .before .before .before .start-new .result) _ _ _ _ (c .before .before .before .before .before .before .before .before .before .before .before .before .before .before .before .before .before .before .before .before .before .before .before .if2 .left) (c .before .before .before .before .before .before .before .before .before .before .before .before .before .before .before .before .before .before .before .before .before .settings .ensures) (c .before .before .before .before .before .before .before .before .before .before .before .before .before .before .before .before .before .before .before .before .before .before .before .before .before .before .before .before .before .before .before .current-flags .ensures) (c .before .before .before .before .before .before .before .before .before .before .before .before .before .before .before .before .before .before .before .before .into-bits .ensures) (c .before .before .before .before .before .before .before .before .before .before .before .before .before .before .before .before .before .before .before .start-new .ensures) (c .before .before .before .before .before .before .before .before .before .before .before .before .carry-out .ensures .0) (c .before .before .before .before .before .before .before .before .before .before .before .before .carry-out .ensures .1 .0) (c .before .before .before .before .before .before .before .before .before .before .before .before .carry-out .ensures .1 .1 .0) (c .before .before .before .before .before .before .before .before .before .before .before .before .carry-out .ensures .1 .1 .1) ∙ ap (λ (x : GuestVtl). registerTaken (world (maps (a .private .now) (a .shared .now) (a .read .now) (a .write .now) (a .kernel .now) (a .user .now)) (a .state .now) (a .pages .now) (a .tables .now)) x (a .gpn) (a .source) (a .new)) (c .before .before .before .before .before .before .before .before .before .before .before .before .before .before .before .before .before .before .before .before .before .before .before .before .before .before .before .before .before .before .before .before .before .before .before .before .before .vtl-of .ensures))
+returns-3 c =
+    let c12 = c .before .before .before .before .before .before .before .before .before .before .before .before in
+    let c19 = c12 .before .before .before .before .before .before .before in let c20 = c19 .before in let c21 = c20 .before in let c23 = c21 .before .before in
+    let c24 = c23 .before in let c25 = c24 .before in let c27 = c25 .before .before in let c28 = c27 .before in let c31 = c28 .before .before .before in
+    let c37 = c31 .before .before .before .before .before .before in
+    let a = c37 .before .before .before .before .before .before .before .before .before .before .args in
+    let w = world (maps (a .private .now) (a .shared .now) (a .read .now) (a .write .now) (a .kernel .now) (a .user .now)) (a .state .now) (a .pages .now) (a .tables .now) in
+    call-taken w _ _ (laws.register-asks w (fits w) (c37 .vtl-of .result) (a .vtl) (a .gpn) (a .source) (a .checked) (a .new) _ _ (c37 .vtl-of .ensures)
+    (c31 .current-flags .ensures) (c28 .register-refusal .ensures)) (registerTaken w (vtlOf (a .vtl)) (a .gpn) (a .source) (a .new)) _ (c27 .if1 .left)
+    (laws.register-carried w (c37 .vtl-of .result) (a .gpn) (a .source) (a .new) _ _ (c25 .overlays-of .ensures) (c24 .is-overlay .ensures) (c21 .settings .result)
+    (c31 .current-flags .result) _ (c19 .start-new .result) _ _ _ _ (c23 .if2 .left) (c21 .settings .ensures) (c31 .current-flags .ensures) (c20 .into-bits .ensures)
+    (c19 .start-new .ensures) (c12 .carry-out .ensures .0) (c12 .carry-out .ensures .1 .0) (c12 .carry-out .ensures .1 .1 .0) (c12 .carry-out .ensures .1 .1 .1) ∙ ap
+    (λ (x : GuestVtl). registerTaken w x (a .gpn) (a .source) (a .new)) (c37 .vtl-of .ensures))
 
 pub protector-register-overlay-page-spec : {M : Type 1} → statement M
 protector-register-overlay-page-spec =

@@ -6,6 +6,7 @@ use Rattle.mapping.specs.Maps.{maps}
 use Rattle.permissions.specs.declared.GuestVtl.{GuestVtl}
 use Rattle.permissions.specs.Flags.{vtlOf}
 use Rattle.protector.specs.World.{world, fits}
+use Rattle.protector.proofs.Laws.{call-refused, call-taken, fits-tables}
 use Rattle.overlay_pages.specs.Calls.{unregisterOf, unregisterTaken}
 use Rattle.overlay_pages.proofs.Laws as laws
 use Rattle.overlay_pages.proofs.protector_unregister_overlay_page.Statement.{statement}
@@ -25,19 +26,30 @@ same-length-2 c = search needs
 
 returns : tie.Need-returns
 unfolding unregisterOf
-returns c = let a = c .before .before .before .before .before .before .before .before .before .before .before .before .before .before .args in laws.call-refused (world (maps (a .private .now) (a .shared .now) (a .read .now) (a .write .now) (a .kernel .now) (a .user .now)) (a .state .now) (a .pages .now) (a .tables .now)) _ _ (c .before .before .unregister-refusal .ensures) (unregisterTaken (world (maps (a .private .now) (a .shared .now) (a .read .now) (a .write .now) (a .kernel .now) (a .user .now)) (a .state .now) (a .pages .now) (a .tables .now)) (vtlOf (a .vtl)) (a .gpn)) _ (c .before .if1 .taken) (c .refused .ensures)
+returns c =
+    let a = c .before .before .before .before .before .before .before .before .before .before .before .before .before .before .args in
+    let w = world (maps (a .private .now) (a .shared .now) (a .read .now) (a .write .now) (a .kernel .now) (a .user .now)) (a .state .now) (a .pages .now) (a .tables .now) in
+    call-refused w _ _ (c .before .before .unregister-refusal .ensures) (unregisterTaken w (vtlOf (a .vtl)) (a .gpn)) _ (c .before .if1 .taken) (c .refused .ensures)
 
 vtl-of-requires : tie.Need-vtl-of-requires
 vtl-of-requires c κs = search needs
 
 entry-of-requires : tie.Need-entry-of-requires
-entry-of-requires c κs = let a = c .before .before .before .before .before .before .before .before .before .before .before .before .before .before .before .args in laws.tables-fit (world (maps (a .private .now) (a .shared .now) (a .read .now) (a .write .now) (a .kernel .now) (a .user .now)) (a .state .now) (a .pages .now) (a .tables .now)) (laws.unregister-fits (a .state .now) (fits (world (maps (a .private .now) (a .shared .now) (a .read .now) (a .write .now) (a .kernel .now) (a .user .now)) (a .state .now) (a .pages .now) (a .tables .now))) (a .tables .now) (a .vtl) (a .gpn) _ (c .before .before .before .unregister-refusal .ensures) (c .before .before .if1 .left))
+entry-of-requires c κs =
+    let a = c .before .before .before .before .before .before .before .before .before .before .before .before .before .before .before .args in
+    let w = world (maps (a .private .now) (a .shared .now) (a .read .now) (a .write .now) (a .kernel .now) (a .user .now)) (a .state .now) (a .pages .now) (a .tables .now) in
+    fits-tables w (laws.unregister-fits (a .state .now) (fits w) (a .tables .now) (a .vtl) (a .gpn) _ (c .before .before .before .unregister-refusal .ensures)
+    (c .before .before .if1 .left))
 
 sub-set-ref-count : tie.Need-sub-set-ref-count
 sub-set-ref-count c = search needs
 
 set-ref-count-requires : tie.Need-set-ref-count-requires
-set-ref-count-requires c κs = let a = c .before .before .before .before .before .before .before .before .before .before .before .before .before .before .before .before .before .before .before .before .args in laws.tables-fit (world (maps (a .private .now) (a .shared .now) (a .read .now) (a .write .now) (a .kernel .now) (a .user .now)) (a .state .now) (a .pages .now) (a .tables .now)) (laws.unregister-fits (a .state .now) (fits (world (maps (a .private .now) (a .shared .now) (a .read .now) (a .write .now) (a .kernel .now) (a .user .now)) (a .state .now) (a .pages .now) (a .tables .now))) (a .tables .now) (a .vtl) (a .gpn) _ (c .before .before .before .before .before .before .before .before .unregister-refusal .ensures) (c .before .before .before .before .before .before .before .if1 .left))
+set-ref-count-requires c κs =
+    let c7 = c .before .before .before .before .before .before .before in let c8 = c7 .before in
+    let a = c8 .before .before .before .before .before .before .before .before .before .before .before .before .args in
+    let w = world (maps (a .private .now) (a .shared .now) (a .read .now) (a .write .now) (a .kernel .now) (a .user .now)) (a .state .now) (a .pages .now) (a .tables .now) in
+    fits-tables w (laws.unregister-fits (a .state .now) (fits w) (a .tables .now) (a .vtl) (a .gpn) _ (c8 .unregister-refusal .ensures) (c7 .if1 .left))
 
 finished-requires : tie.Need-finished-requires
 finished-requires c κs = search needs
@@ -50,16 +62,36 @@ same-length-4 c = search needs
 
 returns-2 : tie.Need-returns-2
 unfolding unregisterOf
-returns-2 c = let a = c .before .before .before .before .before .before .before .before .before .before .before .before .before .before .before .before .before .before .before .before .before .before .before .before .args in laws.call-taken (world (maps (a .private .now) (a .shared .now) (a .read .now) (a .write .now) (a .kernel .now) (a .user .now)) (a .state .now) (a .pages .now) (a .tables .now)) _ _ (c .before .before .before .before .before .before .before .before .before .before .before .before .unregister-refusal .ensures) (unregisterTaken (world (maps (a .private .now) (a .shared .now) (a .read .now) (a .write .now) (a .kernel .now) (a .user .now)) (a .state .now) (a .pages .now) (a .tables .now)) (vtlOf (a .vtl)) (a .gpn)) _ (c .before .before .before .before .before .before .before .before .before .before .before .if1 .left) (laws.unregister-counted (world (maps (a .private .now) (a .shared .now) (a .read .now) (a .write .now) (a .kernel .now) (a .user .now)) (a .state .now) (a .pages .now) (a .tables .now)) (c .before .before .before .before .before .before .before .before .before .before .vtl-of .result) (a .gpn) _ (c .before .before .before .before .before .before .before .before .entry-of .ensures) _ _ (c .before .before .before .before .before .before .if2 .taken) (c .before .before .before .set-ref-count .ensures) (c .finished .ensures) ∙ ap (λ (x : GuestVtl). unregisterTaken (world (maps (a .private .now) (a .shared .now) (a .read .now) (a .write .now) (a .kernel .now) (a .user .now)) (a .state .now) (a .pages .now) (a .tables .now)) x (a .gpn)) (c .before .before .before .before .before .before .before .before .before .before .vtl-of .ensures))
+returns-2 c =
+    let c6 = c .before .before .before .before .before .before in let c8 = c6 .before .before in let c10 = c8 .before .before in let c11 = c10 .before in let c12 = c11 .before in
+    let a = c12 .before .before .before .before .before .before .before .before .before .before .before .before .args in
+    let w = world (maps (a .private .now) (a .shared .now) (a .read .now) (a .write .now) (a .kernel .now) (a .user .now)) (a .state .now) (a .pages .now) (a .tables .now) in
+    call-taken w _ _ (c12 .unregister-refusal .ensures) (unregisterTaken w (vtlOf (a .vtl)) (a .gpn)) _ (c11 .if1 .left)
+    (laws.unregister-counted w (c10 .vtl-of .result) (a .gpn) _ (c8 .entry-of .ensures) _ _ (c6 .if2 .taken) (c .before .before .before .set-ref-count .ensures)
+    (c .finished .ensures) ∙ ap (λ (x : GuestVtl). unregisterTaken w x (a .gpn)) (c10 .vtl-of .ensures))
 
 settings-requires : tie.Need-settings-requires
-settings-requires c κs = let a = c .before .before .before .before .before .before .before .before .before .before .before .before .before .before .before .before .before .before .before .args in laws.unregister-state (a .state .now) (fits (world (maps (a .private .now) (a .shared .now) (a .read .now) (a .write .now) (a .kernel .now) (a .user .now)) (a .state .now) (a .pages .now) (a .tables .now))) (a .tables .now) (a .vtl) (a .gpn) _ (c .before .before .before .before .before .before .before .unregister-refusal .ensures) (c .before .before .before .before .before .before .if1 .left)
+settings-requires c κs =
+    let c6 = c .before .before .before .before .before .before in let c7 = c6 .before in
+    let a = c7 .before .before .before .before .before .before .before .before .before .before .before .before .args in
+    laws.unregister-state (a .state .now) (fits (world (maps (a .private .now) (a .shared .now) (a .read .now) (a .write .now) (a .kernel .now) (a .user .now)) (a .state .now)
+    (a .pages .now) (a .tables .now))) (a .tables .now) (a .vtl) (a .gpn) _ (c7 .unregister-refusal .ensures) (c6 .if1 .left)
 
 start-old-requires : tie.Need-start-old-requires
 start-old-requires c κs = search needs
 
 carry-out-requires : tie.Need-carry-out-requires
-carry-out-requires c κs = let a = c .before .before .before .before .before .before .before .before .before .before .before .before .before .before .before .before .before .before .before .before .before .before .before .before .before .before .before .args in (laws.unregister-state (a .state .now) (fits (world (maps (a .private .now) (a .shared .now) (a .read .now) (a .write .now) (a .kernel .now) (a .user .now)) (a .state .now) (a .pages .now) (a .tables .now))) (a .tables .now) (a .vtl) (a .gpn) _ (c .before .before .before .before .before .before .before .before .before .before .before .before .before .before .before .unregister-refusal .ensures) (c .before .before .before .before .before .before .before .before .before .before .before .before .before .before .if1 .left), laws.tables-fit (world (maps (a .private .now) (a .shared .now) (a .read .now) (a .write .now) (a .kernel .now) (a .user .now)) (a .state .now) (a .pages .now) (a .tables .now)) (laws.unregister-fits (a .state .now) (fits (world (maps (a .private .now) (a .shared .now) (a .read .now) (a .write .now) (a .kernel .now) (a .user .now)) (a .state .now) (a .pages .now) (a .tables .now))) (a .tables .now) (a .vtl) (a .gpn) _ (c .before .before .before .before .before .before .before .before .before .before .before .before .before .before .before .unregister-refusal .ensures) (c .before .before .before .before .before .before .before .before .before .before .before .before .before .before .if1 .left)), laws.old-fits _ (c .before .before .before .before .before .before .before .before .before .before .before .before .before .vtl-of .result) (a .gpn) _ _ _ (c .before .before .before .before .before .before .start-old .ensures) (omega (arith, c .before .before .before .before .before .before .before .before .before .before .before .before .before .before .before .before .before .before .before .before .before .before .before .before .before .before .before .fits .gpn)))
+carry-out-requires c κs =
+    let c6 = c .before .before .before .before .before .before in let c13 = c6 .before .before .before .before .before .before .before in let c14 = c13 .before in
+    let c15 = c14 .before in let c27 = c15 .before .before .before .before .before .before .before .before .before .before .before .before in
+    let a = c27 .args in
+    let w = world (maps (a .private .now) (a .shared .now) (a .read .now) (a .write .now) (a .kernel .now) (a .user .now)) (a .state .now) (a .pages .now) (a .tables .now) in (
+      laws.unregister-state (a .state .now) (fits w) (a .tables .now) (a .vtl) (a .gpn) _ (c15 .unregister-refusal .ensures) (c14 .if1 .left),
+      fits-tables w
+          (laws.unregister-fits (a .state .now) (fits w) (a .tables .now) (a .vtl) (a .gpn) _ (c15 .unregister-refusal .ensures) (c14 .if1 .left)),
+      laws.old-fits _ (c13 .vtl-of .result)
+          (a .gpn) _ _ _ (c6 .start-old .ensures) (omega (arith, c27 .fits .gpn)),
+    )
 
 same-length-5 : tie.Need-same-length-5
 same-length-5 c = search needs
@@ -81,7 +113,16 @@ same-length-10 c = search needs
 
 returns-3 : tie.Need-returns-3
 unfolding unregisterOf
-returns-3 c = let a = c .before .before .before .before .before .before .before .before .before .before .before .before .before .before .before .before .before .before .before .before .before .before .before .before .before .before .before .before .before .before .before .before .before .before .before .before .before .before .before .before .args in laws.call-taken (world (maps (a .private .now) (a .shared .now) (a .read .now) (a .write .now) (a .kernel .now) (a .user .now)) (a .state .now) (a .pages .now) (a .tables .now)) _ _ (c .before .before .before .before .before .before .before .before .before .before .before .before .before .before .before .before .before .before .before .before .before .before .before .before .before .before .before .before .unregister-refusal .ensures) (unregisterTaken (world (maps (a .private .now) (a .shared .now) (a .read .now) (a .write .now) (a .kernel .now) (a .user .now)) (a .state .now) (a .pages .now) (a .tables .now)) (vtlOf (a .vtl)) (a .gpn)) _ (c .before .before .before .before .before .before .before .before .before .before .before .before .before .before .before .before .before .before .before .before .before .before .before .before .before .before .before .if1 .left) (laws.unregister-carried (world (maps (a .private .now) (a .shared .now) (a .read .now) (a .write .now) (a .kernel .now) (a .user .now)) (a .state .now) (a .pages .now) (a .tables .now)) (c .before .before .before .before .before .before .before .before .before .before .before .before .before .before .before .before .before .before .before .before .before .before .before .before .before .before .vtl-of .result) (a .gpn) _ (c .before .before .before .before .before .before .before .before .before .before .before .before .before .before .before .before .before .before .before .before .before .before .before .before .entry-of .ensures) (c .before .before .before .before .before .before .before .before .before .before .before .before .before .before .before .before .before .before .before .before .settings .result) (c .before .before .before .before .before .before .before .before .before .before .before .before .before .before .before .before .before .before .before .start-old .result) _ _ _ _ (c .before .before .before .before .before .before .before .before .before .before .before .before .before .before .before .before .before .before .before .before .before .before .if2 .left) (c .before .before .before .before .before .before .before .before .before .before .before .before .before .before .before .before .before .before .before .before .settings .ensures) (c .before .before .before .before .before .before .before .before .before .before .before .before .before .before .before .before .before .before .before .start-old .ensures) (c .before .before .before .before .before .before .before .before .before .before .before .before .carry-out .ensures .0) (c .before .before .before .before .before .before .before .before .before .before .before .before .carry-out .ensures .1 .0) (c .before .before .before .before .before .before .before .before .before .before .before .before .carry-out .ensures .1 .1 .0) (c .before .before .before .before .before .before .before .before .before .before .before .before .carry-out .ensures .1 .1 .1) ∙ ap (λ (x : GuestVtl). unregisterTaken (world (maps (a .private .now) (a .shared .now) (a .read .now) (a .write .now) (a .kernel .now) (a .user .now)) (a .state .now) (a .pages .now) (a .tables .now)) x (a .gpn)) (c .before .before .before .before .before .before .before .before .before .before .before .before .before .before .before .before .before .before .before .before .before .before .before .before .before .before .vtl-of .ensures))
+returns-3 c =
+    let c12 = c .before .before .before .before .before .before .before .before .before .before .before .before in
+    let c19 = c12 .before .before .before .before .before .before .before in let c20 = c19 .before in let c22 = c20 .before .before in let c24 = c22 .before .before in
+    let c26 = c24 .before .before in let c27 = c26 .before in let c28 = c27 .before in
+    let a = c28 .before .before .before .before .before .before .before .before .before .before .before .before .args in
+    let w = world (maps (a .private .now) (a .shared .now) (a .read .now) (a .write .now) (a .kernel .now) (a .user .now)) (a .state .now) (a .pages .now) (a .tables .now) in
+    call-taken w _ _ (c28 .unregister-refusal .ensures) (unregisterTaken w (vtlOf (a .vtl)) (a .gpn)) _ (c27 .if1 .left)
+    (laws.unregister-carried w (c26 .vtl-of .result) (a .gpn) _ (c24 .entry-of .ensures) (c20 .settings .result) (c19 .start-old .result) _ _ _ _ (c22 .if2 .left)
+    (c20 .settings .ensures) (c19 .start-old .ensures) (c12 .carry-out .ensures .0) (c12 .carry-out .ensures .1 .0) (c12 .carry-out .ensures .1 .1 .0)
+    (c12 .carry-out .ensures .1 .1 .1) ∙ ap (λ (x : GuestVtl). unregisterTaken w x (a .gpn)) (c26 .vtl-of .ensures))
 
 pub protector-unregister-overlay-page-spec : {M : Type 1} → statement M
 protector-unregister-overlay-page-spec =

@@ -30,11 +30,19 @@ is-vtl-requires c κs = search needs
 
 returns-4 : tie.Need-returns-4
 unfolding callRefusal
-returns-4 c = passes _ _ _ _ (eq-eqb _ _ (c .before .before .before .before .before .before .if1 .left)) (passes _ _ _ _ (eq-eqb _ _ (sym (c .before .before .before .before .before .status .ensures) ∙ c .before .before .before .before .if2 .left)) (passes _ _ _ _ (sym (c .before .before .before .lengths-fit .ensures) ∙ not-false _ (c .before .before .if3 .left)) (passes _ _ _ _ (sym (c .before .is-vtl .ensures) ∙ c .if4 .taken) refl)))
+returns-4 c =
+    let c4 = c .before .before .before .before in let c5 = c4 .before in let c6 = c5 .before in
+    passes _ _ _ _ (eq-eqb _ _ (c6 .if1 .left)) (passes _ _ _ _ (eq-eqb _ _ (sym (c5 .status .ensures) ∙ c4 .if2 .left))
+    (passes _ _ _ _ (sym (c .before .before .before .lengths-fit .ensures) ∙ not-false _ (c .before .before .if3 .left))
+    (passes _ _ _ _ (sym (c .before .is-vtl .ensures) ∙ c .if4 .taken) refl)))
 
 returns-5 : tie.Need-returns-5
 unfolding callRefusal
-returns-5 c = passes _ _ _ _ (eq-eqb _ _ (c .before .before .before .before .before .before .if1 .left)) (passes _ _ _ _ (eq-eqb _ _ (sym (c .before .before .before .before .before .status .ensures) ∙ c .before .before .before .before .if2 .left)) (passes _ _ _ _ (sym (c .before .before .before .lengths-fit .ensures) ∙ not-false _ (c .before .before .if3 .left)) (refuses _ _ _ (sym (c .before .is-vtl .ensures) ∙ c .if4 .left))))
+returns-5 c =
+    let c4 = c .before .before .before .before in let c5 = c4 .before in let c6 = c5 .before in
+    passes _ _ _ _ (eq-eqb _ _ (c6 .if1 .left)) (passes _ _ _ _ (eq-eqb _ _ (sym (c5 .status .ensures) ∙ c4 .if2 .left))
+    (passes _ _ _ _ (sym (c .before .before .before .lengths-fit .ensures) ∙ not-false _ (c .before .before .if3 .left))
+    (refuses _ _ _ (sym (c .before .is-vtl .ensures) ∙ c .if4 .left))))
 
 pub call-refusal-spec : {M : Type 1} → statement M
 call-refusal-spec =

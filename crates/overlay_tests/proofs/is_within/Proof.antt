@@ -33,7 +33,11 @@ holds-requires-4 c κs = search needs
 
 returns-4 : tie.Need-returns-4
 unfolding within
-returns-4 c = and-goes _ _ _ (sym (c .before .before .before .before .before .before .holds .ensures) ∙ not-false _ (c .before .before .before .before .before .if1 .left)) (and-goes _ _ _ (sym (c .before .before .before .before .holds2 .ensures) ∙ not-false _ (c .before .before .before .if2 .left)) (and-goes _ _ _ (sym (c .before .before .holds3 .ensures) ∙ not-false _ (c .before .if3 .left)) (c .holds4 .ensures)))
+returns-4 c =
+    let c4 = c .before .before .before .before in let c5 = c4 .before in let c6 = c5 .before in
+    and-goes _ _ _ (sym (c6 .holds .ensures) ∙ not-false _ (c5 .if1 .left))
+    (and-goes _ _ _ (sym (c4 .holds2 .ensures) ∙ not-false _ (c .before .before .before .if2 .left))
+    (and-goes _ _ _ (sym (c .before .before .holds3 .ensures) ∙ not-false _ (c .before .if3 .left)) (c .holds4 .ensures)))
 
 pub is-within-spec : {M : Type 1} → statement M
 is-within-spec =

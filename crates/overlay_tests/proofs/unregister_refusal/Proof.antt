@@ -24,18 +24,34 @@ vtl-of-requires : tie.Need-vtl-of-requires
 vtl-of-requires c κs = search needs
 
 overlays-of-requires : tie.Need-overlays-of-requires
-overlays-of-requires c κs = let a = c .before .before .before .before .before .args in lengths.tables-fit (a .state .now) (a .private) (a .shared) (a .read) (a .write) (a .kernel) (a .user) (a .pages) (length (a .tables .now)) (laws.call-fits (a .state .now) (lengthsFit (a .state .now) (a .private) (a .shared) (a .read) (a .write) (a .kernel) (a .user) (a .pages) (length (a .tables .now))) (a .vtl) _ (c .before .before .call-refusal .ensures) (c .before .if1 .left))
+overlays-of-requires c κs =
+    let a = c .before .before .before .before .before .args in
+    lengths.tables-fit (a .state .now) (a .private) (a .shared) (a .read) (a .write) (a .kernel) (a .user) (a .pages) (length (a .tables .now))
+    (laws.call-fits (a .state .now) (lengthsFit (a .state .now) (a .private) (a .shared) (a .read) (a .write) (a .kernel) (a .user) (a .pages) (length (a .tables .now))) (a .vtl) _
+    (c .before .before .call-refusal .ensures) (c .before .if1 .left))
 
 is-overlay-requires : tie.Need-is-overlay-requires
 is-overlay-requires c κs = search needs
 
 returns-2 : tie.Need-returns-2
 unfolding unregisterRefusal
-returns-2 c = let a = c .before .before .before .before .before .before .before .before .args in laws.call-goes (a .state .now) (lengthsFit (a .state .now) (a .private) (a .shared) (a .read) (a .write) (a .kernel) (a .user) (a .pages) (length (a .tables .now))) (a .vtl) _ (c .before .before .before .before .before .call-refusal .ensures) _ _ (c .before .before .before .before .if1 .left) (passes _ _ _ _ (sym (c .before .is-overlay .ensures ∙ ap (λ (o : List ℕ). isOverlay o (a .gpn)) (c .before .before .overlays-of .ensures ∙ ap (overlaysOf (a .tables .now)) (c .before .before .before .vtl-of .ensures))) ∙ c .if2 .taken) refl)
+returns-2 c =
+    let c4 = c .before .before .before .before in let c5 = c4 .before in
+    let a = c5 .before .before .before .args in
+    laws.call-goes (a .state .now) (lengthsFit (a .state .now) (a .private) (a .shared) (a .read) (a .write) (a .kernel) (a .user) (a .pages) (length (a .tables .now))) (a .vtl) _
+    (c5 .call-refusal .ensures) _ _ (c4 .if1 .left) (passes _ _ _ _
+    (sym (c .before .is-overlay .ensures ∙ ap (λ (o : List ℕ). isOverlay o (a .gpn))
+    (c .before .before .overlays-of .ensures ∙ ap (overlaysOf (a .tables .now)) (c .before .before .before .vtl-of .ensures))) ∙ c .if2 .taken) refl)
 
 returns-3 : tie.Need-returns-3
 unfolding unregisterRefusal
-returns-3 c = let a = c .before .before .before .before .before .before .before .before .args in laws.call-goes (a .state .now) (lengthsFit (a .state .now) (a .private) (a .shared) (a .read) (a .write) (a .kernel) (a .user) (a .pages) (length (a .tables .now))) (a .vtl) _ (c .before .before .before .before .before .call-refusal .ensures) _ _ (c .before .before .before .before .if1 .left) (refuses _ _ _ (sym (c .before .is-overlay .ensures ∙ ap (λ (o : List ℕ). isOverlay o (a .gpn)) (c .before .before .overlays-of .ensures ∙ ap (overlaysOf (a .tables .now)) (c .before .before .before .vtl-of .ensures))) ∙ c .if2 .left))
+returns-3 c =
+    let c4 = c .before .before .before .before in let c5 = c4 .before in
+    let a = c5 .before .before .before .args in
+    laws.call-goes (a .state .now) (lengthsFit (a .state .now) (a .private) (a .shared) (a .read) (a .write) (a .kernel) (a .user) (a .pages) (length (a .tables .now))) (a .vtl) _
+    (c5 .call-refusal .ensures) _ _ (c4 .if1 .left) (refuses _ _ _
+    (sym (c .before .is-overlay .ensures ∙ ap (λ (o : List ℕ). isOverlay o (a .gpn))
+    (c .before .before .overlays-of .ensures ∙ ap (overlaysOf (a .tables .now)) (c .before .before .before .vtl-of .ensures))) ∙ c .if2 .left))
 
 pub unregister-refusal-spec : {M : Type 1} → statement M
 unregister-refusal-spec =

@@ -39,13 +39,21 @@ same-length : tie.Need-same-length
 same-length c = search needs
 
 returns : tie.Need-returns
-returns c = laws.put-vtl0 (c .before .before .before .before .before .before .before .args .tables .now) _ (λ o. addWords o (entry (c .before .before .before .before .before .before .before .args .q .at) (c .before .before .before .before .before .before .before .args .q .previous) (c .before .before .before .before .before .before .before .args .q .flags) 1 (c .before .before .before .before .before .before .before .args .q .source))) (c .before .before .before .before .before .before .before .args .q .vtl) (c .before .before .add-in .ensures) (c .before .before .before .before .enum-told .given .1)
+returns c =
+    let c4 = c .before .before .before .before in
+    let a = c4 .before .before .before .args in
+    laws.put-vtl0 (a .tables .now) _ (λ o. addWords o (entry (a .q .at) (a .q .previous) (a .q .flags) 1 (a .q .source))) (a .q .vtl) (c .before .before .add-in .ensures)
+    (c4 .enum-told .given .1)
 
 same-length-2 : tie.Need-same-length-2
 same-length-2 c = search needs
 
 returns-2 : tie.Need-returns-2
-returns-2 c = laws.put-vtl1 (c .before .before .before .before .before .before .before .args .tables .now) _ (λ o. addWords o (entry (c .before .before .before .before .before .before .before .args .q .at) (c .before .before .before .before .before .before .before .args .q .previous) (c .before .before .before .before .before .before .before .args .q .flags) 1 (c .before .before .before .before .before .before .before .args .q .source))) (c .before .before .before .before .before .before .before .args .q .vtl) (c .before .before .add-in2 .ensures) (c .before .before .before .before .enum-told2 .given .1)
+returns-2 c =
+    let c4 = c .before .before .before .before in
+    let a = c4 .before .before .before .args in
+    laws.put-vtl1 (a .tables .now) _ (λ o. addWords o (entry (a .q .at) (a .q .previous) (a .q .flags) 1 (a .q .source))) (a .q .vtl) (c .before .before .add-in2 .ensures)
+    (c4 .enum-told2 .given .1)
 
 pub add-spec : {M : Type 1} → statement M
 add-spec =

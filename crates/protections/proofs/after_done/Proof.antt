@@ -20,7 +20,11 @@ done-requires : tie.Need-done-requires
 done-requires c κs = search needs
 
 returns : tie.Need-returns
-returns c = laws.done-step (c .before .before .before .before .before .before .before .before .before .args .private .now) (c .before .before .before .before .before .before .before .before .before .args .state .now) (c .before .before .before .before .before .before .before .before .before .args .pages .now) (c .before .before .before .before .before .before .before .before .before .args .tables .now) _ _ _ _ _ (c .before .before .before .before .settings .ensures) (c .before .before .before .stage .ensures) (c .before .before .load .ensures) (c .before .next-in .ensures) (λ i. c .before .before .before .before .before .before .shared-slice-known3 .given i .fits) (c .done .ensures)
+returns c =
+    let c4 = c .before .before .before .before in let c6 = c4 .before .before in
+    let a = c6 .before .before .before .args in
+    laws.done-step (a .private .now) (a .state .now) (a .pages .now) (a .tables .now) _ _ _ _ _ (c4 .settings .ensures) (c .before .before .before .stage .ensures)
+    (c .before .before .load .ensures) (c .before .next-in .ensures) (λ i. c6 .shared-slice-known3 .given i .fits) (c .done .ensures)
 
 pub after-done-spec : {M : Type 1} → statement M
 after-done-spec =

@@ -33,7 +33,10 @@ after-done-requires : tie.Need-after-done-requires
 after-done-requires c κs = search needs
 
 carry-out-requires : tie.Need-carry-out-requires
-carry-out-requires c κs = (c .before .before .before .before .before .before .before .before .before .before .before .before .before .before .before .before .before .before .before .before .before .before .before .pre .0, c .before .before .before .before .before .before .before .before .before .before .before .before .before .before .before .before .before .before .before .before .before .before .before .pre .1, c .before .before .before .before .before .before .after-done .ensures .1)
+carry-out-requires c κs =
+    let c6 = c .before .before .before .before .before .before in
+    let c23 = c6 .before .before .before .before .before .before .before .before .before .before .before .before .before .before .before .before .before in
+    (c23 .pre .0, c23 .pre .1, c6 .after-done .ensures .1)
 
 same-length-2 : tie.Need-same-length-2
 same-length-2 c = search needs
@@ -55,8 +58,11 @@ same-length-7 c = search needs
 
 returns-2 : tie.Need-returns-2
 returns-2 c =
-    let a = c .before .before .before .before .before .before .before .before .before .before .before .before .before .before .before .before .before .before .before .before .before .before .before .before .before .before .before .before .before .before .before .before .before .before .before .before .args in
-    laws.carried (perms (a .read .now) (a .write .now) (a .kernel .now) (a .user .now)) (a .state .now) (a .tables .now) _ _ _ (c .before .before .before .before .before .before .before .before .before .before .before .before .before .before .before .before .before .before .before .before .before .before .settings .ensures) (c .before .before .before .before .before .before .before .before .before .before .before .before .before .before .before .before .before .before .before .after-done .ensures .0) _ _ _ _ (c .before .before .before .before .before .before .before .before .before .before .before .before .carry-out .ensures)
+    let c12 = c .before .before .before .before .before .before .before .before .before .before .before .before in
+    let c19 = c12 .before .before .before .before .before .before .before in let c22 = c19 .before .before .before in
+    let a = c22 .before .before .before .before .before .before .before .before .before .before .before .before .before .before .args in
+    laws.carried (perms (a .read .now) (a .write .now) (a .kernel .now) (a .user .now)) (a .state .now) (a .tables .now) _ _ _ (c22 .settings .ensures)
+    (c19 .after-done .ensures .0) _ _ _ _ (c12 .carry-out .ensures)
 
 pub answer-done-spec : {M : Type 1} → statement M
 answer-done-spec =

@@ -33,7 +33,12 @@ same-length-6 : tie.Need-same-length-6
 same-length-6 c = search needs
 
 returns : tie.Need-returns
-returns c = laws.carried (perms (c .before .before .before .before .before .before .before .before .before .before .before .before .before .before .before .before .before .before .before .before .before .before .before .before .before .before .before .before .before .args .read .now) (c .before .before .before .before .before .before .before .before .before .before .before .before .before .before .before .before .before .before .before .before .before .before .before .before .before .before .before .before .before .args .write .now) (c .before .before .before .before .before .before .before .before .before .before .before .before .before .before .before .before .before .before .before .before .before .before .before .before .before .before .before .before .before .args .kernel .now) (c .before .before .before .before .before .before .before .before .before .before .before .before .before .before .before .before .before .before .before .before .before .before .before .before .before .before .before .before .before .args .user .now)) (c .before .before .before .before .before .before .before .before .before .before .before .before .before .before .before .before .before .before .before .before .before .before .before .before .before .before .before .before .before .args .state .now) (c .before .before .before .before .before .before .before .before .before .before .before .before .before .before .before .before .before .before .before .before .before .before .before .before .before .before .before .before .before .args .tables .now) _ _ _ (c .before .before .before .before .before .before .before .before .before .before .before .before .before .before .before .before .before .before .before .before .before .settings .ensures) (c .before .before .before .before .before .before .before .before .before .before .before .before .before .before .before .before .before .before .before .after-failed .ensures .0) _ _ _ _ (c .before .before .before .before .before .before .before .before .before .before .before .before .carry-out .ensures)
+returns c =
+    let c12 = c .before .before .before .before .before .before .before .before .before .before .before .before in
+    let c19 = c12 .before .before .before .before .before .before .before in let c21 = c19 .before .before in
+    let a = c21 .before .before .before .before .before .before .before .before .args in
+    laws.carried (perms (a .read .now) (a .write .now) (a .kernel .now) (a .user .now)) (a .state .now) (a .tables .now) _ _ _ (c21 .settings .ensures)
+    (c19 .after-failed .ensures .0) _ _ _ _ (c12 .carry-out .ensures)
 
 pub answer-failed-spec : {M : Type 1} → statement M
 answer-failed-spec =

@@ -41,7 +41,14 @@ same-length-6 : tie.Need-same-length-6
 same-length-6 c = search needs
 
 returns : tie.Need-returns
-returns c = (c .before .before .before .before .before .before .before .before .before .before .before .before .before .before .before .before .before .permit .ensures ∙ ap (λ (f : HvMapGpaFlags). permittedRun (c .before .before .before .before .before .before .before .before .before .before .before .before .before .before .before .before .before .before .before .before .before .before .before .before .before .before .before .before .before .before .before .args .x .written) f (perms (c .before .before .before .before .before .before .before .before .before .before .before .before .before .before .before .before .before .before .before .before .before .before .before .before .before .before .before .before .before .before .before .args .read .now) (c .before .before .before .before .before .before .before .before .before .before .before .before .before .before .before .before .before .before .before .before .before .before .before .before .before .before .before .before .before .before .before .args .write .now) (c .before .before .before .before .before .before .before .before .before .before .before .before .before .before .before .before .before .before .before .before .before .before .before .before .before .before .before .before .before .before .before .args .kernel .now) (c .before .before .before .before .before .before .before .before .before .before .before .before .before .before .before .before .before .before .before .before .before .before .before .before .before .before .before .before .before .before .before .args .user .now))) (c .before .before .before .before .before .before .before .before .before .before .before .before .before .before .before .before .before .before .before .before .before .before .from-bits .ensures), (c .before .before .before .before .before .before .before .save .ensures, (c .before .before .before .enter .ensures, c .flatten .ensures)))
+returns c =
+    let c7 = c .before .before .before .before .before .before .before in let c17 = c7 .before .before .before .before .before .before .before .before .before .before in
+    let c22 = c17 .before .before .before .before .before in
+    let a = c22 .before .before .before .before .before .before .before .before .before .args in (
+      c17 .permit .ensures ∙ ap (λ (f : HvMapGpaFlags). permittedRun (a .x .written) f (perms (a .read .now) (a .write .now) (a .kernel .now) (a .user .now)))
+          (c22 .from-bits .ensures),
+      (c7 .save .ensures, (c .before .before .before .enter .ensures, c .flatten .ensures)),
+    )
 
 pub carry-out-spec : {M : Type 1} → statement M
 carry-out-spec =

@@ -20,7 +20,11 @@ piece-after-requires : tie.Need-piece-after-requires
 piece-after-requires c κs = search needs
 
 returns : tie.Need-returns
-returns c = laws.next-step (c .before .before .before .before .before .before .before .before .args .private .now) (c .before .before .before .before .before .before .before .before .args .state .now) (c .before .before .before .before .before .before .before .before .args .tables .now) _ _ _ _ _ (c .before .before .before .before .stage .ensures) (c .before .before .before .load .ensures) (c .before .before .overlays-of .ensures) (c .before .ram-of .ensures) (c .piece-after .ensures)
+returns c =
+    let c4 = c .before .before .before .before in
+    let a = c4 .before .before .before .before .args in
+    laws.next-step (a .private .now) (a .state .now) (a .tables .now) _ _ _ _ _ (c4 .stage .ensures) (c .before .before .before .load .ensures)
+    (c .before .before .overlays-of .ensures) (c .before .ram-of .ensures) (c .piece-after .ensures)
 
 pub next-in-spec : {M : Type 1} → statement M
 next-in-spec =

@@ -30,7 +30,11 @@ same-length-4 : tie.Need-same-length-4
 same-length-4 c = search needs
 
 returns : tie.Need-returns
-returns c = laws.permits (c .before .before .before .before .before .before .before .before .before .before .before .before .before .before .before .before .before .before .before .before .args .run) (c .before .before .before .before .before .before .before .before .before .before .before .before .before .before .before .before .before .before .before .before .args .flags) (perms (c .before .before .before .before .before .before .before .before .before .before .before .before .before .before .before .before .before .before .before .before .args .read .now) (c .before .before .before .before .before .before .before .before .before .before .before .before .before .before .before .before .before .before .before .before .args .write .now) (c .before .before .before .before .before .before .before .before .before .before .before .before .before .before .before .before .before .before .before .before .args .kernel .now) (c .before .before .before .before .before .before .before .before .before .before .before .before .before .before .before .before .before .before .before .before .args .user .now)) _ _ _ _ (c .before .before .before .before .before .before .before .before .before .before .before .before .before .before .set-run .ensures) (c .before .before .before .before .before .before .before .before .before .before .set-run2 .ensures) (c .before .before .before .before .before .before .set-run3 .ensures) (c .before .before .set-run4 .ensures)
+returns c =
+    let c6 = c .before .before .before .before .before .before in let c10 = c6 .before .before .before .before in let c14 = c10 .before .before .before .before in
+    let a = c14 .before .before .before .before .before .before .args in
+    laws.permits (a .run) (a .flags) (perms (a .read .now) (a .write .now) (a .kernel .now) (a .user .now)) _ _ _ _ (c14 .set-run .ensures) (c10 .set-run2 .ensures)
+    (c6 .set-run3 .ensures) (c .before .before .set-run4 .ensures)
 
 pub permit-spec : {M : Type 1} → statement M
 permit-spec =

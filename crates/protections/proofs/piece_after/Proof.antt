@@ -48,7 +48,9 @@ returns-3 : tie.Need-returns-3
 returns-3 c = (ap (λ (g : Stage). pieceAfter g (c .before .before .before .before .before .args .private .now) (c .before .before .before .before .before .args .overlays .now) (entriesOf (c .before .before .before .before .before .args .ram .now)) (c .before .before .before .before .before .args .at)) (sym (c .enum-told3 .given .1)), omega arith)
 
 returns-4 : tie.Need-returns-4
-returns-4 c = (c .next-piece .ensures .0 ∙ ap (λ (g : Stage). pieceAfter g (c .before .before .before .before .before .before .args .private .now) (c .before .before .before .before .before .before .args .overlays .now) (entriesOf (c .before .before .before .before .before .before .args .ram .now)) (c .before .before .before .before .before .before .args .at)) (sym (c .before .enum-told4 .given .1)), c .next-piece .ensures .1)
+returns-4 c =
+    let a = c .before .before .before .before .before .before .args in
+    (c .next-piece .ensures .0 ∙ ap (λ (g : Stage). pieceAfter g (a .private .now) (a .overlays .now) (entriesOf (a .ram .now)) (a .at)) (sym (c .before .enum-told4 .given .1)), c .next-piece .ensures .1)
 
 returns-5 : tie.Need-returns-5
 returns-5 c = (ap (λ (g : Stage). pieceAfter g (c .before .before .before .before .before .args .private .now) (c .before .before .before .before .before .args .overlays .now) (entriesOf (c .before .before .before .before .before .args .ram .now)) (c .before .before .before .before .before .args .at)) (sym (c .enum-told5 .given .1)), omega arith)

@@ -21,7 +21,9 @@ same-length : tie.Need-same-length
 same-length c = search needs
 
 returns-2 : tie.Need-returns-2
-returns-2 c = laws.run-full (c .before .before .before .before .before .before .before .before .before .args .run .first) (c .before .before .before .before .before .before .before .before .before .args .run .count) (c .before .before .before .before .before .before .before .before .before .args .state) (c .before .before .before .before .before .before .before .before .before .args .map .now) _ _ (omega arith) (c .before .before .set-run .ensures)
+returns-2 c =
+    let a = c .before .before .before .before .before .before .before .before .before .args in
+    laws.run-full (a .run .first) (a .run .count) (a .state) (a .map .now) _ _ (omega arith) (c .before .before .set-run .ensures)
 
 pub set-run-spec : {M : Type 1} → statement M
 set-run-spec =

@@ -23,7 +23,10 @@ done-requires : tie.Need-done-requires
 done-requires c κs = search needs
 
 carry-on-requires : tie.Need-carry-on-requires
-carry-on-requires c κs = (c .before .before .before .before .before .before .before .before .before .before .before .before .before .before .before .before .before .before .before .before .before .before .pre .0, omega (arith, laws.in-use (c .before .before .before .before .before .before .before .before .before .before .before .before .before .before .before .before .before .before .before .before .before .before .args .state .now) _ (c .before .before .before .before .before .before .before .before .load .ensures), c .before .before .before .before .before .before .before .before .before .before .before .before .before .before .before .before .before .before .before .before .before .before .pre .1))
+carry-on-requires c κs =
+    let c8 = c .before .before .before .before .before .before .before .before in
+    let c22 = c8 .before .before .before .before .before .before .before .before .before .before .before .before .before .before in
+    (c22 .pre .0, omega (arith, laws.in-use (c22 .args .state .now) _ (c8 .load .ensures), c22 .pre .1))
 
 same-length : tie.Need-same-length
 same-length c = search needs
@@ -48,14 +51,20 @@ same-length-7 c = search needs
 
 returns : tie.Need-returns
 returns c =
-    let a = c .before .before .before .before .before .before .before .before .before .before .before .before .before .before .before .before .before .before .before .before .before .before .before .before .before .before .before .before .before .before .before .before .before .before .before .before .before .args in
+    let c14 = c .before .before .before .before .before .before .before .before .before .before .before .before .before .before in
+    let c22 = c14 .before .before .before .before .before .before .before .before in let c23 = c22 .before in let c25 = c23 .before .before in let c27 = c25 .before .before in
+    let a = c27 .before .before .before .before .before .before .before .before .before .before .args in
     let s = a .state .now in
     let t = a .pages .now in
     let m = maps (a .private .now) (a .shared .now) (a .read .now) (a .write .now) (a .kernel .now) (a .user .now) in
-    let x = c .before .before .before .before .before .before .before .before .before .before .before .before .before .before .before .before .before .before .before .before .before .before .done .result in
-    let e = laws.done-is s t _ (settingsOf s) _ _ (requestOf s) x (c .before .before .before .before .before .before .before .before .before .before .before .before .before .before .before .before .before .before .before .before .before .before .before .before .before .before .before .settings .ensures) (c .before .before .before .before .before .before .before .before .before .before .before .before .before .before .before .before .before .before .before .before .before .before .before .before .before .phase .ensures) (c .before .before .before .before .before .before .before .before .before .before .before .before .before .before .before .before .before .before .before .before .before .before .before .load .ensures) (c .before .before .before .before .before .before .before .before .before .before .before .before .before .before .before .before .before .before .before .before .before .before .done .ensures) in (
-      c .before .before .before .before .before .before .before .before .before .before .before .before .before .before .carry-on .ensures .0 ∙ ap (λ (y : Step). applied t (y .writes) m) e,
-      (c .before .before .before .before .before .before .before .before .before .before .before .before .before .before .carry-on .ensures .1 .0 ∙ ap (λ (y : Step). withRequest (y .phase) (y .request) s) e, c .before .before .before .before .before .before .before .before .before .before .before .before .before .before .carry-on .ensures .1 .1 ∙ ap (λ (y : Step). flatOf (settingsOf s .isolation) (y .answer)) e),
+    let x = c22 .done .result in
+    let e = laws.done-is s t _ (settingsOf s) _ _ (requestOf s) x (c27 .settings .ensures) (c25 .phase .ensures) (c23 .load .ensures) (c22 .done .ensures) in (
+      c14 .carry-on .ensures .0 ∙ ap (λ (y : Step). applied t (y .writes) m) e,
+      (
+        c14 .carry-on .ensures .1 .0 ∙ ap (λ (y : Step). withRequest (y .phase) (y .request) s) e,
+        c14 .carry-on .ensures .1 .1 ∙ ap
+            (λ (y : Step). flatOf (settingsOf s .isolation) (y .answer)) e,
+      ),
     )
 
 pub answer-done-spec : {M : Type 1} → statement M

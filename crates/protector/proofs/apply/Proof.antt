@@ -50,7 +50,13 @@ same-length-6 : tie.Need-same-length-6
 same-length-6 c = search needs
 
 returns-2 : tie.Need-returns-2
-returns-2 c = let a = c .before .before .before .before .before .before .before .before .before .before .before .before .before .before .before .before .before .before .before .before .before .before .before .before .before .before .before .before .before .before .before .before .before .before .before .before .before .args in laws.applies (a .pages .now) (a .w) (maps (a .private .now) (a .shared .now) (a .read .now) (a .write .now) (a .kernel .now) (a .user .now)) (c .before .before .before .before .before .before .before .before .before .before .before .before .before .before .before .before .before .before .before .before .before .before .set-marks .last .0) (c .before .before .before .before .before .before .before .before .before .before .before .before .before .before .before .before .before .before .set-marks2 .last .0) (c .before .before .before .before .before .before .before .before .before .before .before .before .before .before .set-marks3 .last .0) (c .before .before .before .before .before .before .before .before .before .before .set-marks4 .last .0) (c .before .before .before .before .before .before .set-marks5 .last .0) (c .before .before .set-marks6 .last .0) (c .before .before .before .before .before .before .before .before .before .before .before .before .before .before .before .before .before .before .before .before .before .before .set-marks .ensures) (c .before .before .before .before .before .before .before .before .before .before .before .before .before .before .before .before .before .before .set-marks2 .ensures) (c .before .before .before .before .before .before .before .before .before .before .before .before .before .before .set-marks3 .ensures) (c .before .before .before .before .before .before .before .before .before .before .set-marks4 .ensures) (c .before .before .before .before .before .before .set-marks5 .ensures) (c .before .before .set-marks6 .ensures)
+returns-2 c =
+    let c6 = c .before .before .before .before .before .before in let c10 = c6 .before .before .before .before in let c14 = c10 .before .before .before .before in
+    let c18 = c14 .before .before .before .before in let c22 = c18 .before .before .before .before in
+    let a = c22 .before .before .before .before .before .before .before .before .before .before .before .before .before .before .before .args in
+    laws.applies (a .pages .now) (a .w) (maps (a .private .now) (a .shared .now) (a .read .now) (a .write .now) (a .kernel .now) (a .user .now)) (c22 .set-marks .last .0)
+    (c18 .set-marks2 .last .0) (c14 .set-marks3 .last .0) (c10 .set-marks4 .last .0) (c6 .set-marks5 .last .0) (c .before .before .set-marks6 .last .0) (c22 .set-marks .ensures)
+    (c18 .set-marks2 .ensures) (c14 .set-marks3 .ensures) (c10 .set-marks4 .ensures) (c6 .set-marks5 .ensures) (c .before .before .set-marks6 .ensures)
 
 pub apply-spec : {M : Type 1} → statement M
 apply-spec =

@@ -54,10 +54,13 @@ same-length-7 c = search needs
 returns : tie.Need-returns
 unfolding startOf flatOf askedOf
 returns c =
-    let a = c .before .before .before .before .before .before .before .before .before .before .before .before .before .before .before .before .before .before .before .before .before .before .before .before .before .before .before .before .before .before .before .before .before .before .before .before .args in
+    let c4 = c .before .before .before .before in let c18 = c4 .before .before .before .before .before .before .before .before .before .before .before .before .before .before in
+    let c25 = c18 .before .before .before .before .before .before .before in let c26 = c25 .before in
+    let a = c26 .before .before .before .before .before .before .before .before .before .before .args in
     let m = maps (a .private .now) (a .shared .now) (a .read .now) (a .write .now) (a .kernel .now) (a .user .now) in (
-      c .before .before .before .before .before .before .before .before .before .before .before .before .before .before .before .before .before .before .apply .ensures ∙ ap (λ (w : Writes). applied (a .pages .now) w m) (c .before .before .before .before .before .before .before .before .before .before .before .before .before .before .before .before .before .before .before .before .before .before .before .before .before .clears .ensures ∙ ap (λ (b : Bool). cleared b (a .vtl) (a .share) (a .n)) (c .before .before .before .before .before .before .before .before .before .before .before .before .before .before .before .before .before .before .before .before .before .before .before .before .before .before .is-tracked .ensures)),
-      (c .before .before .before .save .ensures ∙ ap (λ (q : Request). withRequest Wait q (a .state .now)) (c .before .before .before .before .asked .ensures), c .plain .ensures),
+      c18 .apply .ensures ∙ ap (λ (w : Writes). applied (a .pages .now) w m)
+          (c25 .clears .ensures ∙ ap (λ (b : Bool). cleared b (a .vtl) (a .share) (a .n)) (c26 .is-tracked .ensures)),
+      (c .before .before .before .save .ensures ∙ ap (λ (q : Request). withRequest Wait q (a .state .now)) (c4 .asked .ensures), c .plain .ensures),
     )
 
 pub begin-spec : {M : Type 1} → statement M

@@ -22,13 +22,23 @@ permission-maps-fit-requires : tie.Need-permission-maps-fit-requires
 permission-maps-fit-requires c κs = search needs
 
 returns-2 : tie.Need-returns-2
-returns-2 c = let a = c .before .before .before .before .before .before .args in and-goes _ _ _ (sym (c .before .before .before .marks-fit .ensures ∙ ap (λ (n : ℕ). marksFit n (a .private) (a .shared)) (c .before .before .before .before .map-len .ensures)) ∙ not-false _ (c .before .before .if1 .left)) (and-ends _ _ (sym (c .before .permission-maps-fit .ensures ∙ ap (λ (n : ℕ). permissionMapsFit n (a .tracked) (a .read) (a .write) (a .kernel) (a .user)) (c .before .before .before .before .map-len .ensures)) ∙ not-true _ (c .if2 .taken)))
+returns-2 c =
+    let c4 = c .before .before .before .before in
+    let a = c4 .before .before .args in
+    and-goes _ _ _ (sym (c .before .before .before .marks-fit .ensures ∙ ap (λ (n : ℕ). marksFit n (a .private) (a .shared)) (c4 .map-len .ensures)) ∙ not-false _
+    (c .before .before .if1 .left)) (and-ends _ _ (sym (c .before .permission-maps-fit .ensures ∙ ap
+    (λ (n : ℕ). permissionMapsFit n (a .tracked) (a .read) (a .write) (a .kernel) (a .user)) (c4 .map-len .ensures)) ∙ not-true _ (c .if2 .taken)))
 
 blocks-fit-requires : tie.Need-blocks-fit-requires
 blocks-fit-requires c κs = search needs
 
 returns-3 : tie.Need-returns-3
-returns-3 c = let a = c .before .before .before .before .before .before .before .args in and-goes _ _ _ (sym (c .before .before .before .before .marks-fit .ensures ∙ ap (λ (n : ℕ). marksFit n (a .private) (a .shared)) (c .before .before .before .before .before .map-len .ensures)) ∙ not-false _ (c .before .before .before .if1 .left)) (and-goes _ _ _ (sym (c .before .before .permission-maps-fit .ensures ∙ ap (λ (n : ℕ). permissionMapsFit n (a .tracked) (a .read) (a .write) (a .kernel) (a .user)) (c .before .before .before .before .before .map-len .ensures)) ∙ not-false _ (c .before .if2 .left)) (c .blocks-fit .ensures))
+returns-3 c =
+    let c4 = c .before .before .before .before in let c5 = c4 .before in
+    let a = c5 .before .before .args in
+    and-goes _ _ _ (sym (c4 .marks-fit .ensures ∙ ap (λ (n : ℕ). marksFit n (a .private) (a .shared)) (c5 .map-len .ensures)) ∙ not-false _ (c .before .before .before .if1 .left))
+    (and-goes _ _ _ (sym (c .before .before .permission-maps-fit .ensures ∙ ap (λ (n : ℕ). permissionMapsFit n (a .tracked) (a .read) (a .write) (a .kernel) (a .user))
+    (c5 .map-len .ensures)) ∙ not-false _ (c .before .if2 .left)) (c .blocks-fit .ensures))
 
 pub build-fits-spec : {M : Type 1} → statement M
 build-fits-spec =

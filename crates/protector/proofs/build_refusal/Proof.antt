@@ -28,15 +28,32 @@ returns-3 c = passes _ _ _ _ (eq-eqb _ _ (sym (c .before .before .before .before
 
 returns-4 : tie.Need-returns-4
 unfolding buildRefusal
-returns-4 c = passes _ _ _ _ (eq-eqb _ _ (sym (c .before .before .before .before .before .refusal .ensures) ∙ c .before .before .before .before .if1 .left)) (passes _ _ _ _ (sym (c .before .before .before .is-isolation .ensures) ∙ not-false _ (c .before .before .if2 .left)) (passes _ _ _ _ (not-false (c .before .before .before .before .before .before .before .args .fit) (c .before .if3 .left)) (refuses _ _ _ (le-ltb (c .before .before .before .before .before .before .before .args .tracked) 2 (omega arith)))))
+returns-4 c =
+    let c4 = c .before .before .before .before in let c5 = c4 .before in
+    let a = c5 .before .before .args in
+    passes _ _ _ _ (eq-eqb _ _ (sym (c5 .refusal .ensures) ∙ c4 .if1 .left))
+    (passes _ _ _ _ (sym (c .before .before .before .is-isolation .ensures) ∙ not-false _ (c .before .before .if2 .left))
+    (passes _ _ _ _ (not-false (a .fit) (c .before .if3 .left)) (refuses _ _ _ (le-ltb (a .tracked) 2 (omega arith)))))
 
 returns-5 : tie.Need-returns-5
 unfolding buildRefusal
-returns-5 c = passes _ _ _ _ (eq-eqb _ _ (sym (c .before .before .before .before .before .before .refusal .ensures) ∙ c .before .before .before .before .before .if1 .left)) (passes _ _ _ _ (sym (c .before .before .before .before .is-isolation .ensures) ∙ not-false _ (c .before .before .before .if2 .left)) (passes _ _ _ _ (not-false (c .before .before .before .before .before .before .before .before .args .fit) (c .before .before .if3 .left)) (passes _ _ _ _ (lt-ltb (c .before .before .before .before .before .before .before .before .args .tracked) 2 (omega arith)) (refuses _ _ _ (le-ltb (c .before .before .before .before .before .before .before .before .args .release) 2 (omega arith))))))
+returns-5 c =
+    let c4 = c .before .before .before .before in let c5 = c4 .before in let c6 = c5 .before in
+    let a = c6 .before .before .args in
+    passes _ _ _ _ (eq-eqb _ _ (sym (c6 .refusal .ensures) ∙ c5 .if1 .left))
+    (passes _ _ _ _ (sym (c4 .is-isolation .ensures) ∙ not-false _ (c .before .before .before .if2 .left))
+    (passes _ _ _ _ (not-false (a .fit) (c .before .before .if3 .left))
+    (passes _ _ _ _ (lt-ltb (a .tracked) 2 (omega arith)) (refuses _ _ _ (le-ltb (a .release) 2 (omega arith))))))
 
 returns-6 : tie.Need-returns-6
 unfolding buildRefusal
-returns-6 c = passes _ _ _ _ (eq-eqb _ _ (sym (c .before .before .before .before .before .before .refusal .ensures) ∙ c .before .before .before .before .before .if1 .left)) (passes _ _ _ _ (sym (c .before .before .before .before .is-isolation .ensures) ∙ not-false _ (c .before .before .before .if2 .left)) (passes _ _ _ _ (not-false (c .before .before .before .before .before .before .before .before .args .fit) (c .before .before .if3 .left)) (passes _ _ _ _ (lt-ltb (c .before .before .before .before .before .before .before .before .args .tracked) 2 (omega arith)) (passes _ _ _ _ (lt-ltb (c .before .before .before .before .before .before .before .before .args .release) 2 (omega arith)) (refl)))))
+returns-6 c =
+    let c4 = c .before .before .before .before in let c5 = c4 .before in let c6 = c5 .before in
+    let a = c6 .before .before .args in
+    passes _ _ _ _ (eq-eqb _ _ (sym (c6 .refusal .ensures) ∙ c5 .if1 .left))
+    (passes _ _ _ _ (sym (c4 .is-isolation .ensures) ∙ not-false _ (c .before .before .before .if2 .left))
+    (passes _ _ _ _ (not-false (a .fit) (c .before .before .if3 .left))
+    (passes _ _ _ _ (lt-ltb (a .tracked) 2 (omega arith)) (passes _ _ _ _ (lt-ltb (a .release) 2 (omega arith)) (refl)))))
 
 pub build-refusal-spec : {M : Type 1} → statement M
 build-refusal-spec =

@@ -49,11 +49,17 @@ same-length-7 c = search needs
 
 returns : tie.Need-returns
 returns c =
-    let a = c .before .before .before .before .before .before .before .before .before .before .before .before .before .before .before .before .before .before .before .before .before .before .before .before .before .before .before .before .before .before .before .before .before .before .before .before .before .before .before .args in
+    let c5 = c .before .before .before .before .before in let c15 = c5 .before .before .before .before .before .before .before .before .before .before in
+    let c23 = c15 .before .before .before .before .before .before .before .before in let c27 = c23 .before .before .before .before in let c29 = c27 .before .before in
+    let a = c29 .before .before .before .before .before .before .before .before .before .before .args in
     let m = maps (a .private .now) (a .shared .now) (a .read .now) (a .write .now) (a .kernel .now) (a .user .now) in
     let s = settingsOf (a .state .now) in (
-      laws.marks-applied s (a .q) (a .pages .now) (a .x) m _ _ _ (c .before .before .before .before .before .before .before .before .before .before .before .before .before .before .before .before .before .before .before .before .before .before .before .before .before .before .before .mark .ensures) (c .before .before .before .before .before .before .before .before .before .before .before .before .before .before .before .before .before .before .before .before .before .before .before .mark2 .ensures) (c .before .before .before .before .before .before .before .before .before .before .before .before .before .before .before .permit-default .ensures),
-      (laws.next-saved s (a .q) (a .pages .now) (a .x) m (a .state .now) _ _ (c .before .before .save .ensures) (c .before .before .before .next-request .ensures), laws.next-replies s (a .q) (a .pages .now) (a .x) m _ _ (c .before .before .before .before .before .next-reply .ensures) (c .before .before .before .before .before .before .before .before .before .before .before .before .before .before .before .before .before .before .before .before .before .before .before .before .before .before .before .before .before .run-in .ensures)),
+      laws.marks-applied s (a .q) (a .pages .now) (a .x) m _ _ _ (c27 .mark .ensures) (c23 .mark2 .ensures) (c15 .permit-default .ensures),
+      (
+        laws.next-saved s (a .q) (a .pages .now) (a .x) m (a .state .now) _ _ (c .before .before .save .ensures) (c .before .before .before .next-request .ensures),
+        laws.next-replies s
+            (a .q) (a .pages .now) (a .x) m _ _ (c5 .next-reply .ensures) (c29 .run-in .ensures),
+      ),
     )
 
 pub carry-on-spec : {M : Type 1} → statement M

@@ -23,13 +23,27 @@ maps-fit-requires : tie.Need-maps-fit-requires
 maps-fit-requires c κs = search needs
 
 returns : tie.Need-returns
-returns c = let a = c .before .before .before .before .before .before .args in and-ends _ _ (sym (laws.maps-fit (a .state .now) (a .private) (a .shared) (a .read) (a .write) (a .kernel) (a .user) _ _ (c .before .before .before .map-len .ensures ∙ ap (λ (r : List ℕ). mapLen (entriesOf r)) (c .before .before .before .before .ram-of .ensures)) (c .before .maps-fit .ensures)) ∙ not-true _ (c .if1 .taken))
+returns c =
+    let c4 = c .before .before .before .before in
+    let a = c4 .before .before .args in
+    and-ends _ _ (sym (laws.maps-fit (a .state .now) (a .private) (a .shared) (a .read) (a .write) (a .kernel) (a .user) _ _
+    (c .before .before .before .map-len .ensures ∙ ap (λ (r : List ℕ). mapLen (entriesOf r)) (c4 .ram-of .ensures)) (c .before .maps-fit .ensures)) ∙ not-true _ (c .if1 .taken))
 
 returns-2 : tie.Need-returns-2
-returns-2 c = let a = c .before .before .before .before .before .before .before .args in and-goes _ _ _ (sym (laws.maps-fit (a .state .now) (a .private) (a .shared) (a .read) (a .write) (a .kernel) (a .user) _ _ (c .before .before .before .before .map-len .ensures ∙ ap (λ (r : List ℕ). mapLen (entriesOf r)) (c .before .before .before .before .before .ram-of .ensures)) (c .before .before .maps-fit .ensures)) ∙ not-false _ (c .before .if1 .left)) (and-ends _ _ (ne-eqb _ _ (c .if2 .taken)))
+returns-2 c =
+    let c4 = c .before .before .before .before in let c5 = c4 .before in
+    let a = c5 .before .before .args in
+    and-goes _ _ _ (sym (laws.maps-fit (a .state .now) (a .private) (a .shared) (a .read) (a .write) (a .kernel) (a .user) _ _
+    (c4 .map-len .ensures ∙ ap (λ (r : List ℕ). mapLen (entriesOf r)) (c5 .ram-of .ensures)) (c .before .before .maps-fit .ensures)) ∙ not-false _ (c .before .if1 .left))
+    (and-ends _ _ (ne-eqb _ _ (c .if2 .taken)))
 
 returns-3 : tie.Need-returns-3
-returns-3 c = let a = c .before .before .before .before .before .before .before .args in and-goes _ _ _ (sym (laws.maps-fit (a .state .now) (a .private) (a .shared) (a .read) (a .write) (a .kernel) (a .user) _ _ (c .before .before .before .before .map-len .ensures ∙ ap (λ (r : List ℕ). mapLen (entriesOf r)) (c .before .before .before .before .before .ram-of .ensures)) (c .before .before .maps-fit .ensures)) ∙ not-false _ (c .before .if1 .left)) (and-goes _ _ _ (eq-eqb _ _ (c .if2 .left)) refl)
+returns-3 c =
+    let c4 = c .before .before .before .before in let c5 = c4 .before in
+    let a = c5 .before .before .args in
+    and-goes _ _ _ (sym (laws.maps-fit (a .state .now) (a .private) (a .shared) (a .read) (a .write) (a .kernel) (a .user) _ _
+    (c4 .map-len .ensures ∙ ap (λ (r : List ℕ). mapLen (entriesOf r)) (c5 .ram-of .ensures)) (c .before .before .maps-fit .ensures)) ∙ not-false _ (c .before .if1 .left))
+    (and-goes _ _ _ (eq-eqb _ _ (c .if2 .left)) refl)
 
 pub lengths-fit-spec : {M : Type 1} → statement M
 lengths-fit-spec =

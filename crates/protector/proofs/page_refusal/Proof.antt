@@ -24,10 +24,18 @@ is-overlay-requires : tie.Need-is-overlay-requires
 is-overlay-requires c κs = search needs
 
 returns-3 : tie.Need-returns-3
-returns-3 c = passes _ _ _ _ (sym (c .before .before .before .before .before .before .is-in-guest-memory .ensures) ∙ not-false _ (c .before .before .before .before .before .if1 .left)) (passes _ _ _ _ (ap not (sym (c .before .before .before .before .is-locked .ensures) ∙ c .before .before .before .if2 .left)) (refuses _ _ _ (ap not (sym (and-goes _ _ _ (c .before .before .if3 .taken) (sym (sym (c .before .is-overlay .ensures) ∙ c .if4 .taken)))))))
+returns-3 c =
+    let c4 = c .before .before .before .before in let c5 = c4 .before in let c6 = c5 .before in
+    passes _ _ _ _ (sym (c6 .is-in-guest-memory .ensures) ∙ not-false _ (c5 .if1 .left))
+    (passes _ _ _ _ (ap not (sym (c4 .is-locked .ensures) ∙ c .before .before .before .if2 .left))
+    (refuses _ _ _ (ap not (sym (and-goes _ _ _ (c .before .before .if3 .taken) (sym (sym (c .before .is-overlay .ensures) ∙ c .if4 .taken)))))))
 
 returns-4 : tie.Need-returns-4
-returns-4 c = passes _ _ _ _ (sym (c .before .before .before .before .before .before .is-in-guest-memory .ensures) ∙ not-false _ (c .before .before .before .before .before .if1 .left)) (passes _ _ _ _ (ap not (sym (c .before .before .before .before .is-locked .ensures) ∙ c .before .before .before .if2 .left)) (passes _ _ _ _ (ap not (sym (and-goes _ _ _ (c .before .before .if3 .taken) (sym (sym (c .before .is-overlay .ensures) ∙ c .if4 .left))))) (refl)))
+returns-4 c =
+    let c4 = c .before .before .before .before in let c5 = c4 .before in let c6 = c5 .before in
+    passes _ _ _ _ (sym (c6 .is-in-guest-memory .ensures) ∙ not-false _ (c5 .if1 .left))
+    (passes _ _ _ _ (ap not (sym (c4 .is-locked .ensures) ∙ c .before .before .before .if2 .left))
+    (passes _ _ _ _ (ap not (sym (and-goes _ _ _ (c .before .before .if3 .taken) (sym (sym (c .before .is-overlay .ensures) ∙ c .if4 .left))))) (refl)))
 
 returns-5 : tie.Need-returns-5
 returns-5 c = passes _ _ _ _ (sym (c .before .before .before .before .is-in-guest-memory .ensures) ∙ not-false _ (c .before .before .before .if1 .left)) (passes _ _ _ _ (ap not (sym (c .before .before .is-locked .ensures) ∙ c .before .if2 .left)) (passes _ _ _ _ (ap not (sym (and-ends _ _ (c .if3 .left)))) (refl)))

@@ -30,7 +30,13 @@ page-refusal-requires : tie.Need-page-refusal-requires Inv-loop μ-loop
 page-refusal-requires c κs = search needs
 
 returns : tie.Need-returns Inv-loop μ-loop
-returns c = let a = c .before .before .before .before .before .before .before .before .before .before .args in let f = pageRefusal (entriesOf (a .ram .now)) (a .overlays .now) (a .locks .now) (a .share) in let ps = pagesOf (a .list .now) in let h = c .before .before .before .before .loop in sym (laws.first-hit f ps (h .i) _ _ (omega (arith, c .before .before .before .before .before .page-count .ensures)) (c .before .before .page-at .ensures) (c .before .page-refusal .ensures) (c .if1 .taken)) ∙ h .inv
+returns c =
+    let c4 = c .before .before .before .before in let c5 = c4 .before in
+    let a = c5 .before .before .before .before .before .args in
+    let f = pageRefusal (entriesOf (a .ram .now)) (a .overlays .now) (a .locks .now) (a .share) in
+    let ps = pagesOf (a .list .now) in
+    let h = c4 .loop in
+    sym (laws.first-hit f ps (h .i) _ _ (omega (arith, c5 .page-count .ensures)) (c .before .before .page-at .ensures) (c .before .page-refusal .ensures) (c .if1 .taken)) ∙ h .inv
 
 add-i : tie.Need-add-i Inv-loop μ-loop
 add-i c = search needs
@@ -39,7 +45,13 @@ loop-less : tie.Need-loop-less Inv-loop μ-loop
 loop-less c = search needs
 
 loop-again : tie.Need-loop-again Inv-loop μ-loop
-loop-again c = let a = c .before .before .before .before .before .before .before .before .before .before .args in let f = pageRefusal (entriesOf (a .ram .now)) (a .overlays .now) (a .locks .now) (a .share) in let ps = pagesOf (a .list .now) in let h = c .before .before .before .before .loop in sym (laws.first-miss f ps (h .i) _ _ (omega (arith, c .before .before .before .before .before .page-count .ensures)) (c .before .before .page-at .ensures) (c .before .page-refusal .ensures) (c .if1 .left)) ∙ h .inv
+loop-again c =
+    let c4 = c .before .before .before .before in let c5 = c4 .before in
+    let a = c5 .before .before .before .before .before .args in
+    let f = pageRefusal (entriesOf (a .ram .now)) (a .overlays .now) (a .locks .now) (a .share) in
+    let ps = pagesOf (a .list .now) in
+    let h = c4 .loop in
+    sym (laws.first-miss f ps (h .i) _ _ (omega (arith, c5 .page-count .ensures)) (c .before .before .page-at .ensures) (c .before .page-refusal .ensures) (c .if1 .left)) ∙ h .inv
 
 returns-2 : tie.Need-returns-2 Inv-loop μ-loop
 returns-2 c = let a = c .before .before .before .before .before .before .before .args in let f = pageRefusal (entriesOf (a .ram .now)) (a .overlays .now) (a .locks .now) (a .share) in let ps = pagesOf (a .list .now) in let h = c .before .loop in sym (laws.first-end f ps (h .i) (omega (arith, c .before .before .page-count .ensures))) ∙ h .inv

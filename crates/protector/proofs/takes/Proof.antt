@@ -1,10 +1,10 @@
 -- `protector::takes` meets its contract. Assumes nothing.
 use borrow.Author.Needs.{needs}
 use mathlib.Core.Path.{ap, _∙_}
+use Rattle.laws.specs.Bools.{chose, chose-not}
 use Rattle.acceptor.specs.declared.Phase.{Phase}
 use Rattle.changes.specs.declared.Stage.{Stage}
 use Rattle.protector.specs.World.{takes, takesAt}
-use Rattle.protector.proofs.Laws as laws
 use Rattle.protector.proofs.takes.Statement.{statement}
 use Rattle.protector.proofs.takes.Tie as tie
 
@@ -18,7 +18,7 @@ is-taken-at-requires : tie.Need-is-taken-at-requires
 is-taken-at-requires c κs = search needs
 
 returns : tie.Need-returns
-returns c = laws.chose _ _ _ _ _ (c .before .before .before .is-changing .ensures) (c .before .before .if1 .taken) (c .is-taken-at .ensures ∙ ap (λ (g : Stage). takesAt g (c .before .before .before .before .before .args .failed)) (c .before .stage .ensures))
+returns c = chose _ _ _ _ _ (c .before .before .before .is-changing .ensures) (c .before .before .if1 .taken) (c .is-taken-at .ensures ∙ ap (λ (g : Stage). takesAt g (c .before .before .before .before .before .args .failed)) (c .before .stage .ensures))
 
 phase-requires : tie.Need-phase-requires
 phase-requires c κs = search needs
@@ -27,7 +27,7 @@ is-taken-requires : tie.Need-is-taken-requires
 is-taken-requires c κs = search needs
 
 returns-2 : tie.Need-returns-2
-returns-2 c = laws.chose-not _ _ _ _ _ (c .before .before .before .is-changing .ensures) (c .before .before .if1 .left) (c .is-taken .ensures ∙ ap (λ (p : Phase). takes p (c .before .before .before .before .before .args .failed)) (c .before .phase .ensures))
+returns-2 c = chose-not _ _ _ _ _ (c .before .before .before .is-changing .ensures) (c .before .before .if1 .left) (c .is-taken .ensures ∙ ap (λ (p : Phase). takes p (c .before .before .before .before .before .args .failed)) (c .before .phase .ensures))
 
 pub takes-spec : {M : Type 1} → statement M
 takes-spec =

@@ -43,13 +43,35 @@ loop-less : tie.Need-loop-less Inv-loop μ-loop
 loop-less c = search needs
 
 loop-again : tie.Need-loop-again Inv-loop μ-loop
-loop-again c = let a = c .before .before .before .before .before .before .before .before .before .args in let ps = pagesOf (a .list .now) in let bs = visibilities (a .shared .now) ps in let h = c .before .before .before .loop in let n = c .before .before .before .before .before .page-count .ensures in let l = c .before .before .before .before .least .ensures in let g = laws.count-visibilities (a .shared .now) ps in (omega arith, simp length-set (h .inv .1), laws.filled-more bs (a .out .now) (h .out) (h .i) _ (h .inv .2) (omega (arith, n, l, g)) (omega (arith, l)) (c .shared-byte .ensures ∙ ap (λ (p : ℕ). digit (bitAt 8 (a .shared .now) p)) (c .before .page-at .ensures) ∙ sym (laws.visibility-at (a .shared .now) ps (h .i) (omega (arith, n, l)))))
+loop-again c =
+    let c4 = c .before .before .before .before in let c5 = c4 .before in
+    let a = c5 .before .before .before .before .args in
+    let ps = pagesOf (a .list .now) in
+    let bs = visibilities (a .shared .now) ps in
+    let h = c .before .before .before .loop in
+    let n = c5 .page-count .ensures in
+    let l = c4 .least .ensures in
+    let g = laws.count-visibilities (a .shared .now) ps in (
+      omega arith,
+      simp length-set (h .inv .1),
+      laws.filled-more bs (a .out .now) (h .out) (h .i) _ (h .inv .2) (omega (arith, n, l, g)) (omega (arith, l))
+          (c .shared-byte .ensures ∙ ap (λ (p : ℕ). digit (bitAt 8 (a .shared .now) p)) (c .before .page-at .ensures) ∙ sym
+          (laws.visibility-at (a .shared .now) ps (h .i) (omega (arith, n, l)))),
+    )
 
 same-length : tie.Need-same-length Inv-loop μ-loop
 same-length c = c .before .loop .inv .1
 
 returns : tie.Need-returns Inv-loop μ-loop
-returns c = let a = c .before .before .before .before .before .before .before .args in let ps = pagesOf (a .list .now) in let bs = visibilities (a .shared .now) ps in let h = c .before .loop in let n = c .before .before .before .page-count .ensures in let l = c .before .before .least .ensures in let g = laws.count-visibilities (a .shared .now) ps in h .inv .2 ∙ laws.filled-all bs (a .out .now) (h .i) (omega (arith, n, l, g))
+returns c =
+    let a = c .before .before .before .before .before .before .before .args in
+    let ps = pagesOf (a .list .now) in
+    let bs = visibilities (a .shared .now) ps in
+    let h = c .before .loop in
+    let n = c .before .before .before .page-count .ensures in
+    let l = c .before .before .least .ensures in
+    let g = laws.count-visibilities (a .shared .now) ps in
+    h .inv .2 ∙ laws.filled-all bs (a .out .now) (h .i) (omega (arith, n, l, g))
 
 pub fill-spec : {M : Type 1} → statement M
 fill-spec =

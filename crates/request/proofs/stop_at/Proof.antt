@@ -39,9 +39,10 @@ returns-2 : tie.Need-returns-2 Inv-loop μ-loop
 returns-2 c =
     let a = c .before .before .before .before .before .before .before .before .before .before .args in
     let h = c .before .before .before .before .loop in
+    let f = isOpen (a .read .now) (a .write .now) (a .asked) in
     let count = c .before .before .before .before .before .before .page-count .ensures in
-    let z = laws.stop-hit (a .read .now) (a .write .now) (a .asked) (pagesOf (a .list .now)) (h .i) _ _ (not-false _ (c .before .before .before .before .before .if1 .left))
-    (omega arith) (c .before .before .page-at .ensures) (c .before .is-open .ensures) (not-true _ (c .if2 .taken)) in
+    let z = laws.stop-hit f (pagesOf (a .list .now)) (h .i) _ _ (omega arith) (c .before .before .page-at .ensures)
+    (laws.open-asked (a .read .now) (a .write .now) (a .asked) (not-false _ (c .before .before .before .before .before .if1 .left)) _ _ (c .before .is-open .ensures)) (not-true _ (c .if2 .taken)) in
     omega (arith, z, h .inv)
 
 add-i : tie.Need-add-i Inv-loop μ-loop
@@ -54,16 +55,17 @@ loop-again : tie.Need-loop-again Inv-loop μ-loop
 loop-again c =
     let a = c .before .before .before .before .before .before .before .before .before .before .args in
     let h = c .before .before .before .before .loop in
+    let f = isOpen (a .read .now) (a .write .now) (a .asked) in
     let count = c .before .before .before .before .before .before .page-count .ensures in
-    let z = laws.stop-miss (a .read .now) (a .write .now) (a .asked) (pagesOf (a .list .now)) (h .i) _ _ (not-false _ (c .before .before .before .before .before .if1 .left))
-    (omega arith) (c .before .before .page-at .ensures) (c .before .is-open .ensures) (not-false _ (c .if2 .left)) in
+    let z = laws.stop-miss f (pagesOf (a .list .now)) (h .i) _ _ (omega arith) (c .before .before .page-at .ensures)
+    (laws.open-asked (a .read .now) (a .write .now) (a .asked) (not-false _ (c .before .before .before .before .before .if1 .left)) _ _ (c .before .is-open .ensures)) (not-false _ (c .if2 .left)) in
     omega (arith, z, h .inv)
 
 returns-3 : tie.Need-returns-3 Inv-loop μ-loop
 returns-3 c =
     let a = c .before .before .before .before .before .before .before .args in
     let h = c .before .loop in
-    let z = laws.stop-end (a .read .now) (a .write .now) (a .asked) (pagesOf (a .list .now)) (h .i) (omega (arith, c .before .before .before .page-count .ensures)) in
+    let z = laws.stop-end (isOpen (a .read .now) (a .write .now) (a .asked)) (pagesOf (a .list .now)) (h .i) (omega (arith, c .before .before .before .page-count .ensures)) in
     omega (arith, z, h .inv)
 
 pub stop-at-spec : {M : Type 1} → statement M

@@ -7,7 +7,8 @@ use Rattle.protector_state.specs.State.{settingsOf}
 use Rattle.change_state.specs.State.{isChanging}
 use Rattle.protector.specs.World.{world}
 use Rattle.protector.specs.Calls.{answerDone, visibilityDone, changeDone, afterDone, doneIn}
-use Rattle.protector.proofs.Laws.{chose, chose-not, pages-fit, tables-fit}
+use Rattle.protector.proofs.Laws.{call-refused, call-taken, pages-fit, tables-fit}
+use Rattle.laws.specs.Bools.{chose, chose-not}
 use Rattle.underhill_mem.proofs.Laws as laws
 use Rattle.underhill_mem.proofs.protector_answer_done.Statement.{statement}
 use Rattle.underhill_mem.proofs.protector_answer_done.Tie as tie
@@ -26,16 +27,19 @@ unfolding answerDone
 returns c =
     let a = c .before .before .before .before .before .before .before .before .before .before .before .before .before .args in
     let w = world (maps (a .private .now) (a .shared .now) (a .read .now) (a .write .now) (a .kernel .now) (a .user .now)) (a .state .now) (a .pages .now) (a .tables .now) in
-    laws.call-refused w _ _ (c .before .before .answer-refusal .ensures) (cond (isChanging (a .state .now)) (changeDone w) (visibilityDone w)) (c .refused .result) (c .before .if1 .taken) (c .refused .ensures)
+    call-refused w _ _ (c .before .before .answer-refusal .ensures) (cond (isChanging (a .state .now)) (changeDone w) (visibilityDone w)) (c .refused .result) (c .before .if1 .taken) (c .refused .ensures)
 
 is-changing-requires : tie.Need-is-changing-requires
 is-changing-requires c κs = laws.answer-passed (c .before .before .before .before .before .before .before .before .before .before .before .before .before .args .state .now) _ _ (c .before .if1 .left) false (c .before .before .answer-refusal .ensures)
 
 answer-done-requires : tie.Need-answer-done-requires
 answer-done-requires c κs =
-    let a = c .before .before .before .before .before .before .before .before .before .before .before .before .before .before .before .before .before .before .before .before .before .before .before .args in (
-      laws.answer-passed (a .state .now) _ _ (c .before .before .before .before .before .before .before .before .before .before .before .if1 .left) false (c .before .before .before .before .before .before .before .before .before .before .before .before .answer-refusal .ensures),
-      tables-fit (a .state .now) (length (a .private .now)) (length (a .shared .now)) (length (a .read .now)) (length (a .write .now)) (length (a .kernel .now)) (length (a .user .now)) (length (a .pages .now)) (length (a .tables .now)) (laws.answer-fits (a .state .now) _ _ (c .before .before .before .before .before .before .before .before .before .before .before .if1 .left) false (c .before .before .before .before .before .before .before .before .before .before .before .before .answer-refusal .ensures)),
+    let c11 = c .before .before .before .before .before .before .before .before .before .before .before in let c12 = c11 .before in
+    let a = c12 .before .before .before .before .before .before .before .before .before .before .before .args in (
+      laws.answer-passed (a .state .now) _ _ (c11 .if1 .left) false (c12 .answer-refusal .ensures),
+      tables-fit (a .state .now) (length (a .private .now)) (length (a .shared .now))
+          (length (a .read .now)) (length (a .write .now)) (length (a .kernel .now)) (length (a .user .now)) (length (a .pages .now)) (length (a .tables .now))
+          (laws.answer-fits (a .state .now) _ _ (c11 .if1 .left) false (c12 .answer-refusal .ensures)),
     )
 
 same-length-2 : tie.Need-same-length-2
@@ -65,17 +69,22 @@ same-length-9 c = search needs
 returns-2 : tie.Need-returns-2
 unfolding answerDone
 returns-2 c =
-    let a = c .before .before .before .before .before .before .before .before .before .before .before .before .before .before .before .before .before .before .before .before .before .before .before .before .before .before .before .before .before .before .before .before .before .before .before .before .args in
+    let c12 = c .before .before .before .before .before .before .before .before .before .before .before .before in
+    let c21 = c12 .before .before .before .before .before .before .before .before .before in let c22 = c21 .before in let c24 = c22 .before .before in let c25 = c24 .before in
+    let a = c25 .before .before .before .before .before .before .before .before .before .before .before .args in
     let w = world (maps (a .private .now) (a .shared .now) (a .read .now) (a .write .now) (a .kernel .now) (a .user .now)) (a .state .now) (a .pages .now) (a .tables .now) in
-    laws.call-taken w _ _ (c .before .before .before .before .before .before .before .before .before .before .before .before .before .before .before .before .before .before .before .before .before .before .before .before .before .answer-refusal .ensures) (cond (isChanging (a .state .now)) (changeDone w) (visibilityDone w)) _ (c .before .before .before .before .before .before .before .before .before .before .before .before .before .before .before .before .before .before .before .before .before .before .before .before .if1 .left)
-    (chose _ _ (changeDone w) (visibilityDone w) _ (c .before .before .before .before .before .before .before .before .before .before .before .before .before .before .before .before .before .before .before .before .before .before .is-changing .ensures) (c .before .before .before .before .before .before .before .before .before .before .before .before .before .before .before .before .before .before .before .before .before .if2 .taken)
-    (laws.changed w (afterDone (a .private .now) (a .state .now) (a .pages .now) (a .tables .now)) _ _ _ _ _ _ _ (c .before .before .before .before .before .before .before .before .before .before .before .before .answer-done .ensures)))
+    call-taken w _ _ (c25 .answer-refusal .ensures) (cond (isChanging (a .state .now)) (changeDone w) (visibilityDone w)) _ (c24 .if1 .left)
+    (chose _ _ (changeDone w) (visibilityDone w) _ (c22 .is-changing .ensures) (c21 .if2 .taken)
+    (laws.changed w (afterDone (a .private .now) (a .state .now) (a .pages .now) (a .tables .now)) _ _ _ _ _ _ _ (c12 .answer-done .ensures)))
 
 answer-done-requires-2 : tie.Need-answer-done-requires-2
 answer-done-requires-2 c κs =
-    let a = c .before .before .before .before .before .before .before .before .before .before .before .before .before .before .before .before .before .before .before .before .before .before .before .args in (
-      laws.answer-passed (a .state .now) _ _ (c .before .before .before .before .before .before .before .before .before .before .before .if1 .left) false (c .before .before .before .before .before .before .before .before .before .before .before .before .answer-refusal .ensures),
-      pages-fit (a .state .now) (length (a .private .now)) (length (a .shared .now)) (length (a .read .now)) (length (a .write .now)) (length (a .kernel .now)) (length (a .user .now)) (length (a .pages .now)) (length (a .tables .now)) (laws.answer-fits (a .state .now) _ _ (c .before .before .before .before .before .before .before .before .before .before .before .if1 .left) false (c .before .before .before .before .before .before .before .before .before .before .before .before .answer-refusal .ensures)),
+    let c11 = c .before .before .before .before .before .before .before .before .before .before .before in let c12 = c11 .before in
+    let a = c12 .before .before .before .before .before .before .before .before .before .before .before .args in (
+      laws.answer-passed (a .state .now) _ _ (c11 .if1 .left) false (c12 .answer-refusal .ensures),
+      pages-fit (a .state .now) (length (a .private .now)) (length (a .shared .now))
+          (length (a .read .now)) (length (a .write .now)) (length (a .kernel .now)) (length (a .user .now)) (length (a .pages .now)) (length (a .tables .now))
+          (laws.answer-fits (a .state .now) _ _ (c11 .if1 .left) false (c12 .answer-refusal .ensures)),
     )
 
 same-length-10 : tie.Need-same-length-10
@@ -105,11 +114,14 @@ same-length-17 c = search needs
 returns-3 : tie.Need-returns-3
 unfolding answerDone
 returns-3 c =
-    let a = c .before .before .before .before .before .before .before .before .before .before .before .before .before .before .before .before .before .before .before .before .before .before .before .before .before .before .before .before .before .before .before .before .before .before .before .before .before .before .args in
+    let c14 = c .before .before .before .before .before .before .before .before .before .before .before .before .before .before in
+    let c23 = c14 .before .before .before .before .before .before .before .before .before in let c24 = c23 .before in let c26 = c24 .before .before in let c27 = c26 .before in
+    let a = c27 .before .before .before .before .before .before .before .before .before .before .before .args in
     let w = world (maps (a .private .now) (a .shared .now) (a .read .now) (a .write .now) (a .kernel .now) (a .user .now)) (a .state .now) (a .pages .now) (a .tables .now) in
-    laws.call-taken w _ _ (c .before .before .before .before .before .before .before .before .before .before .before .before .before .before .before .before .before .before .before .before .before .before .before .before .before .before .before .answer-refusal .ensures) (cond (isChanging (a .state .now)) (changeDone w) (visibilityDone w)) _ (c .before .before .before .before .before .before .before .before .before .before .before .before .before .before .before .before .before .before .before .before .before .before .before .before .before .before .if1 .left)
-    (chose-not _ _ (changeDone w) (visibilityDone w) _ (c .before .before .before .before .before .before .before .before .before .before .before .before .before .before .before .before .before .before .before .before .before .before .before .before .is-changing .ensures) (c .before .before .before .before .before .before .before .before .before .before .before .before .before .before .before .before .before .before .before .before .before .before .before .if2 .left)
-    (laws.carried w (a .pages .now) (settingsOf (a .state .now)) (doneIn (a .state .now) (a .pages .now)) _ _ _ _ refl refl (c .before .before .before .before .before .before .before .before .before .before .before .before .before .before .answer-done2 .ensures .0) (c .before .before .before .before .before .before .before .before .before .before .before .before .before .before .answer-done2 .ensures .1 .0) (c .before .before .before .before .before .before .before .before .before .before .before .before .before .before .answer-done2 .ensures .1 .1)))
+    call-taken w _ _ (c27 .answer-refusal .ensures) (cond (isChanging (a .state .now)) (changeDone w) (visibilityDone w)) _ (c26 .if1 .left)
+    (chose-not _ _ (changeDone w) (visibilityDone w) _ (c24 .is-changing .ensures) (c23 .if2 .left)
+    (laws.carried w (a .pages .now) (settingsOf (a .state .now)) (doneIn (a .state .now) (a .pages .now)) _ _ _ _ refl refl (c14 .answer-done2 .ensures .0)
+    (c14 .answer-done2 .ensures .1 .0) (c14 .answer-done2 .ensures .1 .1)))
 
 pub protector-answer-done-spec : {M : Type 1} → statement M
 protector-answer-done-spec =

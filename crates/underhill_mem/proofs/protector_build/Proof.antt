@@ -5,6 +5,7 @@ use Rattle.mapping.specs.Maps.{maps}
 use Rattle.protector.specs.World.{world}
 use Rattle.protector.specs.Calls.{buildOf, buildTaken}
 use Rattle.protector.specs.Calls.{buildRefusal}
+use Rattle.protector.proofs.Laws.{call-refused, call-taken}
 use Rattle.underhill_mem.proofs.protector_build.Statement.{statement}
 use Rattle.underhill_mem.proofs.protector_build.Tie as tie
 use Rattle.underhill_mem.proofs.Laws as laws
@@ -20,13 +21,25 @@ refused-requires c κs = search needs
 
 returns : tie.Need-returns
 unfolding buildOf
-returns c = let a = c .before .before .before .before .before .before .before .before .before .before .before .before .before .before .args in laws.call-refused (world (maps (a .private .now) (a .shared .now) (a .read .now) (a .write .now) (a .kernel .now) (a .user .now)) (a .state .now) (a .pages .now) (a .tables .now)) _ _ (c .before .before .build-refusal .ensures ∙ ap (buildRefusal (a .ram .now) (a .isolation) (a .tracked) (a .release)) (c .before .before .before .build-fits .ensures)) (buildTaken (world (maps (a .private .now) (a .shared .now) (a .read .now) (a .write .now) (a .kernel .now) (a .user .now)) (a .state .now) (a .pages .now) (a .tables .now)) (a .ram .now) (a .isolation) (a .tracked) (a .release)) (c .refused .result) (c .before .if1 .taken) (c .refused .ensures)
+returns c =
+    let a = c .before .before .before .before .before .before .before .before .before .before .before .before .before .before .args in
+    let w = world (maps (a .private .now) (a .shared .now) (a .read .now) (a .write .now) (a .kernel .now) (a .user .now)) (a .state .now) (a .pages .now) (a .tables .now) in
+    call-refused w _ _ (c .before .before .build-refusal .ensures ∙ ap (buildRefusal (a .ram .now) (a .isolation) (a .tracked) (a .release))
+    (c .before .before .before .build-fits .ensures)) (buildTaken w (a .ram .now) (a .isolation) (a .tracked) (a .release)) (c .refused .result) (c .before .if1 .taken)
+    (c .refused .ensures)
 
 build-requires : tie.Need-build-requires
 build-requires c κs = search needs
 
 build-state-requires : tie.Need-build-state-requires
-build-state-requires c κs = let a = c .before .before .before .before .before .before .before .before .before .before .before .before .before .before .before .before .before .before .before .before .before .before .before .before .before .before .before .before .before .before .before .before .before .args in laws.build-passed (a .ram .now) (a .isolation) (a .tracked) (a .release) (world (maps (a .private .now) (a .shared .now) (a .read .now) (a .write .now) (a .kernel .now) (a .user .now)) (a .state .now) (a .pages .now) (a .tables .now)) (c .before .before .before .before .before .before .before .before .before .before .before .before .before .before .before .before .before .before .before .before .before .build-refusal .result) (c .before .before .before .before .before .before .before .before .before .before .before .before .before .before .before .before .before .before .before .before .if1 .left) (c .before .before .before .before .before .before .before .before .before .before .before .before .before .before .before .before .before .before .before .before .before .build-refusal .ensures ∙ ap (buildRefusal (a .ram .now) (a .isolation) (a .tracked) (a .release)) (c .before .before .before .before .before .before .before .before .before .before .before .before .before .before .before .before .before .before .before .before .before .before .build-fits .ensures))
+build-state-requires c κs =
+    let c20 = c .before .before .before .before .before .before .before .before .before .before .before .before .before .before .before .before .before .before .before .before in
+    let c21 = c20 .before in let c22 = c21 .before in
+    let a = c22 .before .before .before .before .before .before .before .before .before .before .before .args in
+    laws.build-passed (a .ram .now) (a .isolation) (a .tracked) (a .release)
+    (world (maps (a .private .now) (a .shared .now) (a .read .now) (a .write .now) (a .kernel .now) (a .user .now)) (a .state .now) (a .pages .now) (a .tables .now))
+    (c21 .build-refusal .result) (c20 .if1 .left) (c21 .build-refusal .ensures ∙ ap (buildRefusal (a .ram .now) (a .isolation) (a .tracked) (a .release))
+    (c22 .build-fits .ensures))
 
 clear-requires : tie.Need-clear-requires
 clear-requires c κs = search needs
@@ -66,7 +79,16 @@ same-length-9 c = search needs
 
 returns-2 : tie.Need-returns-2
 unfolding buildOf
-returns-2 c = let a = c .before .before .before .before .before .before .before .before .before .before .before .before .before .before .before .before .before .before .before .before .before .before .before .before .before .before .before .before .before .before .before .before .before .before .before .before .before .before .before .before .before .before .before .before .before .args in laws.call-taken (world (maps (a .private .now) (a .shared .now) (a .read .now) (a .write .now) (a .kernel .now) (a .user .now)) (a .state .now) (a .pages .now) (a .tables .now)) _ _ (c .before .before .before .before .before .before .before .before .before .before .before .before .before .before .before .before .before .before .before .before .before .before .before .before .before .before .before .before .before .before .before .before .before .build-refusal .ensures ∙ ap (buildRefusal (a .ram .now) (a .isolation) (a .tracked) (a .release)) (c .before .before .before .before .before .before .before .before .before .before .before .before .before .before .before .before .before .before .before .before .before .before .before .before .before .before .before .before .before .before .before .before .before .before .build-fits .ensures)) (buildTaken (world (maps (a .private .now) (a .shared .now) (a .read .now) (a .write .now) (a .kernel .now) (a .user .now)) (a .state .now) (a .pages .now) (a .tables .now)) (a .ram .now) (a .isolation) (a .tracked) (a .release)) _ (c .before .before .before .before .before .before .before .before .before .before .before .before .before .before .before .before .before .before .before .before .before .before .before .before .before .before .before .before .before .before .before .before .if1 .left) (laws.build-made (world (maps (a .private .now) (a .shared .now) (a .read .now) (a .write .now) (a .kernel .now) (a .user .now)) (a .state .now) (a .pages .now) (a .tables .now)) (a .ram .now) (a .isolation) (a .tracked) (a .release) _ _ _ _ _ (c .before .before .before .before .before .before .before .before .before .before .before .before .before .before .before .before .before .before .before .before .before .before .before .before .before .build .ensures) (c .before .before .before .before .before .before .before .before .before .before .before .build-state .ensures) (c .before .before .before .before .before .before .before .clear .ensures) (c .before .before .before .clear2 .ensures) (c .finished .ensures))
+returns-2 c =
+    let c7 = c .before .before .before .before .before .before .before in let c11 = c7 .before .before .before .before in
+    let c25 = c11 .before .before .before .before .before .before .before .before .before .before .before .before .before .before in
+    let c32 = c25 .before .before .before .before .before .before .before in let c33 = c32 .before in let c34 = c33 .before in
+    let a = c34 .before .before .before .before .before .before .before .before .before .before .before .args in
+    let w = world (maps (a .private .now) (a .shared .now) (a .read .now) (a .write .now) (a .kernel .now) (a .user .now)) (a .state .now) (a .pages .now) (a .tables .now) in
+    call-taken w _ _ (c33 .build-refusal .ensures ∙ ap (buildRefusal (a .ram .now) (a .isolation) (a .tracked) (a .release)) (c34 .build-fits .ensures))
+    (buildTaken w (a .ram .now) (a .isolation) (a .tracked) (a .release)) _ (c32 .if1 .left)
+    (laws.build-made w (a .ram .now) (a .isolation) (a .tracked) (a .release) _ _ _ _ _ (c25 .build .ensures) (c11 .build-state .ensures) (c7 .clear .ensures)
+    (c .before .before .before .clear2 .ensures) (c .finished .ensures))
 
 pub protector-build-spec : {M : Type 1} → statement M
 protector-build-spec =

@@ -6,7 +6,7 @@ use Rattle.permissions.specs.declared.GuestVtl.{GuestVtl}
 use Rattle.permissions.specs.Flags.{vtlOf, boolOf}
 use Rattle.protector.specs.World.{world}
 use Rattle.protector.specs.Calls.{visibilityOf, visibilityTaken}
-use Rattle.protector.proofs.Laws.{pages-fit}
+use Rattle.protector.proofs.Laws.{call-refused, call-taken, pages-fit}
 use Rattle.underhill_mem.proofs.Laws as laws
 use Rattle.underhill_mem.proofs.protector_change_host_visibility.Statement.{statement}
 use Rattle.underhill_mem.proofs.protector_change_host_visibility.Tie as tie
@@ -25,7 +25,7 @@ unfolding visibilityOf
 returns c =
     let a = c .before .before .before .before .before .before .before .before .before .before .before .before .before .before .args in
     let w = world (maps (a .private .now) (a .shared .now) (a .read .now) (a .write .now) (a .kernel .now) (a .user .now)) (a .state .now) (a .pages .now) (a .tables .now) in
-    laws.call-refused w _ _ (c .before .before .visibility-refusal .ensures) (visibilityTaken w (vtlOf (a .vtl)) (boolOf (a .visibility)) (a .list .now)) (c .refused .result) (c .before .if1 .taken) (c .refused .ensures)
+    call-refused w _ _ (c .before .before .visibility-refusal .ensures) (visibilityTaken w (vtlOf (a .vtl)) (boolOf (a .visibility)) (a .list .now)) (c .refused .result) (c .before .if1 .taken) (c .refused .ensures)
 
 settings-requires : tie.Need-settings-requires
 settings-requires c κs =
@@ -52,8 +52,10 @@ page-count-requires c κs = search needs
 
 begin-requires : tie.Need-begin-requires
 begin-requires c κs =
-    let a = c .before .before .before .before .before .before .before .before .before .before .before .before .before .before .before .before .before .before .before .before .before .before .before .before .before .before .before .before .before .before .before .before .before .before .args in
-    laws.visibility-passed (a .state .now) _ _ (c .before .before .before .before .before .before .before .before .before .before .before .before .before .before .before .before .before .before .before .before .before .if1 .left) (a .tables .now) (a .vtl) (a .visibility) (a .list .now) (c .before .before .before .before .before .before .before .before .before .before .before .before .before .before .before .before .before .before .before .before .before .before .visibility-refusal .ensures) .0
+    let c21 = c .before .before .before .before .before .before .before .before .before .before .before .before .before .before .before .before .before .before .before .before .before in
+    let c22 = c21 .before in
+    let a = c22 .before .before .before .before .before .before .before .before .before .before .before .before .args in
+    laws.visibility-passed (a .state .now) _ _ (c21 .if1 .left) (a .tables .now) (a .vtl) (a .visibility) (a .list .now) (c22 .visibility-refusal .ensures) .0
 
 same-length-2 : tie.Need-same-length-2
 same-length-2 c = search needs
@@ -82,12 +84,16 @@ same-length-9 c = search needs
 returns-2 : tie.Need-returns-2
 unfolding visibilityOf
 returns-2 c =
-    let a = c .before .before .before .before .before .before .before .before .before .before .before .before .before .before .before .before .before .before .before .before .before .before .before .before .before .before .before .before .before .before .before .before .before .before .before .before .before .before .before .before .before .before .before .before .before .before .before .before .before .args in
+    let c14 = c .before .before .before .before .before .before .before .before .before .before .before .before .before .before in
+    let c23 = c14 .before .before .before .before .before .before .before .before .before in let c26 = c23 .before .before .before in let c29 = c26 .before .before .before in
+    let c32 = c29 .before .before .before in let c33 = c32 .before in let c34 = c33 .before in let c36 = c34 .before .before in let c37 = c36 .before in
+    let a = c37 .before .before .before .before .before .before .before .before .before .before .before .before .args in
     let w = world (maps (a .private .now) (a .shared .now) (a .read .now) (a .write .now) (a .kernel .now) (a .user .now)) (a .state .now) (a .pages .now) (a .tables .now) in
-    laws.call-taken w _ _ (c .before .before .before .before .before .before .before .before .before .before .before .before .before .before .before .before .before .before .before .before .before .before .before .before .before .before .before .before .before .before .before .before .before .before .before .before .before .visibility-refusal .ensures) (visibilityTaken w (vtlOf (a .vtl)) (boolOf (a .visibility)) (a .list .now)) _ (c .before .before .before .before .before .before .before .before .before .before .before .before .before .before .before .before .before .before .before .before .before .before .before .before .before .before .before .before .before .before .before .before .before .before .before .before .if1 .left)
-    (laws.visibility-made w (c .before .before .before .before .before .before .before .before .before .before .before .before .before .before .before .before .before .before .before .before .before .before .before .before .before .before .before .before .before .before .before .before .before .vtl-of .result) (boolOf (a .visibility)) (a .list .now) (c .before .before .before .before .before .before .before .before .before .before .before .before .before .before .before .before .before .before .before .before .before .before .before .before .before .before .before .before .before .before .before .before .before .before .settings .result) (c .before .before .before .before .before .before .before .before .before .before .before .before .before .before .before .before .before .before .before .before .before .before .before .before .before .before .before .before .before .before .before .before .looks-at .result) (c .before .before .before .before .before .before .before .before .before .before .before .before .before .before .before .before .before .before .before .before .before .before .before .before .before .before .before .before .before .stop-at .result) (c .before .before .before .before .before .before .before .before .before .before .before .before .before .before .before .before .before .before .before .before .before .before .before .before .before .before .store .result) (c .before .before .before .before .before .before .before .before .before .before .before .before .before .before .before .before .before .before .before .before .before .before .before .page-count .result) _ _ _ _
-    (c .before .before .before .before .before .before .before .before .before .before .before .before .before .before .before .before .before .before .before .before .before .before .before .before .before .before .before .before .before .before .before .before .before .before .settings .ensures) (c .before .before .before .before .before .before .before .before .before .before .before .before .before .before .before .before .before .before .before .before .before .before .before .before .before .before .before .before .before .before .before .before .looks-at .ensures) (c .before .before .before .before .before .before .before .before .before .before .before .before .before .before .before .before .before .before .before .before .before .before .before .before .before .before .before .before .before .stop-at .ensures) (c .before .before .before .before .before .before .before .before .before .before .before .before .before .before .before .before .before .before .before .before .before .before .before .before .before .before .store .ensures .0) (c .before .before .before .before .before .before .before .before .before .before .before .before .before .before .before .before .before .before .before .before .before .before .before .before .before .before .store .ensures .1) (c .before .before .before .before .before .before .before .before .before .before .before .before .before .before .before .before .before .before .before .before .before .before .before .page-count .ensures) (c .before .before .before .before .before .before .before .before .before .before .before .before .before .before .begin .ensures .0) (c .before .before .before .before .before .before .before .before .before .before .before .before .before .before .begin .ensures .1 .0) (c .before .before .before .before .before .before .before .before .before .before .before .before .before .before .begin .ensures .1 .1)
-    ∙ ap (λ (x : GuestVtl). visibilityTaken w x (boolOf (a .visibility)) (a .list .now)) (c .before .before .before .before .before .before .before .before .before .before .before .before .before .before .before .before .before .before .before .before .before .before .before .before .before .before .before .before .before .before .before .before .before .vtl-of .ensures))
+    call-taken w _ _ (c37 .visibility-refusal .ensures) (visibilityTaken w (vtlOf (a .vtl)) (boolOf (a .visibility)) (a .list .now)) _ (c36 .if1 .left)
+    (laws.visibility-made w (c33 .vtl-of .result) (boolOf (a .visibility)) (a .list .now) (c34 .settings .result) (c32 .looks-at .result) (c29 .stop-at .result)
+    (c26 .store .result) (c23 .page-count .result) _ _ _ _ (c34 .settings .ensures) (c32 .looks-at .ensures) (c29 .stop-at .ensures) (c26 .store .ensures .0)
+    (c26 .store .ensures .1) (c23 .page-count .ensures) (c14 .begin .ensures .0) (c14 .begin .ensures .1 .0) (c14 .begin .ensures .1 .1) ∙ ap
+    (λ (x : GuestVtl). visibilityTaken w x (boolOf (a .visibility)) (a .list .now)) (c33 .vtl-of .ensures))
 
 pub protector-change-host-visibility-spec : {M : Type 1} → statement M
 protector-change-host-visibility-spec =

@@ -35,7 +35,13 @@ finished-requires : tie.Need-finished-requires
 finished-requires c κs = search needs
 
 returns-2 : tie.Need-returns-2
-returns-2 c = let a = c .before .before .before .before .before .before .before .before .before .before .before .before .args in laws.query-hole (a .state .now) (a .shared .now) (a .list .now) (a .out .now) (c .before .before .before .before .before .before .before .query-refusal .result) (c .before .before .before .before .before .before .before .query-refusal .ensures) (c .before .before .before .before .ram-before .result) (c .before .before .before .page-count .result) (c .before .before .before .before .before .before .if1 .left) (c .before .before .before .before .ram-before .ensures ∙ ap (λ (r : List ℕ). stopAt (isRam (entriesOf r)) (pagesOf (a .list .now))) (c .before .before .before .before .before .ram-of .ensures)) (c .before .before .before .page-count .ensures) (c .before .hv-error .result) (c .finished .result) (c .before .before .if2 .taken) (c .before .hv-error .ensures) (c .finished .ensures)
+returns-2 c =
+    let c4 = c .before .before .before .before in let c5 = c4 .before in let c6 = c5 .before in let c7 = c6 .before in
+    let a = c7 .before .before .before .before .before .args in
+    laws.query-hole (a .state .now) (a .shared .now) (a .list .now) (a .out .now) (c7 .query-refusal .result) (c7 .query-refusal .ensures) (c4 .ram-before .result)
+    (c .before .before .before .page-count .result) (c6 .if1 .left)
+    (c4 .ram-before .ensures ∙ ap (λ (r : List ℕ). stopAt (isRam (entriesOf r)) (pagesOf (a .list .now))) (c5 .ram-of .ensures)) (c .before .before .before .page-count .ensures)
+    (c .before .hv-error .result) (c .finished .result) (c .before .before .if2 .taken) (c .before .hv-error .ensures) (c .finished .ensures)
 
 fill-requires : tie.Need-fill-requires
 fill-requires c κs = search needs
@@ -47,7 +53,12 @@ same-length : tie.Need-same-length
 same-length c = search needs
 
 returns-3 : tie.Need-returns-3
-returns-3 c = let a = c .before .before .before .before .before .before .before .before .before .before .before .before .before .before .before .args in laws.query-filled (a .state .now) (a .shared .now) (a .list .now) (a .out .now) (c .before .before .before .before .before .before .before .before .before .before .query-refusal .result) (c .before .before .before .before .before .before .before .before .before .before .query-refusal .ensures) (c .before .before .before .before .before .before .before .ram-before .result) (c .before .before .before .before .before .before .page-count .result) (c .before .before .before .before .before .before .before .before .before .if1 .left) (c .before .before .before .before .before .before .before .ram-before .ensures ∙ ap (λ (r : List ℕ). stopAt (isRam (entriesOf r)) (pagesOf (a .list .now))) (c .before .before .before .before .before .before .before .before .ram-of .ensures)) (c .before .before .before .before .before .before .page-count .ensures) (c .before .before .before .fill .last .0) (c .finished2 .result) (c .before .before .before .before .before .if2 .left) (c .before .before .before .fill .ensures) (c .finished2 .ensures)
+returns-3 c =
+    let c5 = c .before .before .before .before .before in let c6 = c5 .before in let c7 = c6 .before in let c8 = c7 .before in let c9 = c8 .before in let c10 = c9 .before in
+    let a = c10 .before .before .before .before .before .args in
+    laws.query-filled (a .state .now) (a .shared .now) (a .list .now) (a .out .now) (c10 .query-refusal .result) (c10 .query-refusal .ensures) (c7 .ram-before .result)
+    (c6 .page-count .result) (c9 .if1 .left) (c7 .ram-before .ensures ∙ ap (λ (r : List ℕ). stopAt (isRam (entriesOf r)) (pagesOf (a .list .now))) (c8 .ram-of .ensures))
+    (c6 .page-count .ensures) (c .before .before .before .fill .last .0) (c .finished2 .result) (c5 .if2 .left) (c .before .before .before .fill .ensures) (c .finished2 .ensures)
 
 pub protector-query-host-visibility-spec : {M : Type 1} → statement M
 protector-query-host-visibility-spec =

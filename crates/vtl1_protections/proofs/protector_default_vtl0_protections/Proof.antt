@@ -23,7 +23,10 @@ told-requires : tie.Need-told-requires
 told-requires c κs = search needs
 
 returns-2 : tie.Need-returns-2
-returns-2 c = laws.default-told (c .before .before .before .before .before .before .before .before .args .state .now) (c .before .before .before .before .before .before .state-refusal .result) (c .before .before .before .before .before .before .state-refusal .ensures) (c .told .result) (c .before .before .before .before .before .if1 .left) (c .before .before .before .before .settings .result) (c .before .before .before .before .settings .ensures) (c .before .into-bits .result) (c .told .ensures) (c .before .into-bits .ensures)
+returns-2 c =
+    let c4 = c .before .before .before .before in let c5 = c4 .before in let c6 = c5 .before in let c8 = c6 .before .before in
+    laws.default-told (c8 .args .state .now) (c6 .state-refusal .result) (c6 .state-refusal .ensures) (c .told .result) (c5 .if1 .left) (c4 .settings .result)
+    (c4 .settings .ensures) (c .before .into-bits .result) (c .told .ensures) (c .before .into-bits .ensures)
 
 pub protector-default-vtl0-protections-spec : {M : Type 1} → statement M
 protector-default-vtl0-protections-spec =

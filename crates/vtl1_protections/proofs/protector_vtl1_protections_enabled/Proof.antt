@@ -23,7 +23,10 @@ told-requires : tie.Need-told-requires
 told-requires c κs = search needs
 
 returns-2 : tie.Need-returns-2
-returns-2 c = laws.enabled-told (c .before .before .before .before .before .before .args .state .now) (c .before .before .before .before .state-refusal .result) (c .before .before .before .before .state-refusal .ensures) (c .told .result) (c .before .before .before .if1 .left) (c .before .before .settings .result) (c .before .before .settings .ensures) (c .before .digit-of .result) (c .told .ensures) (c .before .digit-of .ensures .0)
+returns-2 c =
+    let c4 = c .before .before .before .before in let c6 = c4 .before .before in
+    laws.enabled-told (c6 .args .state .now) (c4 .state-refusal .result) (c4 .state-refusal .ensures) (c .told .result) (c .before .before .before .if1 .left)
+    (c .before .before .settings .result) (c .before .before .settings .ensures) (c .before .digit-of .result) (c .told .ensures) (c .before .digit-of .ensures .0)
 
 pub protector-vtl1-protections-enabled-spec : {M : Type 1} → statement M
 protector-vtl1-protections-enabled-spec =

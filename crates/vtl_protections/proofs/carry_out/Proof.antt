@@ -43,7 +43,14 @@ same-length-5 : tie.Need-same-length-5
 same-length-5 c = search needs
 
 returns : tie.Need-returns
-returns c = let a = c .before .before .before .before .before .before .before .before .before .before .before .before .before .before .before .before .before .before .before .before .before .before .before .before .before .before .before .before .args in (c .before .before .before .before .before .before .before .before .before .before .before .before .before .permit .ensures ∙ ap (λ (f : HvMapGpaFlags). permittedRun (a .x .written) f (perms (a .read .now) (a .write .now) (a .kernel .now) (a .user .now))) (c .before .before .before .before .before .before .before .before .before .before .before .before .before .before .before .before .before .before .from-bits .ensures), (c .before .before .before .save .ensures, c .flatten .ensures ∙ ap (λ (i : IsolationType). flatOf i (a .x .answer)) (c .before .before .before .before .before .before .before .before .before .before .before .before .before .before .before .before .before .before .before .before .before .isolation-of .ensures)))
+returns c =
+    let c13 = c .before .before .before .before .before .before .before .before .before .before .before .before .before in let c18 = c13 .before .before .before .before .before in
+    let c21 = c18 .before .before .before in
+    let a = c21 .before .before .before .before .before .before .before .args in (
+      c13 .permit .ensures ∙ ap (λ (f : HvMapGpaFlags). permittedRun (a .x .written) f (perms (a .read .now) (a .write .now) (a .kernel .now) (a .user .now)))
+          (c18 .from-bits .ensures),
+      (c .before .before .before .save .ensures, c .flatten .ensures ∙ ap (λ (i : IsolationType). flatOf i (a .x .answer)) (c21 .isolation-of .ensures)),
+    )
 
 pub carry-out-spec : {M : Type 1} → statement M
 carry-out-spec =

@@ -19,7 +19,14 @@ start-ram-requires : tie.Need-start-ram-requires
 start-ram-requires c κs = search needs
 
 returns : tie.Need-returns
-returns c = let a = c .before .before .before .before .before .before .args in let t = settingsOf (a .state .now) .tracked in (c .start-ram .ensures ∙ ap (startRam t (a .vtl) (a .flags)) (c .before .before .first-piece .ensures .0), subst (λ (x : ChangeStep). x .written .first + x .written .count ≤ 2 ^ 64) (sym (c .start-ram .ensures)) (laws.ram-within t (a .vtl) (a .flags) (c .before .before .first-piece .result) (c .before .before .first-piece .ensures .1)))
+returns c =
+    let a = c .before .before .before .before .before .before .args in
+    let t = settingsOf (a .state .now) .tracked in (
+      c .start-ram .ensures ∙ ap (startRam t (a .vtl) (a .flags)) (c .before .before .first-piece .ensures .0),
+      subst
+          (λ (x : ChangeStep). x .written .first + x .written .count ≤ 2 ^ 64) (sym (c .start-ram .ensures))
+          (laws.ram-within t (a .vtl) (a .flags) (c .before .before .first-piece .result) (c .before .before .first-piece .ensures .1)),
+    )
 
 pub default-step-spec : {M : Type 1} → statement M
 default-step-spec =

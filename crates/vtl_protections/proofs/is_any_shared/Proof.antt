@@ -30,7 +30,12 @@ page-state-requires : tie.Need-page-state-requires Inv-loop μ-loop
 page-state-requires c κs = search needs
 
 returns : tie.Need-returns Inv-loop μ-loop
-returns c = let a = c .before .before .before .before .before .before .before .before .args in let h = c .before .before .before .before .loop in sym (laws.any-hit (bitAt 8 (a .shared .now)) (pagesOf (a .list .now)) (h .i) _ (omega (arith, c .before .before .before .before .before .page-count .ensures)) (c .before .before .page-at .ensures) _ (c .before .page-state .ensures) (c .if1 .taken)) ∙ h .inv
+returns c =
+    let c4 = c .before .before .before .before in let c5 = c4 .before in
+    let a = c5 .before .before .before .args in
+    let h = c4 .loop in
+    sym (laws.any-hit (bitAt 8 (a .shared .now)) (pagesOf (a .list .now)) (h .i) _ (omega (arith, c5 .page-count .ensures)) (c .before .before .page-at .ensures) _
+    (c .before .page-state .ensures) (c .if1 .taken)) ∙ h .inv
 
 add-i : tie.Need-add-i Inv-loop μ-loop
 add-i c = search needs
@@ -39,7 +44,12 @@ loop-less : tie.Need-loop-less Inv-loop μ-loop
 loop-less c = search needs
 
 loop-again : tie.Need-loop-again Inv-loop μ-loop
-loop-again c = let a = c .before .before .before .before .before .before .before .before .args in let h = c .before .before .before .before .loop in sym (laws.any-miss (bitAt 8 (a .shared .now)) (pagesOf (a .list .now)) (h .i) _ (omega (arith, c .before .before .before .before .before .page-count .ensures)) (c .before .before .page-at .ensures) _ (c .before .page-state .ensures) (c .if1 .left)) ∙ h .inv
+loop-again c =
+    let c4 = c .before .before .before .before in let c5 = c4 .before in
+    let a = c5 .before .before .before .args in
+    let h = c4 .loop in
+    sym (laws.any-miss (bitAt 8 (a .shared .now)) (pagesOf (a .list .now)) (h .i) _ (omega (arith, c5 .page-count .ensures)) (c .before .before .page-at .ensures) _
+    (c .before .page-state .ensures) (c .if1 .left)) ∙ h .inv
 
 returns-2 : tie.Need-returns-2 Inv-loop μ-loop
 returns-2 c = let a = c .before .before .before .before .before .args in let h = c .before .loop in sym (laws.any-end (bitAt 8 (a .shared .now)) (pagesOf (a .list .now)) (h .i) (omega (arith, c .before .before .page-count .ensures))) ∙ h .inv

@@ -3,6 +3,7 @@ use borrow.Author.Needs.{needs}
 use Rattle.permissions.specs.Flags.{vtlOf}
 use Rattle.mapping.specs.Maps.{maps}
 use Rattle.protector.specs.World.{world}
+use Rattle.protector.proofs.Laws.{call-refused, call-taken}
 use Rattle.vtl_protections.specs.Calls.{protectionTaken, protectionOf}
 use Rattle.vtl_protections.proofs.Laws as laws
 use Rattle.vtl_protections.proofs.protector_change_vtl_protections.Statement.{statement}
@@ -22,7 +23,7 @@ unfolding protectionOf
 returns c =
     let a = c .before .before .before .before .before .before .before .before .before .before .before .before .before .before .args in
     let w = world (maps (a .private .now) (a .shared .now) (a .read .now) (a .write .now) (a .kernel .now) (a .user .now)) (a .state .now) (a .pages .now) (a .tables .now) in
-    laws.call-refused w _ _ (c .before .before .protection-refusal .ensures) (protectionTaken w (vtlOf (a .vtl)) (a .flags) (a .list .now)) (c .refused .result) (c .before .if1 .taken) (c .refused .ensures)
+    call-refused w _ _ (c .before .before .protection-refusal .ensures) (protectionTaken w (vtlOf (a .vtl)) (a .flags) (a .list .now)) (c .refused .result) (c .before .if1 .taken) (c .refused .ensures)
 
 vtl-of-requires : tie.Need-vtl-of-requires
 vtl-of-requires c κs = search needs
@@ -44,9 +45,10 @@ protection-step-requires c κs =
 
 carry-out-requires : tie.Need-carry-out-requires
 carry-out-requires c κs =
-    let a = c .before .before .before .before .before .before .before .before .before .before .before .before .before .before .before .before .before .before .before .before .before .before .before .before .before .before .before .args in
+    let c5 = c .before .before .before .before .before in let c14 = c5 .before .before .before .before .before .before .before .before .before in let c15 = c14 .before in
+    let a = c15 .before .before .before .before .before .before .before .before .before .before .before .before .args in
     let w = world (maps (a .private .now) (a .shared .now) (a .read .now) (a .write .now) (a .kernel .now) (a .user .now)) (a .state .now) (a .pages .now) (a .tables .now) in
-    (laws.protection-passed w (a .vtl) (a .flags) (a .list .now) _ (c .before .before .before .before .before .before .before .before .before .before .before .before .before .before .before .protection-refusal .ensures) (c .before .before .before .before .before .before .before .before .before .before .before .before .before .before .if1 .left) .0, c .before .before .before .before .before .protection-step .ensures .1)
+    (laws.protection-passed w (a .vtl) (a .flags) (a .list .now) _ (c15 .protection-refusal .ensures) (c14 .if1 .left) .0, c5 .protection-step .ensures .1)
 
 same-length-2 : tie.Need-same-length-2
 same-length-2 c = search needs
@@ -69,10 +71,14 @@ same-length-7 c = search needs
 returns-2 : tie.Need-returns-2
 unfolding protectionOf
 returns-2 c =
-    let a = c .before .before .before .before .before .before .before .before .before .before .before .before .before .before .before .before .before .before .before .before .before .before .before .before .before .before .before .before .before .before .before .before .before .before .before .before .before .before .args in
+    let c10 = c .before .before .before .before .before .before .before .before .before .before in let c16 = c10 .before .before .before .before .before .before in
+    let c21 = c16 .before .before .before .before .before in let c23 = c21 .before .before in let c24 = c23 .before in let c25 = c24 .before in let c26 = c25 .before in
+    let a = c26 .before .before .before .before .before .before .before .before .before .before .before .before .args in
     let w = world (maps (a .private .now) (a .shared .now) (a .read .now) (a .write .now) (a .kernel .now) (a .user .now)) (a .state .now) (a .pages .now) (a .tables .now) in
-    laws.call-taken w _ _ (c .before .before .before .before .before .before .before .before .before .before .before .before .before .before .before .before .before .before .before .before .before .before .before .before .before .before .protection-refusal .ensures) (protectionTaken w (vtlOf (a .vtl)) (a .flags) (a .list .now)) _ (c .before .before .before .before .before .before .before .before .before .before .before .before .before .before .before .before .before .before .before .before .before .before .before .before .before .if1 .left)
-    (laws.protection-made w (c .before .before .before .before .before .before .before .before .before .before .before .before .before .before .before .before .before .before .before .before .before .before .before .before .vtl-of .result) (vtlOf (a .vtl)) (a .flags) (a .list .now) (c .before .before .before .before .before .before .before .before .before .before .before .before .before .before .before .before .before .before .before .before .before .before .before .page-count .result) _ (c .before .before .before .before .before .before .before .before .before .before .before .before .before .before .before .before .protection-step .result) _ _ (c .before .before .before .before .before .before .before .before .before .before .carry-out .result) (c .before .before .before .before .before .before .before .before .before .before .before .before .before .before .before .before .before .before .before .before .before .before .before .before .vtl-of .ensures) (c .before .before .before .before .before .before .before .before .before .before .before .before .before .before .before .before .before .before .before .before .before .before .before .page-count .ensures) (c .before .before .before .before .before .before .before .before .before .before .before .before .before .before .before .before .before .before .before .before .before .store-all .ensures) (c .before .before .before .before .before .before .before .before .before .before .before .before .before .before .before .before .protection-step .ensures .0) (c .before .before .before .before .before .before .before .before .before .before .carry-out .ensures .0) (c .before .before .before .before .before .before .before .before .before .before .carry-out .ensures .1 .0) (c .before .before .before .before .before .before .before .before .before .before .carry-out .ensures .1 .1))
+    call-taken w _ _ (c26 .protection-refusal .ensures) (protectionTaken w (vtlOf (a .vtl)) (a .flags) (a .list .now)) _ (c25 .if1 .left)
+    (laws.protection-made w (c24 .vtl-of .result) (vtlOf (a .vtl)) (a .flags) (a .list .now) (c23 .page-count .result) _ (c16 .protection-step .result) _ _ (c10 .carry-out .result)
+    (c24 .vtl-of .ensures) (c23 .page-count .ensures) (c21 .store-all .ensures) (c16 .protection-step .ensures .0) (c10 .carry-out .ensures .0) (c10 .carry-out .ensures .1 .0)
+    (c10 .carry-out .ensures .1 .1))
 
 pub protector-change-vtl-protections-spec : {M : Type 1} → statement M
 protector-change-vtl-protections-spec =

@@ -45,13 +45,21 @@ same-length : tie.Need-same-length
 same-length c = search needs
 
 returns : tie.Need-returns
-returns c = let a = c .before .before .before .before .before .before .before .before .before .before .args in puts.put-vtl0 (a .tables .now) _ (λ o. renewed (a .private .now) (entriesIn (a .state .now)) (a .flags) o) (a .vtl) (c .before .before .renew .ensures ∙ laws.renewed-are (a .private .now) (a .state .now) _ (a .flags) _ (c .before .before .before .before .before .before .ram-of .ensures)) (c .before .before .before .before .enum-told .given .1)
+returns c =
+    let c4 = c .before .before .before .before in let c6 = c4 .before .before in
+    let a = c6 .before .before .before .before .args in
+    puts.put-vtl0 (a .tables .now) _ (λ o. renewed (a .private .now) (entriesIn (a .state .now)) (a .flags) o) (a .vtl)
+    (c .before .before .renew .ensures ∙ laws.renewed-are (a .private .now) (a .state .now) _ (a .flags) _ (c6 .ram-of .ensures)) (c4 .enum-told .given .1)
 
 same-length-2 : tie.Need-same-length-2
 same-length-2 c = search needs
 
 returns-2 : tie.Need-returns-2
-returns-2 c = let a = c .before .before .before .before .before .before .before .before .before .before .args in puts.put-vtl1 (a .tables .now) _ (λ o. renewed (a .private .now) (entriesIn (a .state .now)) (a .flags) o) (a .vtl) (c .before .before .renew2 .ensures ∙ laws.renewed-are (a .private .now) (a .state .now) _ (a .flags) _ (c .before .before .before .before .before .before .ram-of .ensures)) (c .before .before .before .before .enum-told2 .given .1)
+returns-2 c =
+    let c4 = c .before .before .before .before in let c6 = c4 .before .before in
+    let a = c6 .before .before .before .before .args in
+    puts.put-vtl1 (a .tables .now) _ (λ o. renewed (a .private .now) (entriesIn (a .state .now)) (a .flags) o) (a .vtl)
+    (c .before .before .renew2 .ensures ∙ laws.renewed-are (a .private .now) (a .state .now) _ (a .flags) _ (c6 .ram-of .ensures)) (c4 .enum-told2 .given .1)
 
 pub renew-spec : {M : Type 1} → statement M
 renew-spec =

@@ -4,7 +4,7 @@ use native.Mathlib.Omega.{arith}
 use mathlib.Core.Path.{ap}
 use Prim.Native.Nat.{ℕ, _+_}
 use lib.ListN.{set}
-use Rattle.vtl_protections.proofs.Laws as laws
+use Rattle.permissions.proofs.Laws.{vtl-lt}
 use Rattle.vtl_protections.proofs.store_default.Statement.{statement}
 use Rattle.vtl_protections.proofs.store_default.Tie as tie
 
@@ -12,13 +12,13 @@ vtl-number-requires : tie.Need-vtl-number-requires
 vtl-number-requires c κs = search needs
 
 add-i : tie.Need-add-i
-add-i c = let h = laws.vtl-le (c .before .before .args .vtl) in omega (arith, h, c .vtl-number .ensures)
+add-i c = let h = vtl-lt (c .before .before .args .vtl) in omega (arith, h, c .vtl-number .ensures)
 
 mul-state : tie.Need-mul-state
-mul-state c = let h = laws.vtl-le (c .before .before .args .vtl) in omega (arith, h, c .vtl-number .ensures)
+mul-state c = let h = vtl-lt (c .before .before .args .vtl) in omega (arith, h, c .vtl-number .ensures)
 
 slice-write-state : tie.Need-slice-write-state
-slice-write-state c = let h = laws.vtl-le (c .before .before .args .vtl) in omega (arith, h, c .vtl-number .ensures)
+slice-write-state c = let h = vtl-lt (c .before .before .args .vtl) in omega (arith, h, c .vtl-number .ensures)
 
 same-length : tie.Need-same-length
 same-length c = search needs

@@ -28,8 +28,11 @@ same-length c = search needs
 
 returns : tie.Need-returns
 returns c =
-    let a = c .before .before .before .before .before .before .before .before .before .before .before .before .before .before .before .before .before .before .before .args in
-    laws.runs-swapped (a .t .now) (a .place) (a .n) (a .m) _ _ _ _ _ _ (c .before .before .before .before .before .before .before .before .before .before .before .before .before .before .before .before .place-after .ensures) (c .before .before .before .before .before .before .before .before .before .before .before .before .before .before .place-after2 .ensures) (c .before .before .before .before .before .before .before .before .before .before .before .before .place-after3 .ensures) (c .before .before .before .before .before .before .before .before .before .before .turn .ensures) (c .before .before .before .before .before .before .turn2 .ensures) (c .before .before .turn3 .ensures)
+    let c6 = c .before .before .before .before .before .before in let c10 = c6 .before .before .before .before in let c12 = c10 .before .before in let c14 = c12 .before .before in
+    let c16 = c14 .before .before in
+    let a = c16 .before .before .before .args in
+    laws.runs-swapped (a .t .now) (a .place) (a .n) (a .m) _ _ _ _ _ _ (c16 .place-after .ensures) (c14 .place-after2 .ensures) (c12 .place-after3 .ensures) (c10 .turn .ensures)
+    (c6 .turn2 .ensures) (c .before .before .turn3 .ensures)
 
 pub swap-runs-spec : {M : Type 1} → statement M
 swap-runs-spec =
