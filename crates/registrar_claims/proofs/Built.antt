@@ -16,13 +16,13 @@ use Rattle.layout.specs.Layout.{range, entriesOf, ordered, refusalOf, lastEnd}
 use Rattle.layout.proofs.Laws.{fit, Fit, entries-count}
 use Rattle.bitmap.specs.Pages.{bitAt}
 use Rattle.chunks.specs.Chunks.{up, firstChunk, endChunk, isPower, firstNot}
-use Rattle.chunks.specs.Scan.{first-all}
+use Rattle.chunks.proofs.Scan.{first-all}
 use Rattle.registrar_steps.specs.declared.Request.{Request}
 use Rattle.registrar_steps.specs.declared.Answer.the-variants.{Done, Register, Refused}
 use Rattle.registrar_steps.specs.declared.Plan.{Plan}
 use Rattle.registrar_steps.specs.Steps.{idle, isIdle, askedOf}
 use Rattle.registrar_state.specs.World.{World, world, Outcome, outcome, requestOf, withRequest, offsetOf, granularityOf, entriesIn, builtState, flatOf, decided, buildRefusal, buildOf, registerRefusal, allRefusal, carriedOut, registerPlan, allPlan, isKnown, registerOf, allOf, answerRefusal, failedOf, takenTo, donePlan, afterTaken, doneOf}
-use Rattle.registrar_state.specs.Laws.{known-kept}
+use Rattle.registrar_state.proofs.Laws.{known-kept}
 use Rattle.registrar_claims.specs.Runs.{Call, Build, RegisterRange, RegisterAll, AnswerDone, AnswerFailed, give, after, follow}
 use Rattle.registrar_claims.specs.Whole.{wholeAll, wholeRegister, Words, Match}
 use Rattle.registrar_claims.proofs.Steps.{marked-words, register-is-whole}
@@ -90,7 +90,8 @@ built-sound w ram o g z =
     let d = passed (ltb (o + lastEnd (entriesOf ram)) (2 ^ 64)) 0 _ (b .1) in
     let e = passed (eqb (refusalOf ram) 0) 1 _ (d .1) in
     let k : Fit ram = fit ram (eqb-true (refusalOf ram) 0 (e .0)) in
-    let p = both-true (leb 4096 g) (isPower g) (passed (leb 4096 g && isPower g) 8 _ (e .1) .0) in
+    let f = passed (eqb (length (w .state)) 108) 3 _ (e .1) in
+    let p = both-true (leb 4096 g) (isPower g) (passed (leb 4096 g && isPower g) 8 _ (f .1) .0) in
     rw (eq-eqb (buildRefusal w ram o g) 0 z)
     (record { in-order = ap (ordered 0) (entries-built ram o g k) ∙ k .in-order; words = zeros-words (length (w .registered)); request = idle-fits _; pages = fit-pages g (p .0) (p .1); room = omega (arith, ltb-true (o + lastEnd (entriesOf ram)) (2 ^ 64) (d .0), ap lastEnd (entries-built ram o g k)) })
 

@@ -15,7 +15,7 @@ use Rattle.bitmap.specs.Pages.{bitAt}
 use Rattle.layout.specs.declared.MemoryRange.{MemoryRange}
 use Rattle.layout.specs.Layout.{spans}
 use Rattle.chunks.specs.Chunks.{chunkCount, firstChunk, endChunk, isPower, empty, part, pieces, firstOf, firstNotOf, firstNot, alike, alignedPart, edgeOf}
-use Rattle.chunks.specs.Scan.{first-step, first-from}
+use Rattle.chunks.proofs.Scan.{first-step, first-from}
 use Rattle.registrar_steps.specs.declared.Request.{Request}
 use Rattle.registrar_steps.specs.declared.Answer.the-variants.{Done, RegistrationFailed, Refused}
 use Rattle.registrar_steps.specs.declared.Look.{Look}

@@ -20,6 +20,19 @@ built-fit : buildRefusal built worked (2 ^ 40) 65536 ≡ 0
 unfolding buildRefusal entriesOf ordered aligned refusalOf powerFrom
 built-fit = refl
 
+-- a state block of another length is 4 before the granularity's 9, and the bitmaps' 4 comes after it
+short-block : buildRefusal (world [] [] []) worked 0 1 ≡ 4
+unfolding buildRefusal entriesOf ordered aligned refusalOf powerFrom
+short-block = refl
+
+unfit-granularity : buildRefusal (world (builtState worked 0 1) [] []) worked 0 1 ≡ 9
+unfolding buildRefusal entriesOf ordered aligned refusalOf powerFrom
+unfit-granularity = refl
+
+no-bitmaps : buildRefusal (world (builtState worked 0 4096) [] []) worked 0 4096 ≡ 4
+unfolding buildRefusal entriesOf ordered aligned refusalOf powerFrom
+no-bitmaps = refl
+
 -- ---- register, over all three chunks: the second has no RAM
 
 abbrev over-all : Outcome

@@ -14,7 +14,7 @@ use Rattle.bitmap.proofs.Map.{page-law}
 use Rattle.layout.specs.declared.MemoryRange.{MemoryRange}
 use Rattle.layout.specs.Layout.{entriesOf, refusalOf, lastEnd, spans}
 use Rattle.chunks.specs.Chunks.{chunkCount, firstChunk, endChunk, isPower, firstNot}
-use Rattle.chunks.specs.Scan.{first-holds}
+use Rattle.chunks.proofs.Scan.{first-holds}
 use Rattle.registrar_steps.specs.declared.Request.{Request}
 use Rattle.registrar_steps.specs.declared.Answer.{Answer}
 use Rattle.registrar_steps.specs.declared.Answer.the-variants.{Done, Register, RegistrationFailed, UnalignedMemory, Refused}
@@ -132,10 +132,10 @@ done-ending w =
 build-taken : (w : World) (ram : List ℕ) (o g : ℕ) → notRefused (buildRefusal w ram o g) ≡ true → buildRefusal w ram o g ≡ 0
 unfolding buildRefusal
 build-taken w ram o g =
-    go (not (eqb (refusalOf ram) 1)) (eqb (o % 4096) 0) (ltb (o + lastEnd (entriesOf ram)) (2 ^ 64)) (eqb (refusalOf ram) 0) (leb 4096 g && isPower g) (eqb (length (w .state)) 108)
+    go (not (eqb (refusalOf ram) 1)) (eqb (o % 4096) 0) (ltb (o + lastEnd (entriesOf ram)) (2 ^ 64)) (eqb (refusalOf ram) 0) (eqb (length (w .state)) 108) (leb 4096 g && isPower g)
     (lengthsFit g (entriesOf ram) (w .registered) (w .failed))
   where
-    go : (a b c d e f i : Bool) → notRefused (unless a 1 (unless b 1 (unless c 1 (unless d 2 (unless e 9 (unless f 4 (unless i 4 0))))))) ≡ true → unless a 1 (unless b 1 (unless c 1 (unless d 2 (unless e 9 (unless f 4 (unless i 4 0)))))) ≡ 0
+    go : (a b c d e f i : Bool) → notRefused (unless a 1 (unless b 1 (unless c 1 (unless d 2 (unless e 4 (unless f 9 (unless i 4 0))))))) ≡ true → unless a 1 (unless b 1 (unless c 1 (unless d 2 (unless e 4 (unless f 9 (unless i 4 0)))))) ≡ 0
     go false b c d e f i h = false≢true h
     go true false c d e f i h = false≢true h
     go true true false d e f i h = false≢true h

@@ -18,7 +18,7 @@ use Rattle.layout.specs.declared.MemoryRange.{MemoryRange}
 use Rattle.layout.specs.declared.MemoryRangeWithNode.{MemoryRangeWithNode}
 use Rattle.layout.specs.Layout.{entriesOf, ordered, spans}
 use Rattle.chunks.specs.Chunks.{chunkCount, mapWords, firstChunk, endChunk, empty, pieces, firstOf, firstNotOf, firstNot}
-use Rattle.chunks.specs.Scan.{first-step, first-stop, first-end, first-from}
+use Rattle.chunks.proofs.Scan.{first-step, first-stop, first-end, first-from}
 use Rattle.registrar_steps.specs.declared.Request.{Request}
 use Rattle.registrar_steps.specs.declared.Answer.the-variants.{Done, RegistrationFailed}
 use Rattle.registrar_steps.specs.declared.Plan.{Plan}
@@ -28,9 +28,9 @@ use Rattle.registrar_state.specs.World.{World, world, Outcome, outcome, request
 use Rattle.registrar_claims.specs.Runs.{Told, before, follow}
 use Rattle.registrar_claims.specs.Whole.{Stand, Ok, FailedAt, Whole, ended, offered, asking, offer, wholeChunks, wholeRegister, Says, Words, Match}
 use Rattle.registrar_claims.proofs.Spans.{Ascend, spans-ascend, piece-some, pieces-rest}
-use Rattle.registrar_state.specs.Laws.{split-state}
-use Rattle.registrar.specs.Laws.{register-long}
-use Rattle.registrar_steps.specs.Laws.{register-done}
+use Rattle.registrar_state.proofs.Laws.{split-state}
+use Rattle.registrar.proofs.Laws.{register-long}
+use Rattle.registrar_steps.proofs.Laws.{register-done}
 
 -- ---- marks
 

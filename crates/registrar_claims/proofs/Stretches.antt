@@ -18,7 +18,7 @@ use Rattle.layout.specs.declared.MemoryRange.{MemoryRange}
 use Rattle.layout.specs.declared.MemoryRangeWithNode.{MemoryRangeWithNode}
 use Rattle.layout.specs.Layout.{range, entriesOf, ordered, spans}
 use Rattle.chunks.specs.Chunks.{up, mapWords, empty, firstNot, alike, alignedPart, edgeOf}
-use Rattle.chunks.specs.Scan.{first-stop, first-end, first-skip}
+use Rattle.chunks.proofs.Scan.{first-stop, first-end, first-skip}
 use Rattle.registrar_steps.specs.declared.Request.{Request}
 use Rattle.registrar_steps.specs.declared.Answer.the-variants.{Done, RegistrationFailed, UnalignedMemory}
 use Rattle.registrar_steps.specs.declared.Look.{Look}
@@ -29,9 +29,9 @@ use Rattle.registrar_state.specs.World.{World, world, Outcome, outcome, request
 use Rattle.registrar_claims.specs.Runs.{follow}
 use Rattle.registrar_claims.specs.Whole.{FailedAt, UnalignedAt, offerStretch, wholeSpan, wholeSpans, wholeAll, Whole, ended, Match}
 use Rattle.registrar_claims.proofs.Steps.{marked-length, marked-none, follow-ended, match-ask, match-told}
-use Rattle.registrar_state.specs.Laws.{split-state}
+use Rattle.registrar_state.proofs.Laws.{split-state}
 use Rattle.registrar_claims.proofs.Spans.{Ascend, spans-ascend}
-use Rattle.registrar.specs.Laws.{all-long}
+use Rattle.registrar.proofs.Laws.{all-long}
 
 -- ---- scans
 
