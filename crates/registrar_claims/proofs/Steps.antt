@@ -32,6 +32,10 @@ use Rattle.registrar_state.proofs.Laws.{split-state}
 use Rattle.registrar.proofs.Laws.{register-long}
 use Rattle.registrar_steps.proofs.Laws.{register-done}
 
+-- one operation more, counted in 64 bits
+pub counted : (k : ℕ) → more (k % 2 ^ 64) ≡ (k + 1) % 2 ^ 64
+counted k = omega arith
+
 -- ---- marks
 
 pub marked-length : (a b : ℕ) (m : List ℕ) → length (marked a b m) ≡ length m
@@ -138,9 +142,6 @@ module _ (tail f : List ℕ) (last : ℕ) where
     -- a piece and those after it
     module _ (c : ℕ) (r : List ℕ) (r-long : length r ≡ mapWords g es) (next : List Bool → Whole)
         (on : (k : ℕ) (q : Request) (bs : List Bool) → Match k (follow (from q (marked c (c + 1) r) k (c + 1)) bs) (next bs)) where
-      counted : (k : ℕ) → more (k % 2 ^ 64) ≡ (k + 1) % 2 ^ 64
-      counted k = omega arith
-
       failed-now : (k : ℕ) (p : MemoryRange) → failedOf (asks-piece r k c p .world)
           ≡ outcome (requestWords idle ++ tail) r (marked c (c + 1) f) (flatOf (RegistrationFailed (p .start) ((k + 1) % 2 ^ 64)))
       unfolding failedOf
