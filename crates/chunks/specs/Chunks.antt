@@ -1,7 +1,8 @@
 -- Chunks of memory, and the RAM in them: document 01, "Registrar".
-use mathlib.Core.Bool.{Bool, false, not, cond, _||_, _&&_}
+use mathlib.Core.Path.{_≡_}
+use mathlib.Core.Bool.{Bool, true, false, not, cond, _||_, _&&_}
 use mathlib.Core.List.{List, [], _∷_}
-use Prim.Native.Nat.{ℕ, zero, suc, _+_, _-_, _*_, _/_, _%_, _^_, min, max}
+use Prim.Native.Nat.{ℕ, zero, suc, _+_, _-_, _*_, _/_, _%_, _^_, _≤_, _<_, min, max}
 use lib.Dec.{eqb, leb, ltb}
 use Rattle.bitmap.specs.Pages.{bitAt}
 use Rattle.layout.specs.declared.MemoryRange.{MemoryRange}
@@ -57,6 +58,12 @@ firstNotOf P c (suc n) = cond (P c) (firstNotOf P (suc c) n) c
 
 abbrev pub firstNot : (ℕ → Bool) → ℕ → ℕ → ℕ
 firstNot P c e = firstNotOf P c (e - c)
+
+-- P holds of n numbers from c on, all before e; where n is 0, not of c
+pub record Ahead (P : ℕ → Bool) (c e n : ℕ) : Type 0 where
+  pub within : c + n ≤ e
+  pub holds : (q : ℕ) → c ≤ q → q < c + n → P q ≡ true
+  pub stops : n ≡ 0 → P c ≡ false
 
 -- a chunk that has not failed, and is registered or not
 abbrev pub alike : List ℕ → List ℕ → Bool → ℕ → Bool

@@ -1,3 +1,1 @@
 pub mod Chunks
-pub mod Scan
-pub mod Laws

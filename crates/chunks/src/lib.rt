@@ -8,8 +8,7 @@ ghost use Rattle.laws.specs.Bools.{digit};
 ghost use Rattle.laws.specs.Ranges.{between};
 ghost use Rattle.bitmap.specs.Pages.{bitAt, written, words};
 ghost use Rattle.layout.specs.Layout.{entriesOf, spans};
-ghost use Rattle.chunks.specs.Chunks.{up, chunkCount, firstChunk, endChunk, isPower, pieces, firstOf, alike, firstNot, alignedPart, edgeOf, entryWith};
-ghost use Rattle.chunks.specs.Scan.{Ahead};
+ghost use Rattle.chunks.specs.Chunks.{up, chunkCount, firstChunk, endChunk, isPower, pieces, firstOf, alike, firstNot, Ahead, alignedPart, edgeOf, entryWith};
 use layout::MemoryRange;
 use layout::MemoryRangeWithNode;
 

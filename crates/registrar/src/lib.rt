@@ -1,12 +1,15 @@
 // The registrar: which chunks of guest memory the kernel has been told of. It asks one operation at a time.
 ghost use mathlib.Core.Path.{_≡_};
-ghost use Prim.Native.Nat.{_*_, _≤_, _<_, _^_, min};
+ghost use mathlib.Core.Bool.{cond};
+ghost use mathlib.Core.List.{List};
+ghost use Prim.Native.Nat.{ℕ, _+_, _*_, _%_, _≤_, _<_, _^_, min};
+ghost use lib.Dec.{eqb, ltb};
 ghost use lib.ListN.{length, getD};
 ghost use Rattle.layout.specs.Layout.{spans};
 ghost use Rattle.chunks.specs.Chunks.{chunkCount};
+ghost use Rattle.registrar_steps.specs.declared.Plan.{Plan};
 ghost use Rattle.registrar_steps.specs.Steps.{askedOf, pieceOf, registerFrom, allFrom};
-ghost use Rattle.registrar_state.specs.World.{world, outcome, withRequest, offsetOf, granularityOf, entriesIn, seenIn, flatOf, builtState, carriedOut, buildOf, registerOf, allOf, failedOf, donePlan, afterTaken, doneOf};
-ghost use Rattle.registrar.specs.Stored.{Stored, answerOf};
+ghost use Rattle.registrar_state.specs.World.{World, world, outcome, withRequest, offsetOf, granularityOf, entriesIn, seenIn, simple, flatOf, builtState, marked, carriedOut, buildOf, registerOf, allOf, failedOf, donePlan, afterTaken, doneOf};
 use layout::MemoryRange;
 use registrar_state::Reply;
 use registrar_steps::Answer;
@@ -72,7 +75,8 @@ fn go_on(
     until: u64,
 ) -> u64
     requires { ⌜ (length (now state) ≡ 108) × (n ≡ chunkCount (granularityOf (now state)) (entriesIn (now state))) ⌝ }
-    ensures { λ c. ⌜ Stored (world (now (state .entry)) (now (registered .entry)) (now (failed .entry))) (registerFrom (seenIn (world (now (state .entry)) (now (registered .entry)) (now (failed .entry)))) (offsetOf (now (state .entry))) count from until) (now (state .exit)) (now (registered .exit)) c × (c < min until n → c * granularityOf (now (state .entry)) < 2 ^ 64) ⌝ }
+    ensures { λ c. ⌜ (let w : World = world (now (state .entry)) (now (registered .entry)) (now (failed .entry)) in let p : Plan = registerFrom (seenIn w) (offsetOf (w .state)) count from until in (now (state .exit) ≡ withRequest (p .request) (w .state)) × (now (registered .exit) ≡ marked (p .from) (p .to) (w .registered)) × (c ≡ p .to)) ⌝ }
+    ensures { λ c. ⌜ (c < min until n → c * granularityOf (now (state .entry)) < 2 ^ 64) ⌝ }
 {
     let at = registrar_state::register_stop(state, registered, failed, n, from, until);
     chunks::set_chunks(registered, from, at.chunk);
@@ -92,7 +96,7 @@ fn go_on(
 // What is answered then, of a request that stops at chunk c of n.
 fn answer(state: &[u64], n: u64, count: u64, until: u64, c: u64) -> Reply
     requires { ⌜ (length (now state) ≡ 108) × (c < min until n → c * granularityOf (now state) < 2 ^ 64) ⌝ }
-    ensures { λ r. ⌜ r ≡ answerOf (now (state .entry)) n count until c ⌝ }
+    ensures { λ r. ⌜ (let s : List ℕ = now (state .entry) in r ≡ cond (eqb (getD s 0 0) 1) (simple 0 1 0 ((offsetOf s + getD s 4 0) % 2 ^ 64) ((offsetOf s + getD s 5 0) % 2 ^ 64) 0) (cond (ltb c (min until n)) (simple 23 0 count 0 0 (c * granularityOf s)) (simple 0 0 count 0 0 0))) ⌝ }
 {
     if state[0] == 1 {
         let start = std::num::wrapping_add_u64(state[9], state[4]);

@@ -2,76 +2,83 @@
 use native.Mathlib.Omega.{arith}
 use mathlib.Core.Path.{_≡_, refl, sym, ap, ap₂, _∙_}
 use mathlib.Core.Logic.{⊎-elim}
-use mathlib.Core.Bool.{Bool, true, false, not, cond, _&&_}
+use mathlib.Core.Bool.{Bool, true, false, cond, _&&_}
 use mathlib.Core.List.{List, [], _∷_}
-use Prim.Native.Nat.{ℕ, _+_, _-_, _*_, _/_, _%_, _^_, _≤_, _<_, max}
-use lib.Dec.{eqb, leb, ltb}
-use lib.ListN.{length, getD, drop, take, replicate, length-replicate, getD-replicate, List·getD-eq-default}
+use Prim.Native.Nat.{ℕ, _+_, _-_, _*_, _%_, _^_, _≤_, _<_, max}
+use lib.Dec.{eqb}
+use lib.ListN.{length, getD, drop, take, replicate, length-append, length-drop, length-replicate, getD-replicate, List·getD-eq-default}
 use lib.Seq.{drop-drop, take-at, getD-drop}
-use borrow.Author.Tests.{eqb-true, eq-eqb, le-leb, ltb-true}
-use Rattle.laws.specs.Bools.{and-true, both-true, lt-or-le}
+use borrow.Author.Tests.{eqb-true, eq-eqb, le-leb}
+use Rattle.laws.specs.Bools.{and-true, lt-or-le}
 use Rattle.laws.specs.Refusal.{passed}
 use Rattle.layout.specs.declared.MemoryRangeWithNode.{MemoryRangeWithNode}
-use Rattle.layout.specs.Layout.{range, entriesOf, ordered, refusalOf, lastEnd}
+use Rattle.layout.specs.Layout.{range, entriesOf, ordered, lastEnd}
 use Rattle.layout.proofs.Laws.{fit, Fit, entries-count}
 use Rattle.bitmap.specs.Pages.{bitAt}
-use Rattle.chunks.specs.Chunks.{up, firstChunk, endChunk, isPower, firstNot}
-use Rattle.chunks.specs.Scan.{first-all}
+use Rattle.chunks.specs.Chunks.{mapWords, firstChunk, endChunk, firstNot}
+use Rattle.chunks.proofs.Scan.{first-all}
 use Rattle.registrar_steps.specs.declared.Request.{Request}
 use Rattle.registrar_steps.specs.declared.Answer.the-variants.{Done, Register, Refused}
 use Rattle.registrar_steps.specs.declared.Plan.{Plan}
-use Rattle.registrar_steps.specs.Steps.{idle, isIdle, askedOf}
-use Rattle.registrar_state.specs.World.{World, world, Outcome, outcome, requestOf, withRequest, offsetOf, granularityOf, entriesIn, builtState, flatOf, decided, buildRefusal, buildOf, registerRefusal, allRefusal, carriedOut, registerPlan, allPlan, isKnown, registerOf, allOf, answerRefusal, failedOf, takenTo, donePlan, afterTaken, doneOf}
-use Rattle.registrar_state.specs.Laws.{known-kept}
-use Rattle.registrar_claims.specs.Runs.{Call, Build, RegisterRange, RegisterAll, AnswerDone, AnswerFailed, give, after, follow}
-use Rattle.registrar_claims.specs.Whole.{wholeAll, wholeRegister, Words, Match}
-use Rattle.registrar_claims.proofs.Steps.{marked-words, register-is-whole}
+use Rattle.registrar_steps.specs.Steps.{idle, isIdle}
+use Rattle.registrar_state.specs.World.{World, world, Outcome, outcome, requestOf, withRequest, offsetOf, granularityOf, ramOf, entriesIn, builtState, flatOf, decided, lengthsFit, buildRefusal, buildOf, marked, registerRefusal, allRefusal, carriedOut, registerPlan, allPlan, isKnown, registerOf, allOf, answerRefusal, failedOf, takenTo, donePlan, afterTaken, doneOf}
+use Rattle.registrar_state.proofs.Laws.{BuildFits, build-fits, known-kept}
+use Rattle.registrar_claims.specs.Runs.{Call, Build, RegisterRange, RegisterAll, AnswerDone, AnswerFailed, give, after}
+use Rattle.registrar_claims.specs.Whole.{Words}
+use Rattle.registrar_claims.specs.Claims.{RegisterWhole, AllWhole, RegisteredKept, ChunksPlain, AskedPlain}
+use Rattle.registrar_claims.proofs.Steps.{marked-length, marked-words, register-is-whole}
 use Rattle.registrar_claims.proofs.Stretches.{all-is-whole}
 use Rattle.registrar_claims.proofs.Plain.{Pages, first-plain, end-plain, fit-pages}
 use Rattle.registrar_claims.proofs.Requests.{Fits, idle-fits, fits-at, register-asks, all-asks, done-asks}
 
+-- what every call keeps
 pub record Sound (w : World) : Type 0 where
   pub in-order : ordered 0 (entriesIn (w .state)) ≡ true
   pub words : Words (w .registered)
   pub request : Fits (lastEnd (entriesIn (w .state))) (requestOf (w .state))
   pub pages : Pages (granularityOf (w .state))
   pub room : offsetOf (w .state) + lastEnd (entriesIn (w .state)) < 2 ^ 64
+  pub block : length (w .state) ≡ 108
+  pub lengths : lengthsFit (granularityOf (w .state)) (entriesIn (w .state)) (w .registered) (w .failed) ≡ true
 
--- ---- the layout stands in the words that no request uses
+-- ---- the settings stand in the words that no request uses
 
-entries-of : List ℕ → List MemoryRangeWithNode
-entries-of tail = entriesOf (take (3 * getD tail 2 0) (drop 3 tail))
+ram-in : List ℕ → List ℕ
+ram-in tail = take (3 * getD tail 2 0) (drop 3 tail)
 
-entries-tail : (s : List ℕ) → entriesIn s ≡ entries-of (drop 9 s)
-unfolding entries-of
-entries-tail s =
-    ap₂ (λ (n : ℕ) (l : List ℕ). entriesOf (take (3 * n) l)) (sym (getD-drop 9 s 2 0)) (sym (drop-drop 3 9 s))
+ram-tail : (s : List ℕ) → ramOf s ≡ ram-in (drop 9 s)
+unfolding ram-in
+ram-tail s = ap₂ (λ (n : ℕ) (l : List ℕ). take (3 * n) l) (sym (getD-drop 9 s 2 0)) (sym (drop-drop 3 9 s))
 
-kept-entries : (s t : List ℕ) → drop 9 t ≡ drop 9 s → entriesIn t ≡ entriesIn s
-kept-entries s t e = entries-tail t ∙ ap entries-of e ∙ sym (entries-tail s)
+module _ (s t : List ℕ) (e : drop 9 t ≡ drop 9 s) where
+  pub kept-ram : ramOf t ≡ ramOf s
+  kept-ram = ram-tail t ∙ ap ram-in e ∙ sym (ram-tail s)
 
-kept-order : (s t : List ℕ) → drop 9 t ≡ drop 9 s → ordered 0 (entriesIn s) ≡ true → ordered 0 (entriesIn t) ≡ true
-kept-order s t e h = ap (ordered 0) (kept-entries s t e) ∙ h
+  kept-entries : entriesIn t ≡ entriesIn s
+  kept-entries = ap entriesOf kept-ram
 
-kept-room : (s t : List ℕ) → drop 9 t ≡ drop 9 s → offsetOf s + lastEnd (entriesIn s) < 2 ^ 64 → offsetOf t + lastEnd (entriesIn t) < 2 ^ 64
-kept-room s t e h =
-    let same : offsetOf t ≡ offsetOf s = sym (getD-drop 9 t 0 0) ∙ ap (λ (l : List ℕ). getD l 0 0) e ∙ getD-drop 9 s 0 0 in
-    omega (arith, h, same, ap lastEnd (kept-entries s t e))
+  pub kept-offset : offsetOf t ≡ offsetOf s
+  kept-offset = sym (getD-drop 9 t 0 0) ∙ ap (λ (l : List ℕ). getD l 0 0) e ∙ getD-drop 9 s 0 0
 
-kept-fits : (s t : List ℕ) (q : Request) → drop 9 t ≡ drop 9 s → Fits (lastEnd (entriesIn s)) q → Fits (lastEnd (entriesIn t)) q
-kept-fits s t q e f = fits-at (lastEnd (entriesIn s)) (lastEnd (entriesIn t)) q (sym (ap lastEnd (kept-entries s t e))) f
+  pub kept-granularity : granularityOf t ≡ granularityOf s
+  kept-granularity = sym (getD-drop 9 t 1 0) ∙ ap (λ (l : List ℕ). getD l 1 0) e ∙ getD-drop 9 s 1 0
 
-kept-pages : (s t : List ℕ) → drop 9 t ≡ drop 9 s → Pages (granularityOf s) → Pages (granularityOf t)
-kept-pages s t e k =
-    let same : granularityOf t ≡ granularityOf s = sym (getD-drop 9 t 1 0) ∙ ap (λ (l : List ℕ). getD l 1 0) e ∙ getD-drop 9 s 1 0 in
-    record { pages = k .pages; some = k .some; whole = same ∙ k .whole }
+-- bitmaps of the same lengths fit alike
+lengths-same : (g h : ℕ) (es fs : List MemoryRangeWithNode) (r m f n : List ℕ) → g ≡ h → es ≡ fs → length r ≡ length m → length f ≡ length n → lengthsFit g es r f ≡ lengthsFit h fs m n
+lengths-same g h es fs r m f n eg ee er ef =
+    ap₂ (λ (x y : ℕ). eqb x (mapWords g es) && eqb y (mapWords g es)) er ef
+    ∙ ap₂ (λ (g : ℕ) (es : List MemoryRangeWithNode). eqb (length m) (mapWords g es) && eqb (length n) (mapWords g es)) eg ee
 
 -- ---- a build
 
-entries-built : (ram : List ℕ) (o g : ℕ) → Fit ram → entriesIn (builtState ram o g) ≡ entriesOf ram
-entries-built ram o g k =
+pub ram-built : (ram : List ℕ) (o g : ℕ) → Fit ram → ramOf (builtState ram o g) ≡ ram
+ram-built ram o g k =
     let n : length ram ≡ 3 * length (entriesOf ram) = omega (arith, k .divided, entries-count ram) in
-    ap entriesOf (take-at ram (replicate (96 - length ram) 0) (3 * length (entriesOf ram)) n)
+    take-at ram (replicate (96 - length ram) 0) (3 * length (entriesOf ram)) n
+
+built-length : (ram : List ℕ) (o g : ℕ) → Fit ram → length (builtState ram o g) ≡ 108
+built-length ram o g k =
+    omega (arith, length-append ram (replicate (96 - length ram) 0), length-replicate {A = ℕ} (96 - length ram) 0, k .divided, k .few, entries-count ram)
 
 zeros-words : (n : ℕ) → Words (replicate n 0)
 zeros-words n j = ⊎-elim inside outside (lt-or-le j n)
@@ -83,16 +90,24 @@ zeros-words n j = ⊎-elim inside outside (lt-or-le j n)
     outside l = rw (List·getD-eq-default {A = ℕ} (replicate n 0) 0 {n = j} (omega (arith, length-replicate {A = ℕ} n 0))) (omega arith)
 
 pub built-sound : (w : World) (ram : List ℕ) (o g : ℕ) → buildRefusal w ram o g ≡ 0 → Sound (buildOf w ram o g .world)
-unfolding buildOf buildRefusal
+unfolding buildOf
 built-sound w ram o g z =
-    let a = passed (not (eqb (refusalOf ram) 1)) 0 _ z in
-    let b = passed (eqb (o % 4096) 0) 0 _ (a .1) in
-    let d = passed (ltb (o + lastEnd (entriesOf ram)) (2 ^ 64)) 0 _ (b .1) in
-    let e = passed (eqb (refusalOf ram) 0) 1 _ (d .1) in
-    let k : Fit ram = fit ram (eqb-true (refusalOf ram) 0 (e .0)) in
-    let p = both-true (leb 4096 g) (isPower g) (passed (leb 4096 g && isPower g) 8 _ (e .1) .0) in
+    let t : BuildFits w ram o g = build-fits w ram o g z in
+    let k : Fit ram = fit ram (t .layout) in
+    let es : entriesIn (builtState ram o g) ≡ entriesOf ram = ap entriesOf (ram-built ram o g k) in
     rw (eq-eqb (buildRefusal w ram o g) 0 z)
-    (record { in-order = ap (ordered 0) (entries-built ram o g k) ∙ k .in-order; words = zeros-words (length (w .registered)); request = idle-fits _; pages = fit-pages g (p .0) (p .1); room = omega (arith, ltb-true (o + lastEnd (entriesOf ram)) (2 ^ 64) (d .0), ap lastEnd (entries-built ram o g k)) })
+    (record {
+      in-order = ap (ordered 0) es ∙ k .in-order;
+      words = zeros-words (length (w .registered));
+      request = idle-fits _;
+      pages = fit-pages g (t .fine) (t .power);
+      room = omega (arith, t .room, ap lastEnd es);
+      block = built-length ram o g k;
+      lengths =
+          lengths-same g g (entriesIn (builtState ram o g)) (entriesOf ram) (replicate (length (w .registered)) 0) (w .registered) (replicate (length (w .failed)) 0) (w .failed) refl es
+          (length-replicate {A = ℕ} (length (w .registered)) 0) (length-replicate {A = ℕ} (length (w .failed)) 0)
+          ∙ t .lengths;
+    })
 
 build-sound : (w : World) (ram : List ℕ) (o g : ℕ) → Sound w → Sound (buildOf w ram o g .world)
 unfolding buildOf
@@ -112,21 +127,61 @@ decided-sound w n o h k = go (eqb n 0)
     go true = k
     go false = h
 
+-- another request in the state block, and bitmaps of the same lengths
+sound-with : (w : World) (q : Request) (r f : List ℕ) → Sound w → Fits (lastEnd (entriesIn (w .state))) q → Words r → length r ≡ length (w .registered)
+    → length f ≡ length (w .failed) → Sound (world (withRequest q (w .state)) r f)
+sound-with w q r f h k words er ef =
+    let t : List ℕ = withRequest q (w .state) in
+    let es : entriesIn t ≡ entriesIn (w .state) = kept-entries (w .state) t refl in
+    let eg : granularityOf t ≡ granularityOf (w .state) = kept-granularity (w .state) t refl in
+    record {
+      in-order = ap (ordered 0) es ∙ h .in-order;
+      words = words;
+      request = fits-at _ _ q (sym (ap lastEnd es)) k;
+      pages = record { pages = h .pages .pages; some = h .pages .some; whole = eg ∙ h .pages .whole };
+      room = omega (arith, h .room, kept-offset (w .state) t refl, ap lastEnd es);
+      block = omega (arith, h .block, length-drop 9 (w .state));
+      lengths = lengths-same (granularityOf t) (granularityOf (w .state)) (entriesIn t) (entriesIn (w .state)) r (w .registered) f (w .failed) eg es er ef ∙ h .lengths;
+    }
+
+-- more chunks registered
+sound-marked : (w : World) (a b : ℕ) → Sound w → Sound (world (w .state) (marked a b (w .registered)) (w .failed))
+sound-marked w a b h =
+    record {
+      in-order = h .in-order;
+      words = marked-words a b (w .registered) (h .words);
+      request = h .request;
+      pages = h .pages;
+      room = h .room;
+      block = h .block;
+      lengths =
+          lengths-same (granularityOf (w .state)) (granularityOf (w .state)) (entriesIn (w .state)) (entriesIn (w .state)) (marked a b (w .registered)) (w .registered) (w .failed) (w .failed)
+          refl refl (marked-length a b (w .registered)) refl
+          ∙ h .lengths;
+    }
+
 carried-sound : (w : World) (p : Plan) → Sound w → Fits (lastEnd (entriesIn (w .state))) (p .request) → Sound (carriedOut w p .world)
 carried-sound w p h f =
-    record { in-order = kept-order (w .state) (withRequest (p .request) (w .state)) refl (h .in-order); words = marked-words (p .from) (p .to) (w .registered) (h .words); request = kept-fits (w .state) (withRequest (p .request) (w .state)) (p .request) refl f; pages = kept-pages (w .state) (withRequest (p .request) (w .state)) refl (h .pages); room = kept-room (w .state) (withRequest (p .request) (w .state)) refl (h .room) }
+    sound-with w (p .request) (marked (p .from) (p .to) (w .registered)) (w .failed) h f (marked-words (p .from) (p .to) (w .registered) (h .words))
+    (marked-length (p .from) (p .to) (w .registered)) refl
 
 pub call-sound : (w : World) (x : Call) → Sound w → Sound (give w x .world)
 unfolding give registerOf allOf doneOf failedOf
 call-sound w (Build ram o g) h = build-sound w ram o g h
-call-sound w (RegisterRange a l) h = decided-sound w (registerRefusal w a l) (carriedOut w (registerPlan w a l)) h (carried-sound w (registerPlan w a l) h (register-asks w (h .in-order) 0 (firstChunk (granularityOf (w .state)) a) (endChunk (granularityOf (w .state)) a l)))
-call-sound w (RegisterAll al ig) h = decided-sound w (allRefusal w al ig) (carriedOut w (allPlan w al ig)) h (carried-sound w (allPlan w al ig) h (all-asks w (h .in-order) 0 al ig 0))
+call-sound w (RegisterRange a l) h =
+    let g : ℕ = granularityOf (w .state) in
+    decided-sound w (registerRefusal w a l) (carriedOut w (registerPlan w a l)) h
+    (carried-sound w (registerPlan w a l) h (register-asks w (h .in-order) 0 (firstChunk g a) (endChunk g a l)))
+call-sound w (RegisterAll al ig) h =
+    decided-sound w (allRefusal w al ig) (carriedOut w (allPlan w al ig)) h (carried-sound w (allPlan w al ig) h (all-asks w (h .in-order) 0 al ig 0))
 call-sound w AnswerDone h =
-    let q : Request = requestOf (w .state) in
-    let v : Sound (afterTaken w) = record { in-order = h .in-order; words = marked-words (q .from) (takenTo (w .state)) (w .registered) (h .words); request = h .request; pages = h .pages; room = h .room } in
-    decided-sound w (answerRefusal w) (carriedOut (afterTaken w) (donePlan (afterTaken w))) h (carried-sound (afterTaken w) (donePlan (afterTaken w)) v (done-asks (afterTaken w) (h .in-order) (h .request)))
+    let v : World = afterTaken w in
+    decided-sound w (answerRefusal w) (carriedOut v (donePlan v)) h
+    (carried-sound v (donePlan v) (sound-marked w (requestOf (w .state) .from) (takenTo (w .state)) h) (done-asks v (h .in-order) (h .request)))
 call-sound w AnswerFailed h =
-    decided-sound w (answerRefusal w) _ h (record { in-order = kept-order (w .state) (withRequest idle (w .state)) refl (h .in-order); words = h .words; request = idle-fits _; pages = kept-pages (w .state) (withRequest idle (w .state)) refl (h .pages); room = kept-room (w .state) (withRequest idle (w .state)) refl (h .room) })
+    let q : Request = requestOf (w .state) in
+    decided-sound w (answerRefusal w) _ h
+    (sound-with w idle (w .registered) (marked (q .from) (q .to) (w .failed)) h (idle-fits _) (h .words) refl (marked-length (q .from) (q .to) (w .failed)))
 
 -- any list of calls and answers
 pub always-sound : (xs : List Call) (w : World) → Sound w → Sound (after w xs)
@@ -134,56 +189,44 @@ unfolding after
 always-sound [] w h = h
 always-sound (x ∷ xs) w h = always-sound xs (give w x .world) (call-sound w x h)
 
--- THE CLAIMS of the whole call, of a registrar from its build on
-pub register-always-whole : (w : World) (ram : List ℕ) (o g : ℕ) (xs : List Call) (address len : ℕ) (bs : List Bool) → let v : World = after (buildOf w ram o g .world) xs in
-    buildRefusal w ram o g ≡ 0 → registerRefusal v address len ≡ 0 → Match 0 (follow (registerOf v address len) bs) (wholeRegister v address len bs)
-register-always-whole w ram o g xs address len bs z n =
-    let s = always-sound xs (buildOf w ram o g .world) (built-sound w ram o g z) in
-    register-is-whole (after (buildOf w ram o g .world) xs) address len bs n (s .in-order) (s .words)
+module _ (w : World) (ram : List ℕ) (o g : ℕ) (z : buildRefusal w ram o g ≡ 0) (xs : List Call) where
+  abbrev v : World
+  v = after (buildOf w ram o g .world) xs
 
-pub all-always-whole : (w : World) (ram : List ℕ) (o g : ℕ) (xs : List Call) (al ig : ℕ) (bs : List Bool) → let v : World = after (buildOf w ram o g .world) xs in
-    buildRefusal w ram o g ≡ 0 → allRefusal v al ig ≡ 0 → Match 0 (follow (allOf v al ig) bs) (wholeAll v al ig bs)
-all-always-whole w ram o g xs al ig bs z n =
-    let s = always-sound xs (buildOf w ram o g .world) (built-sound w ram o g z) in
-    all-is-whole (after (buildOf w ram o g .world) xs) al ig bs n (s .in-order)
+  pub sound-from : Sound v
+  sound-from = always-sound xs (buildOf w ram o g .world) (built-sound w ram o g z)
 
--- THE CLAIM of a request whose chunks are all registered: it is Ok, asks for nothing and changes no word
-registered-kept : (w : World) (address len : ℕ) → let g : ℕ = granularityOf (w .state) in Sound w → registerRefusal w address len ≡ 0
-    → ((c : ℕ) → firstChunk g address ≤ c → c < endChunk g address len → bitAt 64 (w .registered) c ≡ true) → registerOf w address len ≡ record { world = w; reply = flatOf (Done 0) }
-unfolding registerOf registerRefusal
-registered-kept w address len s z h =
-    let g : ℕ = granularityOf (w .state) in
-    let a = passed (eqb (length (w .state)) 108) 3 _ z in
-    let b = passed (eqb (requestOf (w .state) .kind) 0) 18 _ (a .1) in
-    let i : isIdle (requestOf (w .state)) ≡ true = ap isIdle (s .request .rests (eqb-true _ _ (b .0))) in
-    let f : firstNot (bitAt 64 (w .registered)) (firstChunk g address) (endChunk g address len) ≡ max (firstChunk g address) (endChunk g address len) = first-all (bitAt 64 (w .registered)) (firstChunk g address) (endChunk g address len) h in
-    let k : isKnown (w .state) (w .registered) (firstChunk g address) (endChunk g address len) ≡ true = and-true (isIdle (requestOf (w .state))) _ i (le-leb (endChunk g address len) _ (omega (arith, f))) in
-    rw (eq-eqb (registerRefusal w address len) 0 z) (sym (known-kept w address len (eqb-true _ _ (a .0)) k))
+  -- THE CLAIMS of the whole call, of a registrar from its build on
+  pub register-always-whole : RegisterWhole v
+  register-always-whole address len bs n = register-is-whole v address len bs n (sound-from .in-order) (sound-from .words)
 
-pub registered-always-kept : (w : World) (ram : List ℕ) (o g : ℕ) (xs : List Call) (address len : ℕ) → let v : World = after (buildOf w ram o g .world) xs in
-    let k : ℕ = granularityOf (v .state) in
-    buildRefusal w ram o g ≡ 0 → registerRefusal v address len ≡ 0
-    → ((c : ℕ) → firstChunk k address ≤ c → c < endChunk k address len → bitAt 64 (v .registered) c ≡ true) → registerOf v address len ≡ record { world = v; reply = flatOf (Done 0) }
-registered-always-kept w ram o g xs address len z n h =
-    registered-kept (after (buildOf w ram o g .world) xs) address len (always-sound xs (buildOf w ram o g .world) (built-sound w ram o g z)) n h
+  pub all-always-whole : AllWhole v
+  all-always-whole al ig bs n = all-is-whole v al ig bs n (sound-from .in-order)
 
--- THE CLAIM of the chunks that a request touches: widened to pages or not, they are those of its bytes
-pub chunks-always-plain : (w : World) (ram : List ℕ) (o g : ℕ) (xs : List Call) (address len : ℕ) → let v : World = after (buildOf w ram o g .world) xs in
-    let k : ℕ = granularityOf (v .state) in
-    buildRefusal w ram o g ≡ 0 → (firstChunk k address ≡ address / k) × (endChunk k address len ≡ up (address + len) k)
-chunks-always-plain w ram o g xs address len z =
-    let v : World = after (buildOf w ram o g .world) xs in
-    let s = always-sound xs (buildOf w ram o g .world) (built-sound w ram o g z) in
-    (first-plain (granularityOf (v .state)) address len (s .pages), end-plain (granularityOf (v .state)) address len (s .pages))
+  -- THE CLAIM of a request whose chunks are all registered
+  pub registered-always-kept : RegisteredKept v
+  unfolding registerOf registerRefusal
+  registered-always-kept address len z h =
+      let g : ℕ = granularityOf (v .state) in
+      let a = passed (eqb (length (v .state)) 108) 3 _ z in
+      let b = passed (eqb (requestOf (v .state) .kind) 0) 18 _ (a .1) in
+      let i : isIdle (requestOf (v .state)) ≡ true = ap isIdle (sound-from .request .rests (eqb-true _ _ (b .0))) in
+      let f : firstNot (bitAt 64 (v .registered)) (firstChunk g address) (endChunk g address len) ≡ max (firstChunk g address) (endChunk g address len) =
+      first-all (bitAt 64 (v .registered)) (firstChunk g address) (endChunk g address len) h in
+      let k : isKnown (v .state) (v .registered) (firstChunk g address) (endChunk g address len) ≡ true =
+      and-true (isIdle (requestOf (v .state))) _ i (le-leb (endChunk g address len) _ (omega (arith, f))) in
+      rw (eq-eqb (registerRefusal v address len) 0 z) (sym (known-kept v address len (eqb-true _ _ (a .0)) k))
 
--- THE CLAIM of what is asked for: offset + address, with no number that wraps
-pub asked-always-plain : (w : World) (ram : List ℕ) (o g : ℕ) (xs : List Call) → let v : World = after (buildOf w ram o g .world) xs in
-    let q : Request = requestOf (v .state) in
-    buildRefusal w ram o g ≡ 0 → askedOf (offsetOf (v .state)) q ≡ Register (range (offsetOf (v .state) + q .start) (offsetOf (v .state) + q .end))
-asked-always-plain w ram o g xs z =
-    let v : World = after (buildOf w ram o g .world) xs in
-    let q : Request = requestOf (v .state) in
-    let s = always-sound xs (buildOf w ram o g .world) (built-sound w ram o g z) in
-    let a : (offsetOf (v .state) + q .start) % 2 ^ 64 ≡ offsetOf (v .state) + q .start = omega (arith, s .room, s .request .upward, s .request .inside) in
-    let b : (offsetOf (v .state) + q .end) % 2 ^ 64 ≡ offsetOf (v .state) + q .end = omega (arith, s .room, s .request .inside) in
-    ap₂ (λ (x y : ℕ). Register (range x y)) a b
+  -- THE CLAIM of the chunks that a request touches
+  pub chunks-always-plain : ChunksPlain v
+  chunks-always-plain address len =
+      (first-plain (granularityOf (v .state)) address len (sound-from .pages), end-plain (granularityOf (v .state)) address len (sound-from .pages))
+
+  -- THE CLAIM of what is asked for
+  pub asked-always-plain : AskedPlain v
+  asked-always-plain =
+      let q : Request = requestOf (v .state) in
+      let s : Sound v = sound-from in
+      let a : (offsetOf (v .state) + q .start) % 2 ^ 64 ≡ offsetOf (v .state) + q .start = omega (arith, s .room, s .request .upward, s .request .inside) in
+      let b : (offsetOf (v .state) + q .end) % 2 ^ 64 ≡ offsetOf (v .state) + q .end = omega (arith, s .room, s .request .inside) in
+      ap₂ (λ (x y : ℕ). Register (range x y)) a b

@@ -1,7 +1,7 @@
 -- The count that a finished call reports is the number of the operations that it asked for, in 64 bits. Assumes nothing.
 use native.Mathlib.Omega.{arith}
 use mathlib.Core.Path.{_≡_, refl, sym, ap, _∙_}
-use mathlib.Core.Bool.{Bool, true, false, cond}
+use mathlib.Core.Bool.{Bool, true, false, not, cond}
 use mathlib.Core.List.{List, [], _∷_}
 use Prim.Native.Nat.{ℕ, _+_, _*_, _%_, _^_, min}
 use lib.Dec.{eqb, ltb}
@@ -18,12 +18,15 @@ use Rattle.registrar_steps.specs.declared.Look.the-variants.{Nothing, Edge, Fai
 use Rattle.registrar_steps.specs.declared.Plan.{Plan}
 use Rattle.registrar_steps.specs.Steps.{Seen, asks, ends, more, ramFrom, passes, pieceOf, registerFrom, lookAt, found, allFrom}
 use Rattle.registrar_state.specs.World.{World, world, Outcome, requestOf, offsetOf, granularityOf, entriesIn, seenIn, flatOf, decided, registerRefusal, allRefusal, carriedOut, registerPlan, allPlan, registerOf, allOf, answerRefusal, failedOf, restOf, hasRest, donePlan, afterTaken, doneOf}
+use Rattle.registrar_claims.proofs.Steps.{counted}
 use Rattle.registrar_claims.proofs.Refusals.{register-taken, all-taken, answer-taken}
-use Rattle.registrar_claims.specs.Runs.{notRefused, Told, answerOf, before, asksFor, follow}
+use Rattle.registrar_claims.specs.Runs.{notRefused, answerOf, before, asksFor, follow}
+use Rattle.registrar_claims.specs.Claims.{Counts}
 
--- a plan of a call that has asked n times: asking once more, or reporting n
-abbrev PlanCounts : ℕ → Plan → Type 0
-PlanCounts n p = (flatOf (p .answer) .asked ≡ 1 → p .request .count ≡ more n) × (flatOf (p .answer) .asked ≡ 0 → flatOf (p .answer) .count ≡ n)
+-- a plan of a call that has asked n times: asking once more, or reporting n; and it asks where its request is of a kind
+abbrev pub PlanCounts : ℕ → Plan → Type 0
+PlanCounts n p =
+    (flatOf (p .answer) .asked ≡ 1 → p .request .count ≡ more n) × (flatOf (p .answer) .asked ≡ 0 → flatOf (p .answer) .count ≡ n) × (eqb (flatOf (p .answer) .asked) 1 ≡ not (eqb (p .request .kind) 0))
 
 no-one : {X : Type 0} → _≡_ {A = ℕ} 0 1 → X
 no-one e = absurd (omega arith)
@@ -31,7 +34,7 @@ no-one e = absurd (omega arith)
 no-zero : {X : Type 0} → _≡_ {A = ℕ} 1 0 → X
 no-zero e = absurd (omega arith)
 
-register-counts : (s : Seen) (o n c last : ℕ) → PlanCounts n (registerFrom s o n c last)
+pub register-counts : (s : Seen) (o n c last : ℕ) → PlanCounts n (registerFrom s o n c last)
 unfolding registerFrom
 register-counts s o n c last =
     let e : ℕ = min last (chunkCount (s .granularity) (s .entries)) in
@@ -40,22 +43,22 @@ register-counts s o n c last =
   where
     go : (t : ℕ) (x y : Bool)
         → PlanCounts n (cond x (cond y (ends c t (RegistrationFailed (t * s .granularity) n)) (asks o c t (pieceOf n t (t + 1) last (ramFrom (s .granularity) (s .entries) t (t * s .granularity))))) (ends c t (Done n)))
-    go t false y = (λ e. no-one e, λ e. refl)
-    go t true true = (λ e. no-one e, λ e. refl)
-    go t true false = (λ e. refl, λ e. no-zero e)
+    go t false y = (λ e. no-one e, λ e. refl, refl)
+    go t true true = (λ e. no-one e, λ e. refl, refl)
+    go t true false = (λ e. refl, λ e. no-zero e, refl)
 
-all-counts : (s : Seen) (o n al ignore c : ℕ) (rs : List MemoryRange) → PlanCounts n (allFrom s o n al ignore c rs)
+pub all-counts : (s : Seen) (o n al ignore c : ℕ) (rs : List MemoryRange) → PlanCounts n (allFrom s o n al ignore c rs)
 unfolding allFrom
-all-counts s o n al ignore c [] = (λ e. no-one e, λ e. refl)
+all-counts s o n al ignore c [] = (λ e. no-one e, λ e. refl, refl)
 all-counts s o n al ignore c (r ∷ rs) = go (lookAt (s .granularity) (s .registered) (s .failed) al ignore c r) (all-counts s o n al ignore c rs)
   where
     go : (l : Look) → PlanCounts n (allFrom s o n al ignore c rs) → PlanCounts n (found (s .entries) o n al ignore r l (allFrom s o n al ignore c rs))
     go Nothing h = h
-    go (Edge e) h = (λ e. no-one e, λ e. refl)
-    go (FailedBefore x) h = (λ e. no-one e, λ e. refl)
-    go (Stretch a b x y) h = (λ e. refl, λ e. no-zero e)
+    go (Edge e) h = (λ e. no-one e, λ e. refl, refl)
+    go (FailedBefore x) h = (λ e. no-one e, λ e. refl, refl)
+    go (Stretch a b x y) h = (λ e. refl, λ e. no-zero e, refl)
 
-done-counts : (w : World) → PlanCounts (requestOf (w .state) .count) (donePlan w)
+pub done-counts : (w : World) → PlanCounts (requestOf (w .state) .count) (donePlan w)
 done-counts w =
     let q : Request = requestOf (w .state) in
     go (hasRest (w .state)) (eqb (q .kind) 1) _ _ (register-counts (seenIn w) (offsetOf (w .state)) (q .count) (q .to) (q .until))
@@ -64,7 +67,7 @@ done-counts w =
     go : (x y : Bool) (a b : Plan) → PlanCounts (requestOf (w .state) .count) a → PlanCounts (requestOf (w .state) .count) b
         → PlanCounts (requestOf (w .state) .count)
         (cond x (asks (offsetOf (w .state)) 0 0 (pieceOf (requestOf (w .state) .count) (requestOf (w .state) .from) (requestOf (w .state) .to) (requestOf (w .state) .until) (restOf (w .state)))) (cond y a b))
-    go true y a b h k = (λ e. refl, λ e. no-zero e)
+    go true y a b h k = (λ e. refl, λ e. no-zero e, refl)
     go false true a b h k = h
     go false false a b h k = k
 
@@ -83,10 +86,7 @@ decided-counted k n w o z h = go (eqb n 0) refl
     go false e = (λ q. no-one q, λ q y. absurd (eqb-false n 0 e (z y)))
 
 plan-counted : (k n : ℕ) (w : World) (p : Plan) → n ≡ k % 2 ^ 64 → PlanCounts n p → Counted k (carriedOut w p)
-plan-counted k n w p e h = (λ q. h .0 q ∙ ap more e ∙ once k, λ q t. h .1 q ∙ e)
-  where
-    once : (k : ℕ) → more (k % 2 ^ 64) ≡ (k + 1) % 2 ^ 64
-    once k = omega arith
+plan-counted k n w p e h = (λ q. h .0 q ∙ ap more e ∙ counted k, λ q t. h .1 q ∙ e)
 
 register-counted : (w : World) (a l : ℕ) → Counted 0 (registerOf w a l)
 unfolding registerOf
@@ -129,13 +129,11 @@ follow-counts (b ∷ bs) k o h = go (eqb (o .reply .asked) 1) refl (follow-count
         more (answer-counted b (k + 1) (o .world) (h .0 (eqb-true _ _ e))) z y ∙ ap (λ (n : ℕ). n % 2 ^ 64) (omega arith)
     go false e more z y = h .1 z y ∙ ap (λ (n : ℕ). n % 2 ^ 64) (omega arith)
 
--- THE CLAIMS: a call that has ended, with Ok, 22 or 23, after any answers
-pub register-counts-operations : (w : World) (address len : ℕ) (bs : List Bool) → let t : Told = follow (registerOf w address len) bs in
-    t .last .reply .asked ≡ 0 → notRefused (t .last .reply .number) ≡ true → t .last .reply .count ≡ length (t .asked) % 2 ^ 64
+-- THE CLAIMS: a call that has ended, after any answers
+pub register-counts-operations : (w : World) (address len : ℕ) (bs : List Bool) → Counts (follow (registerOf w address len) bs)
 register-counts-operations w address len bs z y =
     follow-counts bs 0 (registerOf w address len) (register-counted w address len) z y ∙ ap (λ (n : ℕ). n % 2 ^ 64) (omega arith)
 
-pub all-counts-operations : (w : World) (al ignore : ℕ) (bs : List Bool) → let t : Told = follow (allOf w al ignore) bs in
-    t .last .reply .asked ≡ 0 → notRefused (t .last .reply .number) ≡ true → t .last .reply .count ≡ length (t .asked) % 2 ^ 64
+pub all-counts-operations : (w : World) (al ignore : ℕ) (bs : List Bool) → Counts (follow (allOf w al ignore) bs)
 all-counts-operations w al ignore bs z y =
     follow-counts bs 0 (allOf w al ignore) (all-counted w al ignore) z y ∙ ap (λ (n : ℕ). n % 2 ^ 64) (omega arith)

@@ -7,24 +7,26 @@ use mathlib.Core.List.{List, [], _∷_}
 use Prim.Native.Nat.{ℕ, zero, suc, _+_, _-_, _*_, _/_, _^_, _≤_, _<_, min, max}
 use native.Mathlib.Nat.{mul-le-mul-right, suc-mul}
 use lib.Dec.{eqb, leb, ltb}
-use lib.ListN.{length}
-use borrow.Author.Tests.{eqb-true, eqb-false, eq-eqb, ne-eqb, ltb-true, leb-false, not-true}
+use lib.ListN.{length, replicate}
+use borrow.Author.Tests.{eqb-false, eq-eqb, ne-eqb, ltb-true, leb-false, not-true, not-false}
 use Rattle.laws.specs.Bools.{digit, and-right, both-true, false≢true}
 use Rattle.laws.specs.Refusal.{unless, passed}
 use Rattle.bitmap.specs.Pages.{bitAt}
 use Rattle.layout.specs.declared.MemoryRange.{MemoryRange}
 use Rattle.layout.specs.Layout.{spans}
 use Rattle.chunks.specs.Chunks.{chunkCount, firstChunk, endChunk, isPower, empty, part, pieces, firstOf, firstNotOf, firstNot, alike, alignedPart, edgeOf}
-use Rattle.chunks.specs.Scan.{first-step, first-from}
+use Rattle.chunks.proofs.Scan.{first-step, first-from}
 use Rattle.registrar_steps.specs.declared.Request.{Request}
-use Rattle.registrar_steps.specs.declared.Answer.the-variants.{Done, RegistrationFailed, Refused}
+use Rattle.registrar_steps.specs.declared.Answer.the-variants.{Done, RegistrationFailed}
 use Rattle.registrar_steps.specs.declared.Look.{Look}
 use Rattle.registrar_steps.specs.declared.Look.the-variants.{Nothing, Edge, FailedBefore, Stretch}
 use Rattle.registrar_steps.specs.Steps.{Seen, idle, asks, ends, more, ramFrom, passes, pieceOf, registerFrom, stretchIn, lookAt, found, allFrom}
-use Rattle.registrar_state.specs.World.{World, Outcome, outcome, requestOf, withRequest, offsetOf, granularityOf, entriesIn, seenIn, flatOf, decided, buildRefusal, buildOf, lengthsFit, callRefusal, chunksFit, registerRefusal, allRefusal, marked, carriedOut, registerPlan, allPlan, registerOf, allOf, answerRefusal, failedOf, restOf, hasRest, donePlan, afterTaken, doneOf}
-use Rattle.registrar_claims.specs.Runs.{Call, Build, RegisterRange, RegisterAll, AnswerDone, AnswerFailed, give, notRefused, leftOf, left, after, takenIn, isAnswer, onlyAnswers, answering}
+use Rattle.registrar_state.specs.World.{World, Outcome, requestOf, offsetOf, granularityOf, entriesIn, seenIn, decided, buildRefusal, buildOf, lengthsFit, callRefusal, chunksFit, registerRefusal, allRefusal, carriedOut, registerPlan, allPlan, registerOf, allOf, answerRefusal, failedOf, restOf, hasRest, donePlan, afterTaken, doneOf}
+use Rattle.registrar_claims.specs.Runs.{Call, Build, RegisterRange, RegisterAll, AnswerDone, AnswerFailed, give, isBuild, isTaken, underWay, leftOf, left, after, takenIn, isAnswer, onlyAnswers, answersIn}
+use Rattle.registrar_claims.specs.Ends.{RequestEnds}
 use Rattle.registrar_claims.proofs.Refusals.{answer-taken, refused-keeps}
-use Rattle.registrar_claims.proofs.Built.{Sound, built-sound, call-sound, always-sound}
+use Rattle.registrar_claims.proofs.Built.{Sound, call-sound, always-sound, sound-from}
+use Rattle.registrar_claims.proofs.Stands.{taken-zero, answer-passes, done-taken, failed-taken, done-refused, failed-refused}
 
 module _ (P : ℕ → Bool) where
   first-of-not : (n c : ℕ) → firstNotOf P c n < c + n → P (firstNotOf P c n) ≡ false
@@ -190,97 +192,147 @@ pub done-lowers : (w : World) → answerRefusal w ≡ 0 → requestOf (w .state)
 unfolding doneOf
 done-lowers w h bt be = rw (eq-eqb (answerRefusal w) 0 h) (plan-lowers (afterTaken w) (asked-kind w h) bt be)
 
--- ---- a list of calls
+-- ---- one call
 
--- an answer that is taken is not refused
-not-refused : (w : World) (o : Outcome) → notRefused (decided w (answerRefusal w) o .reply .number) ≡ true → answerRefusal w ≡ 0
-not-refused w o = go (eqb (answerRefusal w) 0) refl
-  where
-    go : (t : Bool) → eqb (answerRefusal w) 0 ≡ t → notRefused (cond t o (record { world = w; reply = flatOf (Refused (answerRefusal w)) }) .reply .number) ≡ true → answerRefusal w ≡ 0
-    go true e h = eqb-true _ _ e
-    go false e h = answer-taken w h
-
-done-taken : (w : World) → notRefused (doneOf w .reply .number) ≡ true → answerRefusal w ≡ 0
+done-number : (w : World) → isTaken (doneOf w) ≡ true → answerRefusal w ≡ 0
 unfolding doneOf
-done-taken w h = not-refused w (carriedOut (afterTaken w) (donePlan (afterTaken w))) h
+done-number w h = taken-zero w (answerRefusal w) (carriedOut (afterTaken w) (donePlan (afterTaken w))) (answer-taken w) h
 
-failed-taken : (w : World) → notRefused (failedOf w .reply .number) ≡ true → answerRefusal w ≡ 0
+failed-number : (w : World) → isTaken (failedOf w) ≡ true → answerRefusal w ≡ 0
 unfolding failedOf
-failed-taken w h =
-    let q : Request = requestOf (w .state) in
-    not-refused w (outcome (withRequest idle (w .state)) (w .registered) (marked (q .from) (q .to) (w .failed)) (flatOf (RegistrationFailed (q .start) (q .count)))) h
+failed-number w h = taken-zero w (answerRefusal w) _ (answer-taken w) h
 
-answer-lowers : (w : World) (x : Call) → Sound w → isAnswer x ≡ true → notRefused (give w x .reply .number) ≡ true → left (give w x .world) < left w
+answer-lowers : (w : World) (x : Call) → Sound w → isAnswer x ≡ true → isTaken (give w x) ≡ true → left (give w x .world) < left w
 unfolding give
 answer-lowers w (Build ram o g) s i h = false≢true i
 answer-lowers w (RegisterRange a l) s i h = false≢true i
 answer-lowers w (RegisterAll al ig) s i h = false≢true i
-answer-lowers w AnswerDone s i h = done-lowers w (done-taken w h) (s .request .to-fits) (s .request .end-fits)
-answer-lowers w AnswerFailed s i h = failed-lowers w (failed-taken w h)
+answer-lowers w AnswerDone s i h = done-lowers w (done-number w h) (s .request .to-fits) (s .request .end-fits)
+answer-lowers w AnswerFailed s i h = failed-lowers w (failed-number w h)
+
+-- an answer is taken where something is asked for
+answer-answered : (w : World) (x : Call) → Sound w → isAnswer x ≡ true → isTaken (give w x) ≡ underWay w
+unfolding give
+answer-answered w (Build ram o g) s i = false≢true i
+answer-answered w (RegisterRange a l) s i = false≢true i
+answer-answered w (RegisterAll al ig) s i = false≢true i
+answer-answered w AnswerDone s i = go (underWay w) refl
+  where
+    go : (t : Bool) → underWay w ≡ t → isTaken (doneOf w) ≡ t
+    go true e = done-taken w s e
+    go false e = ap isTaken (done-refused w s e)
+answer-answered w AnswerFailed s i = go (underWay w) refl
+  where
+    go : (t : Bool) → underWay w ≡ t → isTaken (failedOf w) ≡ t
+    go true e = failed-taken w s e
+    go false e = ap isTaken (failed-refused w s e)
+
+-- meanwhile register and register_all_aligned are refused
+busy-refused : (w : World) (rest : ℕ) (o : Outcome) → underWay w ≡ true → isTaken (decided w (callRefusal w rest) o) ≡ false
+busy-refused w rest o k = rw (not-true (eqb (requestOf (w .state) .kind) 0) k) (go (eqb (length (w .state)) 108))
+  where
+    go : (t : Bool) → isTaken (decided w (unless t 4 19) o) ≡ false
+    go true = refl
+    go false = refl
+
+call-busy : (w : World) (x : Call) → underWay w ≡ true → isAnswer x ≡ false → isBuild x ≡ false → isTaken (give w x) ≡ false
+unfolding give registerOf registerRefusal allOf allRefusal
+call-busy w (Build ram o g) k a b = false≢true (sym b)
+call-busy w (RegisterRange address len) k a b =
+    let g : ℕ = granularityOf (w .state) in
+    busy-refused w (unless (chunksFit (w .state) (firstChunk g address) (endChunk g address len)) 9 0) (carriedOut w (registerPlan w address len)) k
+call-busy w (RegisterAll al ig) k a b =
+    busy-refused w (unless (leb ig 1) 8 (unless (leb (granularityOf (w .state)) al && isPower al) 9 0)) (carriedOut w (allPlan w al ig)) k
+call-busy w AnswerDone k a b = false≢true (sym a)
+call-busy w AnswerFailed k a b = false≢true (sym a)
+
+-- ---- a list of calls
 
 -- all answers that are taken, together
 answers-lower : (xs : List Call) (w : World) → Sound w → onlyAnswers w xs ≡ true → takenIn w xs + left (after w xs) ≤ left w
 unfolding takenIn after onlyAnswers
 answers-lower [] w s o = omega arith
 answers-lower (x ∷ xs) w s o =
-    let a = both-true (isAnswer x || not (notRefused (give w x .reply .number))) _ o in
-    go (notRefused (give w x .reply .number)) refl (isAnswer x) refl (a .0) (answers-lower xs (give w x .world) (call-sound w x s) (a .1))
+    let a = both-true (isAnswer x || not (isTaken (give w x))) _ o in
+    go (isTaken (give w x)) refl (isAnswer x) refl (a .0) (answers-lower xs (give w x .world) (call-sound w x s) (a .1))
   where
-    go : (t : Bool) → notRefused (give w x .reply .number) ≡ t → (b : Bool) → isAnswer x ≡ b → (b || not t) ≡ true
+    go : (t : Bool) → isTaken (give w x) ≡ t → (b : Bool) → isAnswer x ≡ b → (b || not t) ≡ true
         → takenIn (give w x .world) xs + left (after (give w x .world) xs) ≤ left (give w x .world)
         → digit t + takenIn (give w x .world) xs + left (after (give w x .world) xs) ≤ left w
     go true e true i k more = omega (arith, answer-lowers w x s i e, more)
     go true e false i k more = false≢true k
     go false e b i k more = omega (arith, ap left (refused-keeps w x e), more)
 
-none-left : (q : Request) → leftOf q ≤ 0 → q .kind ≡ 0
-none-left q = go (eqb (q .kind) 0) refl
+-- the number is 0 where nothing is under way, and nowhere else
+none-left : (w : World) → left w ≤ 0 → underWay w ≡ false
+none-left w = go (eqb (requestOf (w .state) .kind) 0)
   where
-    go : (t : Bool) → eqb (q .kind) 0 ≡ t → cond t 0 (suc ((2 ^ 64 - q .to) * 2 ^ 65 + (2 ^ 64 - q .end))) ≤ 0 → q .kind ≡ 0
-    go true e h = eqb-true _ _ e
-    go false e h = absurd (omega arith)
+    go : (t : Bool) → cond t 0 (suc ((2 ^ 64 - requestOf (w .state) .to) * 2 ^ 65 + (2 ^ 64 - requestOf (w .state) .end))) ≤ 0 → not t ≡ false
+    go true h = refl
+    go false h = absurd (omega arith)
 
--- THE CLAIM: whatever calls a registrar has had since its build, a request that is under way ends once `left` answers are taken, done or failed in any
--- order, with any refused calls between them
-pub every-request-ends : (w : World) (ram : List ℕ) (o g : ℕ) (xs ys : List Call) → let v : World = after (buildOf w ram o g .world) xs in
-    buildRefusal w ram o g ≡ 0 → onlyAnswers v ys ≡ true → left v ≤ takenIn v ys → requestOf (after v ys .state) .kind ≡ 0
-every-request-ends w ram o g xs ys z a l =
-    let v : World = after (buildOf w ram o g .world) xs in
-    none-left (requestOf (after v ys .state)) (omega (arith, answers-lower ys v (always-sound xs (buildOf w ram o g .world) (built-sound w ram o g z)) a))
+some-left : (w : World) → underWay w ≡ true → 0 < left w
+some-left w h = rw (not-true (eqb (requestOf (w .state) .kind) 0) h) (omega arith)
 
--- THE CLAIM: and so do as many answers as `left` says, in any order, none of them refused while the request is under way
-answers-end-from : (ys : List Call) (w : World) → Sound w → answering w ys → left w ≤ length ys → requestOf (after w ys .state) .kind ≡ 0
-unfolding after answering
-answers-end-from [] w s u h = none-left (requestOf (w .state)) h
-answers-end-from (y ∷ ys) w s u h =
-    go (notRefused (give w y .reply .number)) refl (eqb (requestOf (w .state) .kind) 0) refl (answers-end-from ys (give w y .world) (call-sound w y s) (u .2))
+idle-left : (w : World) → underWay w ≡ false → left w ≡ 0
+idle-left w h = rw (not-false (eqb (requestOf (w .state) .kind) 0) h)
+
+-- THE CLAIM: as many answers as the number says end the request, with any refused calls between them
+pub answers-end : (xs : List Call) (w : World) → Sound w → onlyAnswers w xs ≡ true → left w ≤ answersIn xs → underWay (after w xs) ≡ false
+unfolding after onlyAnswers answersIn
+answers-end [] w s o h = none-left w h
+answers-end (x ∷ xs) w s o h =
+    let a = both-true (isAnswer x || not (isTaken (give w x))) _ o in
+    answers-end xs (give w x .world) (call-sound w x s) (a .1) (go (isTaken (give w x)) refl (isAnswer x) refl (a .0) h)
   where
-    go : (t : Bool) → notRefused (give w y .reply .number) ≡ t → (b : Bool) → eqb (requestOf (w .state) .kind) 0 ≡ b
-        → (left (give w y .world) ≤ length ys → requestOf (after (give w y .world) ys .state) .kind ≡ 0) → requestOf (after (give w y .world) ys .state) .kind ≡ 0
-    go true e b d more = more (omega (arith, h, answer-lowers w y s (u .0) e))
-    go false e false d more = false≢true (sym e ∙ u .1 (eqb-false _ _ d))
-    go false e true d more =
-        let z : left w ≡ 0 = ap (λ (t : Bool). cond t 0 (suc ((2 ^ 64 - requestOf (w .state) .to) * 2 ^ 65 + (2 ^ 64 - requestOf (w .state) .end)))) d in
-        more (omega (arith, z, ap left (refused-keeps w y e)))
+    idle : isAnswer x ≡ true → isTaken (give w x) ≡ false → left w ≡ 0
+    idle i e = idle-left w (sym (answer-answered w x s i) ∙ e)
 
-pub answers-end : (w : World) (ram : List ℕ) (o g : ℕ) (xs ys : List Call) → let v : World = after (buildOf w ram o g .world) xs in
-    buildRefusal w ram o g ≡ 0 → answering v ys → left v ≤ length ys → requestOf (after v ys .state) .kind ≡ 0
-answers-end w ram o g xs ys z a l =
-    answers-end-from ys (after (buildOf w ram o g .world) xs) (always-sound xs (buildOf w ram o g .world) (built-sound w ram o g z)) a l
+    go : (t : Bool) → isTaken (give w x) ≡ t → (b : Bool) → isAnswer x ≡ b → (b || not t) ≡ true → left w ≤ digit b + answersIn xs → left (give w x .world) ≤ answersIn xs
+    go true e true i k l = omega (arith, l, answer-lowers w x s i e)
+    go true e false i k l = false≢true k
+    go false e true i k l = omega (arith, idle i e, ap left (refused-keeps w x e))
+    go false e false i k l = omega (arith, l, ap left (refused-keeps w x e))
 
--- and until then register and register_all_aligned are refused
-busy-refused : (w : World) (rest : ℕ) (o : Outcome) → (requestOf (w .state) .kind ≡ 0 → ⊥) → notRefused (decided w (callRefusal w rest) o .reply .number) ≡ false
-busy-refused w rest o k = rw (ne-eqb (requestOf (w .state) .kind) 0 k) (go (eqb (length (w .state)) 108))
+-- done, any number of times
+done-only : (n : ℕ) (w : World) → onlyAnswers w (replicate n AnswerDone) ≡ true
+unfolding onlyAnswers
+done-only zero w = refl
+done-only (suc n) w = done-only n (give w AnswerDone .world)
+
+done-answers : (n : ℕ) → answersIn (replicate n AnswerDone) ≡ n
+unfolding answersIn
+done-answers zero = refl
+done-answers (suc n) = omega (arith, done-answers n)
+
+failed-idle : (w : World) → answerRefusal w ≡ 0 → underWay (failedOf w .world) ≡ false
+unfolding failedOf
+failed-idle w z = rw (eq-eqb (answerRefusal w) 0 z)
+
+failed-over : (w : World) → Sound w → underWay (after w (AnswerFailed ∷ [])) ≡ false
+unfolding after give
+failed-over w s = go (underWay w) refl
   where
-    go : (t : Bool) → notRefused (decided w (unless t 4 19) o .reply .number) ≡ false
-    go true = refl
-    go false = refl
+    go : (t : Bool) → underWay w ≡ t → underWay (failedOf w .world) ≡ false
+    go true e = failed-idle w (answer-passes w s e)
+    go false e = ap (λ (o : Outcome). underWay (o .world)) (failed-refused w s e) ∙ e
 
-pub busy-register : (w : World) (address len : ℕ) → (requestOf (w .state) .kind ≡ 0 → ⊥) → notRefused (registerOf w address len .reply .number) ≡ false
-unfolding registerOf registerRefusal
-busy-register w address len k = busy-refused w (unless (chunksFit (w .state) (firstChunk (granularityOf (w .state)) address) (endChunk (granularityOf (w .state)) address len)) 9 0) (carriedOut w (registerPlan w address len)) k
+requests-end : (v : World) → Sound v → RequestEnds v
+requests-end v s =
+    record {
+      falls =
+          λ xs x.
+          let u : World = after v xs in
+          let t : Sound u = always-sound xs v s in
+          record { answered = answer-answered u x t; lowers = answer-lowers u x t; busy = call-busy u x; keeps = refused-keeps u x };
+      few = λ xs o. answers-lower xs v s o;
+      still = λ xs o h. omega (arith, answers-lower xs v s o, some-left (after v xs) h);
+      ends = λ xs o l. answers-end xs v s o l;
+      heard = λ n. (done-only n v, done-answers n);
+      done-ends = answers-end (replicate (left v) AnswerDone) v s (done-only (left v) v) (omega (arith, done-answers (left v)));
+      failed-ends = failed-over v s;
+    }
 
-pub busy-all : (w : World) (al ignore : ℕ) → (requestOf (w .state) .kind ≡ 0 → ⊥) → notRefused (allOf w al ignore .reply .number) ≡ false
-unfolding allOf allRefusal
-busy-all w al ignore k =
-    busy-refused w (unless (leb ignore 1) 8 (unless (leb (granularityOf (w .state)) al && isPower al) 9 0)) (carriedOut w (allPlan w al ignore)) k
+-- THE CLAIM: whatever calls a registrar has had since its build
+pub every-request-ends : (w : World) (ram : List ℕ) (o g : ℕ) → buildRefusal w ram o g ≡ 0 → (xs : List Call) → RequestEnds (after (buildOf w ram o g .world) xs)
+every-request-ends w ram o g z xs = requests-end (after (buildOf w ram o g .world) xs) (sound-from w ram o g z xs)

@@ -1,12 +1,14 @@
 -- Calls over document 01's worked layout, computed by the definitions; P8 and P9 stand in the table of `worked`. Assumes nothing.
 use mathlib.Core.Path.{_≡_, refl}
+use mathlib.Core.Bool.{true, false}
 use mathlib.Core.List.{List, [], _∷_}
 use Prim.Native.Nat.{ℕ, _+_, _-_, _^_}
 use Rattle.bitmap.specs.Pages.{word, writtenFrom}
 use Rattle.layout.specs.Layout.{entriesOf, ordered, aligned, refusalOf, spans, spansFrom}
 use Rattle.chunks.specs.Chunks.{powerFrom, pieces, firstNotOf, entryWith}
 use Rattle.registrar_steps.specs.Steps.{registerFrom, lookAt, allFrom}
-use Rattle.registrar_state.specs.World.{World, world, Outcome, outcome, builtState, simple, buildRefusal, registerRefusal, allRefusal, registerOf, allOf, answerRefusal, failedOf, doneOf}
+use Rattle.registrar_state.specs.World.{World, world, Outcome, outcome, builtState, simple, buildRefusal, buildOf, registerRefusal, allRefusal, registerOf, allOf, answerRefusal, failedOf, doneOf}
+use Rattle.registrar_claims.specs.Runs.{Call, Build, RegisterRange, AnswerDone, give, awaitsAfter, builtWith, settingsAfter}
 
 -- RAM pages 0 to 15 and 32 to 39, in two nodes
 abbrev worked : List ℕ
@@ -19,6 +21,19 @@ built = world (builtState worked (2 ^ 40) 65536) (0 ∷ []) (0 ∷ [])
 built-fit : buildRefusal built worked (2 ^ 40) 65536 ≡ 0
 unfolding buildRefusal entriesOf ordered aligned refusalOf powerFrom
 built-fit = refl
+
+-- a state block of another length is 4 before the granularity's 9, and the bitmaps' 4 comes after it
+short-block : buildRefusal (world [] [] []) worked 0 1 ≡ 4
+unfolding buildRefusal entriesOf ordered aligned refusalOf powerFrom
+short-block = refl
+
+unfit-granularity : buildRefusal (world (builtState worked 0 1) [] []) worked 0 1 ≡ 9
+unfolding buildRefusal entriesOf ordered aligned refusalOf powerFrom
+unfit-granularity = refl
+
+no-bitmaps : buildRefusal (world (builtState worked 0 4096) [] []) worked 0 4096 ≡ 4
+unfolding buildRefusal entriesOf ordered aligned refusalOf powerFrom
+no-bitmaps = refl
 
 -- ---- register, over all three chunks: the second has no RAM
 
@@ -59,6 +74,29 @@ past-the-last = refl
 none-past-the-last : registerOf built (2 ^ 40) 0 .reply ≡ simple 0 0 0 0 0 0
 unfolding registerOf registerRefusal registerFrom entriesOf spans spansFrom pieces firstNotOf
 none-past-the-last = refl
+
+-- ---- a list of calls, told by the replies
+
+-- a call that is refused meanwhile tells nothing, and the second answer is the last
+abbrev meanwhile : List Call
+meanwhile = RegisterRange 0 163840 ∷ AnswerDone ∷ RegisterRange 0 1 ∷ []
+
+still-awaited : awaitsAfter built false meanwhile ≡ true
+unfolding awaitsAfter give doneOf answerRefusal registerOf registerRefusal registerFrom entriesOf spans spansFrom pieces firstNotOf word writtenFrom
+still-awaited = refl
+
+none-awaited : awaitsAfter built false (RegisterRange 0 163840 ∷ AnswerDone ∷ AnswerDone ∷ []) ≡ false
+unfolding awaitsAfter give doneOf answerRefusal registerOf registerRefusal registerFrom entriesOf spans spansFrom pieces firstNotOf word writtenFrom
+none-awaited = refl
+
+-- a build that is refused changes no setting, one that is taken all of them
+refused-build : settingsAfter built (builtWith worked (2 ^ 40) 65536) (Build worked 0 1 ∷ []) ≡ builtWith worked (2 ^ 40) 65536
+unfolding settingsAfter give buildOf buildRefusal entriesOf ordered aligned refusalOf powerFrom
+refused-build = refl
+
+taken-build : settingsAfter built (builtWith worked (2 ^ 40) 65536) (Build worked 0 32768 ∷ []) ≡ builtWith worked 0 32768
+unfolding settingsAfter give buildOf buildRefusal entriesOf ordered aligned refusalOf powerFrom
+taken-build = refl
 
 -- ---- register_all_aligned
 

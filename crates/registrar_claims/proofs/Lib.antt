@@ -1,5 +1,4 @@
 pub mod Refusals
-pub mod Ends
 pub mod Counts
 pub mod Spans
 pub mod Steps
@@ -7,4 +6,7 @@ pub mod Stretches
 pub mod Plain
 pub mod Requests
 pub mod Built
+pub mod Stands
+pub mod Ends
+pub mod Claims
 pub mod Examples

@@ -14,7 +14,7 @@ use Rattle.bitmap.proofs.Map.{page-law}
 use Rattle.layout.specs.declared.MemoryRange.{MemoryRange}
 use Rattle.layout.specs.Layout.{entriesOf, refusalOf, lastEnd, spans}
 use Rattle.chunks.specs.Chunks.{chunkCount, firstChunk, endChunk, isPower, firstNot}
-use Rattle.chunks.specs.Scan.{first-holds}
+use Rattle.chunks.proofs.Scan.{first-holds}
 use Rattle.registrar_steps.specs.declared.Request.{Request}
 use Rattle.registrar_steps.specs.declared.Answer.{Answer}
 use Rattle.registrar_steps.specs.declared.Answer.the-variants.{Done, Register, RegistrationFailed, UnalignedMemory, Refused}
@@ -23,18 +23,19 @@ use Rattle.registrar_steps.specs.declared.Look.the-variants.{Nothing, Edge, Fai
 use Rattle.registrar_steps.specs.declared.Plan.{Plan}
 use Rattle.registrar_steps.specs.Steps.{Seen, idle, asks, ends, ramFrom, passes, pieceOf, registerFrom, lookAt, found, allFrom}
 use Rattle.registrar_state.specs.World.{World, world, Outcome, requestOf, withRequest, offsetOf, granularityOf, entriesIn, seenIn, flatOf, decided, lengthsFit, buildRefusal, buildOf, callRefusal, chunksFit, registerRefusal, allRefusal, marked, carriedOut, registerPlan, allPlan, registerOf, allOf, answerRefusal, failedOf, restOf, hasRest, takenTo, donePlan, afterTaken, doneOf}
-use Rattle.registrar_claims.specs.Runs.{Call, Build, RegisterRange, RegisterAll, AnswerDone, AnswerFailed, give, notRefused, isBuild}
-use Rattle.registrar_claims.specs.Changes.{withTaken, withFailed, Kept}
+use Rattle.registrar_claims.specs.Runs.{Call, Build, RegisterRange, RegisterAll, AnswerDone, AnswerFailed, give, notRefused}
+use Rattle.registrar_claims.specs.Changes.{Kept, Stays}
+use Rattle.registrar_claims.specs.Claims.{RefusalsKeep, MarksStay}
 use Rattle.registrar_claims.proofs.Steps.{marked-none}
 
-plain : Answer → Bool
+pub plain : Answer → Bool
 plain (Done n) = true
 plain (Register r) = true
 plain (RegistrationFailed x n) = true
 plain (UnalignedMemory u n) = true
 plain (Refused k) = false
 
-plain-taken : (a : Answer) → plain a ≡ true → notRefused (flatOf a .number) ≡ true
+pub plain-taken : (a : Answer) → plain a ≡ true → notRefused (flatOf a .number) ≡ true
 unfolding plain
 plain-taken (Done n) h = refl
 plain-taken (Register r) h = refl
@@ -42,7 +43,7 @@ plain-taken (RegistrationFailed x n) h = refl
 plain-taken (UnalignedMemory u n) h = refl
 plain-taken (Refused k) h = false≢true h
 
-register-plain : (s : Seen) (o n c last : ℕ) → plain (registerFrom s o n c last .answer) ≡ true
+pub register-plain : (s : Seen) (o n c last : ℕ) → plain (registerFrom s o n c last .answer) ≡ true
 unfolding registerFrom plain
 register-plain s o n c last =
     let e : ℕ = min last (chunkCount (s .granularity) (s .entries)) in
@@ -55,7 +56,7 @@ register-plain s o n c last =
     go t true false = refl
     go t true true = refl
 
-all-plain : (s : Seen) (o n al ignore c : ℕ) (rs : List MemoryRange) → plain (allFrom s o n al ignore c rs .answer) ≡ true
+pub all-plain : (s : Seen) (o n al ignore c : ℕ) (rs : List MemoryRange) → plain (allFrom s o n al ignore c rs .answer) ≡ true
 unfolding allFrom plain
 all-plain s o n al ignore c [] = refl
 all-plain s o n al ignore c (r ∷ rs) = go (lookAt (s .granularity) (s .registered) (s .failed) al ignore c r) (all-plain s o n al ignore c rs)
@@ -66,7 +67,7 @@ all-plain s o n al ignore c (r ∷ rs) = go (lookAt (s .granularity) (s .registe
     go (FailedBefore x) h = refl
     go (Stretch a b x y) h = refl
 
-done-plain : (w : World) → plain (donePlan w .answer) ≡ true
+pub done-plain : (w : World) → plain (donePlan w .answer) ≡ true
 unfolding plain
 done-plain w =
     let q : Request = requestOf (w .state) in
@@ -129,13 +130,13 @@ done-ending w =
 
 -- ---- a number that refuses a call is neither 22 nor 23
 
-build-taken : (w : World) (ram : List ℕ) (o g : ℕ) → notRefused (buildRefusal w ram o g) ≡ true → buildRefusal w ram o g ≡ 0
+pub build-taken : (w : World) (ram : List ℕ) (o g : ℕ) → notRefused (buildRefusal w ram o g) ≡ true → buildRefusal w ram o g ≡ 0
 unfolding buildRefusal
 build-taken w ram o g =
-    go (not (eqb (refusalOf ram) 1)) (eqb (o % 4096) 0) (ltb (o + lastEnd (entriesOf ram)) (2 ^ 64)) (eqb (refusalOf ram) 0) (leb 4096 g && isPower g) (eqb (length (w .state)) 108)
+    go (not (eqb (refusalOf ram) 1)) (eqb (o % 4096) 0) (ltb (o + lastEnd (entriesOf ram)) (2 ^ 64)) (eqb (refusalOf ram) 0) (eqb (length (w .state)) 108) (leb 4096 g && isPower g)
     (lengthsFit g (entriesOf ram) (w .registered) (w .failed))
   where
-    go : (a b c d e f i : Bool) → notRefused (unless a 1 (unless b 1 (unless c 1 (unless d 2 (unless e 9 (unless f 4 (unless i 4 0))))))) ≡ true → unless a 1 (unless b 1 (unless c 1 (unless d 2 (unless e 9 (unless f 4 (unless i 4 0)))))) ≡ 0
+    go : (a b c d e f i : Bool) → notRefused (unless a 1 (unless b 1 (unless c 1 (unless d 2 (unless e 4 (unless f 9 (unless i 4 0))))))) ≡ true → unless a 1 (unless b 1 (unless c 1 (unless d 2 (unless e 4 (unless f 9 (unless i 4 0)))))) ≡ 0
     go false b c d e f i h = false≢true h
     go true false c d e f i h = false≢true h
     go true true false d e f i h = false≢true h
@@ -215,7 +216,7 @@ plan-keeps w r p l h =
     }
 
 -- THE CLAIM, one law for all five entries: a refusal leaves every lent word as given, save what 22 and 23 name
-pub refusals-keep : (w : World) (x : Call) → Kept w (withTaken w x) (withFailed w x) (give w x)
+pub refusals-keep : (w : World) → RefusalsKeep w
 unfolding give buildOf registerOf allOf doneOf failedOf
 refusals-keep w (Build ram o g) =
     decided-keeps w (w .registered) (w .failed) (buildRefusal w ram o g) _ (build-taken w ram o g)
@@ -254,10 +255,6 @@ marked-stays a b m c h = page-law 64 (between a b) true m c (omega arith) ∙ go
     go true = refl
     go false = h
 
-abbrev pub Stays : World → ℕ → Outcome → Type 0
-Stays w c o =
-    (bitAt 64 (w .registered) c ≡ true → bitAt 64 (o .world .registered) c ≡ true) × (bitAt 64 (w .failed) c ≡ true → bitAt 64 (o .world .failed) c ≡ true)
-
 decided-stays : (w : World) (c n : ℕ) (o : Outcome) → Stays w c o → Stays w c (decided w n o)
 decided-stays w c n o h = go (eqb n 0)
   where
@@ -265,7 +262,7 @@ decided-stays w c n o h = go (eqb n 0)
     go true = h
     go false = (λ e. e, λ e. e)
 
-pub marks-stay : (w : World) (x : Call) (c : ℕ) → isBuild x ≡ false → Stays w c (give w x)
+pub marks-stay : (w : World) → MarksStay w
 unfolding give registerOf allOf doneOf failedOf
 marks-stay w (Build ram o g) c b = false≢true (sym b)
 marks-stay w (RegisterRange a l) c b =

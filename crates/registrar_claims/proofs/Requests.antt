@@ -15,7 +15,7 @@ use Rattle.layout.specs.declared.MemoryRangeWithNode.{MemoryRangeWithNode}
 use Rattle.layout.specs.Layout.{range, entry, entryAt, ordered, lastEnd, spans, spansFrom}
 use Rattle.layout.proofs.Laws.{entry-known, entries-apart}
 use Rattle.chunks.specs.Chunks.{up, chunkCount, empty, part, pieces, firstOf, firstNot, alike, alignedPart, edgeOf}
-use Rattle.chunks.specs.Scan.{first-from, first-to}
+use Rattle.chunks.proofs.Scan.{first-from, first-to}
 use Rattle.registrar_steps.specs.declared.Request.{Request}
 use Rattle.registrar_steps.specs.declared.Answer.the-variants.{Done, RegistrationFailed}
 use Rattle.registrar_steps.specs.declared.Look.{Look}

@@ -18,7 +18,7 @@ use Rattle.layout.specs.declared.MemoryRange.{MemoryRange}
 use Rattle.layout.specs.declared.MemoryRangeWithNode.{MemoryRangeWithNode}
 use Rattle.layout.specs.Layout.{entriesOf, ordered, spans}
 use Rattle.chunks.specs.Chunks.{chunkCount, mapWords, firstChunk, endChunk, empty, pieces, firstOf, firstNotOf, firstNot}
-use Rattle.chunks.specs.Scan.{first-step, first-stop, first-end, first-from}
+use Rattle.chunks.proofs.Scan.{first-step, first-stop, first-end, first-from}
 use Rattle.registrar_steps.specs.declared.Request.{Request}
 use Rattle.registrar_steps.specs.declared.Answer.the-variants.{Done, RegistrationFailed}
 use Rattle.registrar_steps.specs.declared.Plan.{Plan}
@@ -28,9 +28,13 @@ use Rattle.registrar_state.specs.World.{World, world, Outcome, outcome, request
 use Rattle.registrar_claims.specs.Runs.{Told, before, follow}
 use Rattle.registrar_claims.specs.Whole.{Stand, Ok, FailedAt, Whole, ended, offered, asking, offer, wholeChunks, wholeRegister, Says, Words, Match}
 use Rattle.registrar_claims.proofs.Spans.{Ascend, spans-ascend, piece-some, pieces-rest}
-use Rattle.registrar_state.specs.Laws.{split-state}
-use Rattle.registrar.specs.Laws.{register-long}
-use Rattle.registrar_steps.specs.Laws.{register-done}
+use Rattle.registrar_state.proofs.Laws.{split-state}
+use Rattle.registrar.proofs.Laws.{register-long}
+use Rattle.registrar_steps.proofs.Laws.{register-done}
+
+-- one operation more, counted in 64 bits
+pub counted : (k : ℕ) → more (k % 2 ^ 64) ≡ (k + 1) % 2 ^ 64
+counted k = omega arith
 
 -- ---- marks
 
@@ -138,9 +142,6 @@ module _ (tail f : List ℕ) (last : ℕ) where
     -- a piece and those after it
     module _ (c : ℕ) (r : List ℕ) (r-long : length r ≡ mapWords g es) (next : List Bool → Whole)
         (on : (k : ℕ) (q : Request) (bs : List Bool) → Match k (follow (from q (marked c (c + 1) r) k (c + 1)) bs) (next bs)) where
-      counted : (k : ℕ) → more (k % 2 ^ 64) ≡ (k + 1) % 2 ^ 64
-      counted k = omega arith
-
       failed-now : (k : ℕ) (p : MemoryRange) → failedOf (asks-piece r k c p .world)
           ≡ outcome (requestWords idle ++ tail) r (marked c (c + 1) f) (flatOf (RegistrationFailed (p .start) ((k + 1) % 2 ^ 64)))
       unfolding failedOf

@@ -18,7 +18,7 @@ use Rattle.layout.specs.declared.MemoryRange.{MemoryRange}
 use Rattle.layout.specs.declared.MemoryRangeWithNode.{MemoryRangeWithNode}
 use Rattle.layout.specs.Layout.{range, entriesOf, ordered, spans}
 use Rattle.chunks.specs.Chunks.{up, mapWords, empty, firstNot, alike, alignedPart, edgeOf}
-use Rattle.chunks.specs.Scan.{first-stop, first-end, first-skip}
+use Rattle.chunks.proofs.Scan.{first-stop, first-end, first-skip}
 use Rattle.registrar_steps.specs.declared.Request.{Request}
 use Rattle.registrar_steps.specs.declared.Answer.the-variants.{Done, RegistrationFailed, UnalignedMemory}
 use Rattle.registrar_steps.specs.declared.Look.{Look}
@@ -28,10 +28,10 @@ use Rattle.registrar_steps.specs.Steps.{seen, idle, askedOf, more, stretchIn, l
 use Rattle.registrar_state.specs.World.{World, world, Outcome, outcome, requestOf, requestWords, entriesIn, flatOf, lengthsFit, allRefusal, marked, carriedOut, allOf, answerRefusal, failedOf, doneOf}
 use Rattle.registrar_claims.specs.Runs.{follow}
 use Rattle.registrar_claims.specs.Whole.{FailedAt, UnalignedAt, offerStretch, wholeSpan, wholeSpans, wholeAll, Whole, ended, Match}
-use Rattle.registrar_claims.proofs.Steps.{marked-length, marked-none, follow-ended, match-ask, match-told}
-use Rattle.registrar_state.specs.Laws.{split-state}
+use Rattle.registrar_claims.proofs.Steps.{counted, marked-length, marked-none, follow-ended, match-ask, match-told}
+use Rattle.registrar_state.proofs.Laws.{split-state}
 use Rattle.registrar_claims.proofs.Spans.{Ascend, spans-ascend}
-use Rattle.registrar.specs.Laws.{all-long}
+use Rattle.registrar.proofs.Laws.{all-long}
 
 -- ---- scans
 
@@ -73,9 +73,6 @@ scan-end : (P : ℕ → Bool) (x e : ℕ) → x ≤ e → AllIn P x e → firstN
 scan-end P x e h t = scan-to P x e e h (omega arith) t ∙ first-end P e e (omega arith)
 
 -- ---- chunks that are alike
-
-like : (f r : Bool) → not f ≡ true → r ≡ true → (not f && r) ≡ true
-like f r a b = and-true (not f) r a b
 
 registered-not : (r f : List ℕ) (c : ℕ) → alike r f false c ≡ true → alike r f true c ≡ false
 registered-not r f c h = go (bitAt 64 f c) (bitAt 64 r c) h
@@ -226,9 +223,6 @@ module _ (tail f : List ℕ) (al ig : ℕ) where
     unfolding answerRefusal
     not-refused q r h l =
         rw (eq-eqb (length (requestWords q ++ tail)) 108 (omega arith), eq-eqb (length r) (mapWords g es) l, eq-eqb (length f) (mapWords g es) f-long, h)
-
-    counted : (k : ℕ) → more (k % 2 ^ 64) ≡ (k + 1) % 2 ^ 64
-    counted k = omega arith
 
     module _ (a b : ℕ) (r : List ℕ) (r-long : length r ≡ mapWords g es) (next : List Bool → List ℕ → Whole)
         (on : (k : ℕ) (q : Request) (bs : List Bool) → Match k (follow (from q (marked a b r) k b) bs) (next bs (marked a b r))) where

@@ -3,6 +3,7 @@ use mathlib.Core.Path.{_≡_}
 use mathlib.Core.Bool.{true, false}
 use mathlib.Core.List.{List}
 use Prim.Native.Nat.{ℕ, _≤_, _<_}
+use Rattle.bitmap.specs.Pages.{bitAt}
 use Rattle.registrar_steps.specs.Steps.{seen, idle, passes}
 use Rattle.registrar_state.specs.World.{World, Outcome, requestOf, withRequest, granularityOf, entriesIn, marked, takenTo}
 use Rattle.registrar_claims.specs.Runs.{Call, Build, RegisterRange, RegisterAll, AnswerDone, AnswerFailed, notRefused}
@@ -42,3 +43,8 @@ pub record Kept (w : World) (r f : List ℕ) (o : Outcome) : Type 0 where
   pub refused : notRefused (o .reply .number) ≡ false → o .world ≡ w
   pub unaligned : o .reply .number ≡ 22 → Unaligned22 w r o
   pub failed : o .reply .number ≡ 23 → Failed23 w r f o
+
+-- a chunk that is marked registered or failed stays so
+abbrev pub Stays : World → ℕ → Outcome → Type 0
+Stays w c o =
+    (bitAt 64 (w .registered) c ≡ true → bitAt 64 (o .world .registered) c ≡ true) × (bitAt 64 (w .failed) c ≡ true → bitAt 64 (o .world .failed) c ≡ true)

@@ -1,3 +1,5 @@
 pub mod Runs
 pub mod Changes
 pub mod Whole
+pub mod Ends
+pub mod Claims

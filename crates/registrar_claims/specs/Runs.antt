@@ -1,5 +1,4 @@
 -- Calls and their answers as a history: document 01, "The request under way".
-use mathlib.Core.Path.{_≡_}
 use mathlib.Core.Bool.{Bool, true, false, not, cond, _||_, _&&_}
 use mathlib.Core.List.{List, [], _∷_}
 use Prim.Native.Nat.{ℕ, suc, _+_, _-_, _*_, _^_}
@@ -36,6 +35,13 @@ isBuild AnswerFailed = false
 abbrev pub notRefused : ℕ → Bool
 notRefused n = eqb n 0 || (eqb n 22 || eqb n 23)
 
+abbrev pub isTaken : Outcome → Bool
+isTaken o = notRefused (o .reply .number)
+
+-- something is asked for
+abbrev pub underWay : World → Bool
+underWay w = not (eqb (requestOf (w .state) .kind) 0)
+
 -- the number that every taken answer lowers: 0 where nothing is asked
 abbrev pub leftOf : Request → ℕ
 leftOf q = cond (eqb (q .kind) 0) 0 (suc ((2 ^ 64 - q .to) * 2 ^ 65 + (2 ^ 64 - q .end)))
@@ -51,7 +57,7 @@ after w (x ∷ xs) = after (give w x .world) xs
 
 unfoldable pub takenIn : World → List Call → ℕ
 takenIn w [] = 0
-takenIn w (x ∷ xs) = digit (notRefused (give w x .reply .number)) + takenIn (give w x .world) xs
+takenIn w (x ∷ xs) = digit (isTaken (give w x)) + takenIn (give w x .world) xs
 
 abbrev pub isAnswer : Call → Bool
 isAnswer (Build ram offset g) = false
@@ -63,13 +69,44 @@ isAnswer AnswerFailed = true
 -- whether no other call than an answer is taken
 unfoldable pub onlyAnswers : World → List Call → Bool
 onlyAnswers w [] = true
-onlyAnswers w (x ∷ xs) = (isAnswer x || not (notRefused (give w x .reply .number))) && onlyAnswers (give w x .world) xs
+onlyAnswers w (x ∷ xs) = (isAnswer x || not (isTaken (give w x))) && onlyAnswers (give w x .world) xs
 
--- answers alone, none of them refused while something is asked
-unfoldable pub answering : World → List Call → Type 0
-answering w [] = Unit {0}
-answering w (x ∷ xs) =
-    (isAnswer x ≡ true) × ((requestOf (w .state) .kind ≡ 0 → ⊥) → notRefused (give w x .reply .number) ≡ true) × answering (give w x .world) xs
+-- how many of the calls are answers
+unfoldable pub answersIn : List Call → ℕ
+answersIn [] = 0
+answersIn (x ∷ xs) = digit (isAnswer x) + answersIn xs
+
+-- ---- what is told of a list of calls from outside
+
+-- whether an answer is awaited, by the replies: a call that is taken tells it, a refused one leaves it as it was
+unfoldable pub awaitsAfter : World → Bool → List Call → Bool
+awaitsAfter w b [] = b
+awaitsAfter w b (x ∷ xs) = awaitsAfter (give w x .world) (cond (isTaken (give w x)) (eqb (give w x .reply .asked) 1) b) xs
+
+-- what a registrar was built with: by the last build that was taken
+pub record Settings : Type 0 where
+  pub ram : List ℕ
+  pub offset : ℕ
+  pub granularity : ℕ
+
+abbrev pub builtWith : List ℕ → ℕ → ℕ → Settings
+builtWith ram offset g = record { ram = ram; offset = offset; granularity = g }
+
+abbrev pub settingsBy : Settings → Call → Settings
+settingsBy b (Build ram offset g) = builtWith ram offset g
+settingsBy b (RegisterRange address len) = b
+settingsBy b (RegisterAll al ignore) = b
+settingsBy b AnswerDone = b
+settingsBy b AnswerFailed = b
+
+unfoldable pub settingsAfter : World → Settings → List Call → Settings
+settingsAfter w b [] = b
+settingsAfter w b (x ∷ xs) = settingsAfter (give w x .world) (cond (isTaken (give w x)) (settingsBy b x) b) xs
+
+-- whether no call of a list is a build
+unfoldable pub quiet : List Call → Bool
+quiet [] = true
+quiet (x ∷ xs) = not (isBuild x) && quiet xs
 
 -- ---- a whole call under a list of answers, done or not: the ranges that it asks for, and what it gives last
 

@@ -110,14 +110,15 @@ decided w n taken = cond (eqb n 0) taken (record { world = w; reply = flatOf (Re
 abbrev pub lengthsFit : ℕ → List MemoryRangeWithNode → List ℕ → List ℕ → Bool
 lengthsFit g es registered failed = eqb (length registered) (mapWords g es) && eqb (length failed) (mapWords g es)
 
+-- 1 for the layout and the offset, 2, then by number: 4 for the state block, 9 for the granularity; 4 for the bitmaps after it, since their length hangs on it
 unfoldable pub buildRefusal : World → List ℕ → ℕ → ℕ → ℕ
 buildRefusal w ram offset g =
     unless (not (eqb (refusalOf ram) 1)) 1
     (unless (eqb (offset % 4096) 0) 1
     (unless (ltb (offset + lastEnd (entriesOf ram)) (2 ^ 64)) 1
     (unless (eqb (refusalOf ram) 0) 2
-    (unless (leb 4096 g && isPower g) 9
     (unless (eqb (length (w .state)) 108) 4
+    (unless (leb 4096 g && isPower g) 9
     (unless (lengthsFit g (entriesOf ram) (w .registered) (w .failed)) 4
     0))))))
 

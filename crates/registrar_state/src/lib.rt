@@ -285,11 +285,11 @@ pub fn build_refusal(
     if unfit != 0 {
         return 2;
     }
-    if !is_power_from(4096, g) {
-        return 9;
-    }
     if state.len() != 108 {
         return 4;
+    }
+    if !is_power_from(4096, g) {
+        return 9;
     }
     if lengths_fit(chunks::chunk_count(ram, g), registered, failed) {
         0

@@ -1,7 +1,7 @@
 -- `chunks::aligned_subrange` meets its contract. Assumes nothing.
 use native.Mathlib.Omega.{arith}
 use borrow.Author.Needs.{needs}
-use Rattle.chunks.specs.Laws as laws
+use Rattle.chunks.proofs.Laws as laws
 use Rattle.chunks.proofs.aligned_subrange.Statement.{statement}
 use Rattle.chunks.proofs.aligned_subrange.Tie as tie
 

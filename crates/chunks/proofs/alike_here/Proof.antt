@@ -3,8 +3,8 @@ use native.Mathlib.Omega.{arith}
 use borrow.Author.Needs.{needs}
 use mathlib.Core.Path.{sym, _∙_}
 use Rattle.chunks.specs.Chunks.{alike}
-use Rattle.chunks.specs.Scan as scan
-use Rattle.chunks.specs.Laws as laws
+use Rattle.chunks.proofs.Scan as scan
+use Rattle.chunks.proofs.Laws as laws
 use Rattle.chunks.proofs.alike_here.Statement.{statement}
 use Rattle.chunks.proofs.alike_here.Tie as tie
 

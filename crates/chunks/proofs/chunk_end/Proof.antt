@@ -1,7 +1,7 @@
 -- `chunks::chunk_end` meets its contract. Assumes nothing.
 use native.Mathlib.Omega.{arith}
 use borrow.Author.Needs.{needs}
-use Rattle.chunks.specs.Laws as laws
+use Rattle.chunks.proofs.Laws as laws
 use Rattle.chunks.proofs.chunk_end.Statement.{statement}
 use Rattle.chunks.proofs.chunk_end.Tie as tie
 

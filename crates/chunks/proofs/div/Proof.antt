@@ -1,6 +1,6 @@
 -- `chunks::div` meets its contract. Assumes nothing.
 use borrow.Author.Needs.{needs}
-use Rattle.chunks.specs.Laws as laws
+use Rattle.chunks.proofs.Laws as laws
 use Rattle.chunks.proofs.div.Statement.{statement}
 use Rattle.chunks.proofs.div.Tie as tie
 

@@ -1,7 +1,7 @@
 -- `chunks::div_ceil` meets its contract. Assumes nothing.
 use borrow.Author.Needs.{needs}
 use native.Mathlib.Omega.{arith}
-use Rattle.chunks.specs.Laws as laws
+use Rattle.chunks.proofs.Laws as laws
 use Rattle.chunks.proofs.div_ceil.Statement.{statement}
 use Rattle.chunks.proofs.div_ceil.Tie as tie
 

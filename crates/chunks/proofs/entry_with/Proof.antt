@@ -6,7 +6,7 @@ use Prim.Native.Nat.{_-_}
 use lib.ListN.{drop}
 use Rattle.layout.specs.Layout.{entriesOf}
 use Rattle.chunks.specs.Chunks.{entryWith}
-use Rattle.chunks.specs.Laws as laws
+use Rattle.chunks.proofs.Laws as laws
 use Rattle.chunks.proofs.entry_with.Statement.{statement}
 use Rattle.chunks.proofs.entry_with.Tie as tie
 

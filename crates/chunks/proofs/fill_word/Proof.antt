@@ -4,7 +4,7 @@ use borrow.Author.Needs.{needs}
 use mathlib.Core.Path.{ap, _∙_}
 use mathlib.Core.Bool.{true}
 use lib.ListN.{set}
-use Rattle.chunks.specs.Laws as laws
+use Rattle.chunks.proofs.Laws as laws
 use Rattle.bitmap.proofs.Map.{filled}
 use Rattle.chunks.proofs.fill_word.Statement.{statement}
 use Rattle.chunks.proofs.fill_word.Tie as tie

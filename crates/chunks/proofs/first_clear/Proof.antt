@@ -5,7 +5,7 @@ use mathlib.Core.Path.{_≡_, refl, sym, _∙_}
 use Prim.Native.Nat.{_-_}
 use Rattle.bitmap.specs.Pages.{bitAt}
 use Rattle.chunks.specs.Chunks.{firstNot}
-use Rattle.chunks.specs.Scan as scan
+use Rattle.chunks.proofs.Scan as scan
 use Rattle.chunks.proofs.first_clear.Statement.{statement}
 use Rattle.chunks.proofs.first_clear.Tie as tie
 

@@ -4,7 +4,7 @@ use borrow.Author.Needs.{needs}
 use mathlib.Core.Path.{_≡_, refl, sym, _∙_}
 use Prim.Native.Nat.{_-_}
 use Rattle.chunks.specs.Chunks.{powerFrom}
-use Rattle.chunks.specs.Laws as laws
+use Rattle.chunks.proofs.Laws as laws
 use Rattle.chunks.proofs.is_power_of_two.Statement.{statement}
 use Rattle.chunks.proofs.is_power_of_two.Tie as tie
 

@@ -5,7 +5,7 @@ use mathlib.Core.Path.{sym, ap}
 use Prim.Native.Nat.{_+_, _*_, _/_, _<_}
 use Rattle.layout.specs.Layout.{entriesOf, spans}
 use Rattle.chunks.specs.Chunks.{firstOf}
-use Rattle.chunks.specs.Laws as laws
+use Rattle.chunks.proofs.Laws as laws
 use Rattle.chunks.proofs.next_ram.Statement.{statement}
 use Rattle.chunks.proofs.next_ram.Tie as tie
 

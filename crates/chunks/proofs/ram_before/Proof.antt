@@ -6,7 +6,7 @@ use Prim.Native.Nat.{ℕ, _-_, _^_, min}
 use lib.ListN.{drop}
 use Rattle.layout.specs.Layout.{entriesOf, spans}
 use Rattle.chunks.specs.Chunks.{pieces, firstOf}
-use Rattle.chunks.specs.Laws as laws
+use Rattle.chunks.proofs.Laws as laws
 use Rattle.chunks.proofs.ram_before.Statement.{statement}
 use Rattle.chunks.proofs.ram_before.Tie as tie
 

@@ -4,8 +4,8 @@ use borrow.Author.Needs.{needs}
 use mathlib.Core.Path.{_≡_, refl, sym, _∙_}
 use Prim.Native.Nat.{_-_}
 use Rattle.chunks.specs.Chunks.{firstNot, alike}
-use Rattle.chunks.specs.Laws as laws
-use Rattle.chunks.specs.Scan as scan
+use Rattle.chunks.proofs.Laws as laws
+use Rattle.chunks.proofs.Scan as scan
 use Rattle.chunks.proofs.run_end.Statement.{statement}
 use Rattle.chunks.proofs.run_end.Tie as tie
 

@@ -7,7 +7,7 @@ use Prim.Native.Nat.{_-_, _≤_, max}
 use lib.ListN.{length}
 use Rattle.laws.specs.Ranges.{between}
 use Rattle.bitmap.specs.Pages.{written}
-use Rattle.chunks.specs.Laws as laws
+use Rattle.chunks.proofs.Laws as laws
 use Rattle.bitmap.proofs.Steps.{run-none, run-end}
 use Rattle.chunks.proofs.set_chunks.Statement.{statement}
 use Rattle.chunks.proofs.set_chunks.Tie as tie

@@ -2,7 +2,7 @@
 use native.Mathlib.Omega.{arith}
 use borrow.Author.Needs.{needs}
 use mathlib.Core.Path.{_∙_}
-use Rattle.chunks.specs.Laws as laws
+use Rattle.chunks.proofs.Laws as laws
 use Rattle.chunks.proofs.set_some.Statement.{statement}
 use Rattle.chunks.proofs.set_some.Tie as tie
 

@@ -1,6 +1,6 @@
 -- `chunks::unaligned_edge` meets its contract. Assumes nothing.
 use borrow.Author.Needs.{needs}
-use Rattle.chunks.specs.Laws as laws
+use Rattle.chunks.proofs.Laws as laws
 use Rattle.chunks.proofs.unaligned_edge.Statement.{statement}
 use Rattle.chunks.proofs.unaligned_edge.Tie as tie
 

@@ -2,7 +2,7 @@
 use borrow.Author.Needs.{needs}
 use mathlib.Core.Path.{_∙_}
 use Rattle.registrar_state.specs.World.{world}
-use Rattle.registrar.specs.Laws as laws
+use Rattle.registrar.proofs.Laws as laws
 use Rattle.registrar.proofs.all_done.Statement.{statement}
 use Rattle.registrar.proofs.all_done.Tie as tie
 

@@ -1,7 +1,7 @@
 -- `registrar::all_on` meets its contract. Assumes nothing.
 use borrow.Author.Needs.{needs}
 use Rattle.registrar_state.specs.World.{world}
-use Rattle.registrar.specs.Laws as laws
+use Rattle.registrar.proofs.Laws as laws
 use Rattle.registrar.proofs.all_on.Statement.{statement}
 use Rattle.registrar.proofs.all_on.Tie as tie
 

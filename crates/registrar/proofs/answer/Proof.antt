@@ -1,7 +1,7 @@
 -- `registrar::answer` meets its contract. Assumes nothing.
 use borrow.Author.Needs.{needs}
 use native.Mathlib.Omega.{arith}
-use Rattle.registrar.specs.Laws as laws
+use Rattle.registrar.proofs.Laws as laws
 use Rattle.registrar.proofs.answer.Statement.{statement}
 use Rattle.registrar.proofs.answer.Tie as tie
 

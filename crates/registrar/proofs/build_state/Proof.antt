@@ -5,8 +5,8 @@ use mathlib.Core.Path.{_≡_, ap, _∙_}
 use Prim.Native.Nat.{ℕ, _+_, _-_, _≤_}
 use mathlib.Core.List.{List}
 use lib.ListN.{length, getD, set, length-set}
-use Rattle.registrar.specs.Laws.{filledTo}
-use Rattle.registrar.specs.Laws as laws
+use Rattle.registrar.proofs.Laws.{filledTo}
+use Rattle.registrar.proofs.Laws as laws
 use Rattle.registrar.proofs.build_state.Statement.{statement}
 use Rattle.registrar.proofs.build_state.Tie as tie
 

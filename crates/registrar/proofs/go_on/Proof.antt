@@ -3,8 +3,8 @@ use borrow.Author.Needs.{needs}
 use native.Mathlib.Omega.{arith}
 use Prim.Native.Nat.{min}
 use Rattle.registrar_state.specs.World.{world, seenIn}
-use Rattle.registrar_steps.specs.Laws.{stop-below}
-use Rattle.registrar.specs.Laws as laws
+use Rattle.registrar_steps.proofs.Laws.{stop-below}
+use Rattle.registrar.proofs.Laws as laws
 use Rattle.registrar.proofs.go_on.Statement.{statement}
 use Rattle.registrar.proofs.go_on.Tie as tie
 

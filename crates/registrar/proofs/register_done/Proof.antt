@@ -2,7 +2,7 @@
 use borrow.Author.Needs.{needs}
 use mathlib.Core.Path.{_∙_}
 use Rattle.registrar_state.specs.World.{world}
-use Rattle.registrar.specs.Laws as laws
+use Rattle.registrar.proofs.Laws as laws
 use Rattle.registrar.proofs.register_done.Statement.{statement}
 use Rattle.registrar.proofs.register_done.Tie as tie
 
@@ -46,12 +46,15 @@ same-length-3 c = search needs
 
 returns-2 : tie.Need-returns-2
 returns-2 c =
+    let q = c .before .before .before .before .before .before .before .before .before .before .before .before .before .before .before .before .before .load in
+    let rest = c .before .before .before .before .before .before .before .before .before .before .before .before .before .before .before .rest-of in
+    let given = c .before .before .before .before .before .before .before .before .before .before .before .before .before .before .before .before .before .before .before .before .before .before .pre in
     let a = c .before .before .before .before .before .before .before .before .before .before .before .before .before .before .before .before .before .before .before .before .before .before .args in
     let w = world (a .state .now) (a .registered .now) (a .failed .now) in
     let v = world (a .state .now) (c .before .before .before .before .before .before .before .before .before .before .before .set-chunks .last .0) (a .failed .now) in
     let o = c .before .before .before .before .before .before .go-on in
-    laws.go-answered v (a .n) (c .before .before .before .before .before .before .before .before .before .before .before .before .before .before .before .before .before .load .result .count) (c .before .before .before .before .before .before .before .before .before .before .before .before .before .before .before .before .before .load .result .to) (c .before .before .before .before .before .before .before .before .before .before .before .before .before .before .before .before .before .load .result .until) (c .before .before .before .before .before .before .before .before .before .before .before .before .before .before .before .before .before .before .before .before .before .before .pre .1) _ _ (o .result) (c .answer .result) (o .ensures .0) (c .answer .ensures)
-    ∙ laws.done-register w (c .before .before .before .before .before .before .before .before .before .before .before .before .before .before .before .before .before .load .result) (c .before .before .before .before .before .before .before .before .before .before .before .before .before .before .before .before .before .load .ensures) (laws.none-left (a .state .now) (c .before .before .before .before .before .before .before .before .before .before .before .before .before .before .before .rest-of .result) (c .before .before .before .before .before .before .before .before .before .before .before .before .before .before .before .rest-of .ensures) (c .before .before .before .before .before .before .before .before .before .before .before .before .before .if1 .left) (c .before .before .before .before .before .before .before .before .before .before .before .before .before .before .before .before .before .before .before .before .before .before .pre .2)) _ (c .before .before .before .before .before .before .before .before .before .before .before .set-chunks .ensures) (c .before .before .before .before .before .before .before .before .before .before .before .before .before .before .before .before .before .before .before .before .before .before .pre .2)
+    laws.go-answered v (a .n) (q .result .count) (q .result .to) (q .result .until) (given .1) _ _ (o .result) (c .answer .result) (o .ensures .0) (c .answer .ensures)
+    ∙ laws.done-register w (q .result) (q .ensures) (laws.none-left (a .state .now) (rest .result) (rest .ensures) (c .before .before .before .before .before .before .before .before .before .before .before .before .before .if1 .left) (given .2)) _ (c .before .before .before .before .before .before .before .before .before .before .before .set-chunks .ensures) (given .2)
 
 pub register-done-spec : {M : Type 1} → statement M
 register-done-spec =

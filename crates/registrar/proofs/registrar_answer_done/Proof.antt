@@ -2,8 +2,8 @@
 use borrow.Author.Needs.{needs}
 use native.Mathlib.Omega.{arith}
 use Rattle.registrar_state.specs.World.{world, doneOf}
-use Rattle.registrar_state.specs.Laws.{count-in}
-use Rattle.registrar.specs.Laws as laws
+use Rattle.registrar_state.proofs.Laws.{count-in}
+use Rattle.registrar.proofs.Laws as laws
 use Rattle.registrar.proofs.registrar_answer_done.Statement.{statement}
 use Rattle.registrar.proofs.registrar_answer_done.Tie as tie
 

@@ -1,7 +1,7 @@
 -- `registrar::registrar_answer_failed` meets its contract. Assumes nothing.
 use borrow.Author.Needs.{needs}
 use Rattle.registrar_state.specs.World.{world, failedOf}
-use Rattle.registrar.specs.Laws as laws
+use Rattle.registrar.proofs.Laws as laws
 use Rattle.registrar.proofs.registrar_answer_failed.Statement.{statement}
 use Rattle.registrar.proofs.registrar_answer_failed.Tie as tie
 

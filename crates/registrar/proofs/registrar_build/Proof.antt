@@ -1,7 +1,7 @@
 -- `registrar::registrar_build` meets its contract. Assumes nothing.
 use borrow.Author.Needs.{needs}
 use Rattle.registrar_state.specs.World.{world, buildOf}
-use Rattle.registrar.specs.Laws as laws
+use Rattle.registrar.proofs.Laws as laws
 use Rattle.registrar.proofs.registrar_build.Statement.{statement}
 use Rattle.registrar.proofs.registrar_build.Tie as tie
 
@@ -48,9 +48,10 @@ same-length-6 c = search needs
 returns-2 : tie.Need-returns-2
 unfolding buildOf
 returns-2 c =
-    let w = world (c .before .before .before .before .before .before .before .before .before .before .before .before .before .before .before .before .before .before .before .before .before .before .args .state .now) (c .before .before .before .before .before .before .before .before .before .before .before .before .before .before .before .before .before .before .before .before .before .before .args .registered .now) (c .before .before .before .before .before .before .before .before .before .before .before .before .before .before .before .before .before .before .before .before .before .before .args .failed .now) in
+    let a = c .before .before .before .before .before .before .before .before .before .before .before .before .before .before .before .before .before .before .before .before .before .before .args in
+    let w = world (a .state .now) (a .registered .now) (a .failed .now) in
     let n = c .before .before .before .before .before .before .before .before .before .before .before .before .before .before .build-refusal in
-    laws.call-answered w (n .result) _ (n .ensures) _ _ (c .before .before .before .before .before .before .before .before .before .before .before .before .before .if1 .left) (laws.build-made w (c .before .before .before .before .before .before .before .before .before .before .before .before .before .before .before .before .before .before .before .before .before .before .args .ram .now) (c .before .before .before .before .before .before .before .before .before .before .before .before .before .before .before .before .before .before .before .before .before .before .args .offset) (c .before .before .before .before .before .before .before .before .before .before .before .before .before .before .before .before .before .before .before .before .before .before .args .granularity) _ _ _ (c .simple2 .result) (c .before .before .before .before .before .before .before .before .before .before .before .build-state .ensures) (c .before .before .before .before .before .before .before .clear .ensures) (c .before .before .before .clear2 .ensures) (c .simple2 .ensures))
+    laws.call-answered w (n .result) _ (n .ensures) _ _ (c .before .before .before .before .before .before .before .before .before .before .before .before .before .if1 .left) (laws.build-made w (a .ram .now) (a .offset) (a .granularity) _ _ _ (c .simple2 .result) (c .before .before .before .before .before .before .before .before .before .before .before .build-state .ensures) (c .before .before .before .before .before .before .before .clear .ensures) (c .before .before .before .clear2 .ensures) (c .simple2 .ensures))
 
 pub registrar-build-spec : {M : Type 1} → statement M
 registrar-build-spec =

@@ -2,8 +2,8 @@
 use borrow.Author.Needs.{needs}
 use mathlib.Core.Path.{ap, _∙_}
 use Rattle.registrar_state.specs.World.{world, carriedOut, registerOf}
-use Rattle.registrar_state.specs.Laws.{count-in}
-use Rattle.registrar.specs.Laws as laws
+use Rattle.registrar_state.proofs.Laws.{count-in}
+use Rattle.registrar.proofs.Laws as laws
 use Rattle.registrar.proofs.registrar_register.Statement.{statement}
 use Rattle.registrar.proofs.registrar_register.Tie as tie
 

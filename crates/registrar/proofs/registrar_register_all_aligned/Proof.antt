@@ -1,7 +1,7 @@
 -- `registrar::registrar_register_all_aligned` meets its contract. Assumes nothing.
 use borrow.Author.Needs.{needs}
 use Rattle.registrar_state.specs.World.{world, allOf}
-use Rattle.registrar.specs.Laws as laws
+use Rattle.registrar.proofs.Laws as laws
 use Rattle.registrar.proofs.registrar_register_all_aligned.Statement.{statement}
 use Rattle.registrar.proofs.registrar_register_all_aligned.Tie as tie
 

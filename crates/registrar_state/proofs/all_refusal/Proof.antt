@@ -4,7 +4,7 @@ use borrow.Author.Needs.{needs}
 use mathlib.Core.Path.{refl, sym, _∙_}
 use borrow.Author.Tests.{le-leb, lt-leb}
 use Rattle.registrar_state.specs.World.{world}
-use Rattle.registrar_state.specs.Laws as laws
+use Rattle.registrar_state.proofs.Laws as laws
 use Rattle.laws.specs.Refusal.{refuses, passes}
 use Rattle.registrar_state.specs.World.{allRefusal}
 use Rattle.registrar_state.proofs.all_refusal.Statement.{statement}

@@ -5,7 +5,7 @@ use mathlib.Core.Bool.{not}
 use borrow.Author.Tests.{eq-eqb, ne-eqb, not-true, not-false}
 use Rattle.laws.specs.Refusal.{refuses, passes}
 use Rattle.registrar_state.specs.World.{granularityOf, entriesIn, answerRefusal}
-use Rattle.registrar_state.specs.Laws as laws
+use Rattle.registrar_state.proofs.Laws as laws
 use Rattle.registrar_state.proofs.answer_refusal.Statement.{statement}
 use Rattle.registrar_state.proofs.answer_refusal.Tie as tie
 

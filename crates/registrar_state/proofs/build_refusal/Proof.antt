@@ -5,7 +5,7 @@ use mathlib.Core.Path.{refl, sym, _∙_}
 use borrow.Author.Tests.{not-true, not-false}
 use Rattle.registrar_state.specs.World.{world}
 use Rattle.layout.specs.Layout.{entriesOf}
-use Rattle.registrar_state.specs.Laws as laws
+use Rattle.registrar_state.proofs.Laws as laws
 use Rattle.laws.specs.Refusal.{refuses, passes}
 use Rattle.registrar_state.proofs.build_refusal.Statement.{statement}
 use Rattle.registrar_state.proofs.build_refusal.Tie as tie
@@ -14,10 +14,18 @@ refusal-requires : tie.Need-refusal-requires
 refusal-requires c κs = search needs
 
 returns : tie.Need-returns
-returns c = laws.build-unfit (world (c .before .before .before .before .before .before .args .state .now) (c .before .before .before .before .before .before .args .registered .now) (c .before .before .before .before .before .before .args .failed .now)) (c .before .before .before .before .before .before .args .ram .now) (c .before .before .before .before .before .before .args .offset) (c .before .before .before .before .before .before .args .g) (c .before .refusal .result) (c .before .refusal .ensures) (c .if1 .taken)
+returns c =
+    let a = c .before .before .before .before .before .before .args in
+    let w = world (a .state .now) (a .registered .now) (a .failed .now) in
+    let e = c .before .refusal in
+    laws.build-unfit w (a .ram .now) (a .offset) (a .g) (e .result) (e .ensures) (c .if1 .taken)
 
 returns-2 : tie.Need-returns-2
-returns-2 c = laws.build-ragged (world (c .before .before .before .before .before .before .before .args .state .now) (c .before .before .before .before .before .before .before .args .registered .now) (c .before .before .before .before .before .before .before .args .failed .now)) (c .before .before .before .before .before .before .before .args .ram .now) (c .before .before .before .before .before .before .before .args .offset) (c .before .before .before .before .before .before .before .args .g) (c .before .before .refusal .result) (c .before .before .refusal .ensures) (c .before .if1 .left) (c .if2 .taken)
+returns-2 c =
+    let a = c .before .before .before .before .before .before .before .args in
+    let w = world (a .state .now) (a .registered .now) (a .failed .now) in
+    let e = c .before .before .refusal in
+    laws.build-ragged w (a .ram .now) (a .offset) (a .g) (e .result) (e .ensures) (c .before .if1 .left) (c .if2 .taken)
 
 sub-if3 : tie.Need-sub-if3
 sub-if3 c = search needs
@@ -26,19 +34,36 @@ last-end-requires : tie.Need-last-end-requires
 last-end-requires c κs = search needs
 
 returns-3 : tie.Need-returns-3
-returns-3 c = laws.build-high (world (c .before .before .before .before .before .before .before .before .before .args .state .now) (c .before .before .before .before .before .before .before .before .before .args .registered .now) (c .before .before .before .before .before .before .before .before .before .args .failed .now)) (c .before .before .before .before .before .before .before .before .before .args .ram .now) (c .before .before .before .before .before .before .before .before .before .args .offset) (c .before .before .before .before .before .before .before .before .before .args .g) (c .before .before .before .before .refusal .result) (c .before .before .before .before .refusal .ensures) (c .before .before .before .if1 .left) (c .before .before .if2 .left) (omega (arith, c .before .last-end .ensures))
+returns-3 c =
+    let a = c .before .before .before .before .before .before .before .before .before .args in
+    let w = world (a .state .now) (a .registered .now) (a .failed .now) in
+    let e = c .before .before .before .before .refusal in
+    laws.build-high w (a .ram .now) (a .offset) (a .g) (e .result) (e .ensures) (c .before .before .before .if1 .left) (c .before .before .if2 .left) (omega (arith, c .before .last-end .ensures))
 
 returns-4 : tie.Need-returns-4
-returns-4 c = laws.build-edge (world (c .before .before .before .before .before .before .before .before .before .before .args .state .now) (c .before .before .before .before .before .before .before .before .before .before .args .registered .now) (c .before .before .before .before .before .before .before .before .before .before .args .failed .now)) (c .before .before .before .before .before .before .before .before .before .before .args .ram .now) (c .before .before .before .before .before .before .before .before .before .before .args .offset) (c .before .before .before .before .before .before .before .before .before .before .args .g) (c .before .before .before .before .before .refusal .result) (c .before .before .before .before .before .refusal .ensures) (c .before .before .before .before .if1 .left) (c .before .before .before .if2 .left) (omega (arith, c .before .before .last-end .ensures)) (c .if4 .taken)
+returns-4 c =
+    let a = c .before .before .before .before .before .before .before .before .before .before .args in
+    let w = world (a .state .now) (a .registered .now) (a .failed .now) in
+    let e = c .before .before .before .before .before .refusal in
+    laws.build-edge w (a .ram .now) (a .offset) (a .g) (e .result) (e .ensures) (c .before .before .before .before .if1 .left) (c .before .before .before .if2 .left) (omega (arith, c .before .before .last-end .ensures)) (c .if4 .taken)
+
+returns-5 : tie.Need-returns-5
+returns-5 c =
+    let a = c .before .before .before .before .before .before .before .before .before .before .before .args in
+    let w = world (a .state .now) (a .registered .now) (a .failed .now) in
+    let e = c .before .before .before .before .before .before .refusal in
+    laws.build-state w (a .ram .now) (a .offset) (a .g) (e .result) (e .ensures) (c .before .before .before .before .before .if1 .left) (c .before .before .before .before .if2 .left) (omega (arith, c .before .before .before .last-end .ensures)) (c .before .if4 .left) (c .if5 .taken)
 
 is-power-from-requires : tie.Need-is-power-from-requires
 is-power-from-requires c κs = search needs
 
-returns-5 : tie.Need-returns-5
-returns-5 c = laws.build-power (world (c .before .before .before .before .before .before .before .before .before .before .before .before .args .state .now) (c .before .before .before .before .before .before .before .before .before .before .before .before .args .registered .now) (c .before .before .before .before .before .before .before .before .before .before .before .before .args .failed .now)) (c .before .before .before .before .before .before .before .before .before .before .before .before .args .ram .now) (c .before .before .before .before .before .before .before .before .before .before .before .before .args .offset) (c .before .before .before .before .before .before .before .before .before .before .before .before .args .g) (c .before .before .before .before .before .before .before .refusal .result) (c .before .before .before .before .before .before .before .refusal .ensures) (c .before .before .before .before .before .before .if1 .left) (c .before .before .before .before .before .if2 .left) (omega (arith, c .before .before .before .before .last-end .ensures)) (c .before .before .if4 .left) (sym (c .before .is-power-from .ensures) ∙ not-true _ (c .if5 .taken))
-
 returns-6 : tie.Need-returns-6
-returns-6 c = laws.build-state (world (c .before .before .before .before .before .before .before .before .before .before .before .before .before .args .state .now) (c .before .before .before .before .before .before .before .before .before .before .before .before .before .args .registered .now) (c .before .before .before .before .before .before .before .before .before .before .before .before .before .args .failed .now)) (c .before .before .before .before .before .before .before .before .before .before .before .before .before .args .ram .now) (c .before .before .before .before .before .before .before .before .before .before .before .before .before .args .offset) (c .before .before .before .before .before .before .before .before .before .before .before .before .before .args .g) (c .before .before .before .before .before .before .before .before .refusal .result) (c .before .before .before .before .before .before .before .before .refusal .ensures) (c .before .before .before .before .before .before .before .if1 .left) (c .before .before .before .before .before .before .if2 .left) (omega (arith, c .before .before .before .before .before .last-end .ensures)) (c .before .before .before .if4 .left) (sym (c .before .before .is-power-from .ensures) ∙ not-false _ (c .before .if5 .left)) (c .if6 .taken)
+returns-6 c =
+    let a = c .before .before .before .before .before .before .before .before .before .before .before .before .before .args in
+    let w = world (a .state .now) (a .registered .now) (a .failed .now) in
+    let e = c .before .before .before .before .before .before .before .before .refusal in
+    laws.build-power w (a .ram .now) (a .offset) (a .g) (e .result) (e .ensures) (c .before .before .before .before .before .before .before .if1 .left) (c .before .before .before .before .before .before .if2 .left) (omega (arith, c .before .before .before .before .before .last-end .ensures)) (c .before .before .before .if4 .left)
+    (c .before .before .if5 .left) (sym (c .before .is-power-from .ensures) ∙ not-true _ (c .if6 .taken))
 
 chunk-count-requires : tie.Need-chunk-count-requires
 chunk-count-requires c κs = search needs
@@ -47,10 +72,22 @@ lengths-fit-requires : tie.Need-lengths-fit-requires
 lengths-fit-requires c κs = search needs
 
 returns-7 : tie.Need-returns-7
-returns-7 c = passes _ _ _ _ (sym (laws.lengths-fit (c .before .before .before .before .before .before .before .before .before .before .before .before .before .before .before .before .args .registered .now) (c .before .before .before .before .before .before .before .before .before .before .before .before .before .before .before .before .args .failed .now) (c .before .before .chunk-count .result) (c .before .before .before .before .before .before .before .before .before .before .before .before .before .before .before .before .args .g) (entriesOf (c .before .before .before .before .before .before .before .before .before .before .before .before .before .before .before .before .args .ram .now)) _ (c .before .before .chunk-count .ensures) (c .before .lengths-fit .ensures)) ∙ c .if7 .taken) refl ∙ laws.build-last (world (c .before .before .before .before .before .before .before .before .before .before .before .before .before .before .before .before .args .state .now) (c .before .before .before .before .before .before .before .before .before .before .before .before .before .before .before .before .args .registered .now) (c .before .before .before .before .before .before .before .before .before .before .before .before .before .before .before .before .args .failed .now)) (c .before .before .before .before .before .before .before .before .before .before .before .before .before .before .before .before .args .ram .now) (c .before .before .before .before .before .before .before .before .before .before .before .before .before .before .before .before .args .offset) (c .before .before .before .before .before .before .before .before .before .before .before .before .before .before .before .before .args .g) (c .before .before .before .before .before .before .before .before .before .before .before .refusal .result) (c .before .before .before .before .before .before .before .before .before .before .before .refusal .ensures) (c .before .before .before .before .before .before .before .before .before .before .if1 .left) (c .before .before .before .before .before .before .before .before .before .if2 .left) (omega (arith, c .before .before .before .before .before .before .before .before .last-end .ensures)) (c .before .before .before .before .before .before .if4 .left) (sym (c .before .before .before .before .before .is-power-from .ensures) ∙ not-false _ (c .before .before .before .before .if5 .left)) (c .before .before .before .if6 .left)
+returns-7 c =
+    let a = c .before .before .before .before .before .before .before .before .before .before .before .before .before .before .before .before .args in
+    let w = world (a .state .now) (a .registered .now) (a .failed .now) in
+    let e = c .before .before .before .before .before .before .before .before .before .before .before .refusal in
+    passes _ _ _ _ (sym (laws.lengths-fit (a .registered .now) (a .failed .now) (c .before .before .chunk-count .result) (a .g) (entriesOf (a .ram .now)) _ (c .before .before .chunk-count .ensures) (c .before .lengths-fit .ensures)) ∙ c .if7 .taken) refl
+    ∙ laws.build-last w (a .ram .now) (a .offset) (a .g) (e .result) (e .ensures) (c .before .before .before .before .before .before .before .before .before .before .if1 .left) (c .before .before .before .before .before .before .before .before .before .if2 .left) (omega (arith, c .before .before .before .before .before .before .before .before .last-end .ensures)) (c .before .before .before .before .before .before .if4 .left)
+    (c .before .before .before .before .before .if5 .left) (sym (c .before .before .before .before .is-power-from .ensures) ∙ not-false _ (c .before .before .before .if6 .left))
 
 returns-8 : tie.Need-returns-8
-returns-8 c = refuses _ _ _ (sym (laws.lengths-fit (c .before .before .before .before .before .before .before .before .before .before .before .before .before .before .before .before .args .registered .now) (c .before .before .before .before .before .before .before .before .before .before .before .before .before .before .before .before .args .failed .now) (c .before .before .chunk-count .result) (c .before .before .before .before .before .before .before .before .before .before .before .before .before .before .before .before .args .g) (entriesOf (c .before .before .before .before .before .before .before .before .before .before .before .before .before .before .before .before .args .ram .now)) _ (c .before .before .chunk-count .ensures) (c .before .lengths-fit .ensures)) ∙ c .if7 .left) ∙ laws.build-last (world (c .before .before .before .before .before .before .before .before .before .before .before .before .before .before .before .before .args .state .now) (c .before .before .before .before .before .before .before .before .before .before .before .before .before .before .before .before .args .registered .now) (c .before .before .before .before .before .before .before .before .before .before .before .before .before .before .before .before .args .failed .now)) (c .before .before .before .before .before .before .before .before .before .before .before .before .before .before .before .before .args .ram .now) (c .before .before .before .before .before .before .before .before .before .before .before .before .before .before .before .before .args .offset) (c .before .before .before .before .before .before .before .before .before .before .before .before .before .before .before .before .args .g) (c .before .before .before .before .before .before .before .before .before .before .before .refusal .result) (c .before .before .before .before .before .before .before .before .before .before .before .refusal .ensures) (c .before .before .before .before .before .before .before .before .before .before .if1 .left) (c .before .before .before .before .before .before .before .before .before .if2 .left) (omega (arith, c .before .before .before .before .before .before .before .before .last-end .ensures)) (c .before .before .before .before .before .before .if4 .left) (sym (c .before .before .before .before .before .is-power-from .ensures) ∙ not-false _ (c .before .before .before .before .if5 .left)) (c .before .before .before .if6 .left)
+returns-8 c =
+    let a = c .before .before .before .before .before .before .before .before .before .before .before .before .before .before .before .before .args in
+    let w = world (a .state .now) (a .registered .now) (a .failed .now) in
+    let e = c .before .before .before .before .before .before .before .before .before .before .before .refusal in
+    refuses _ _ _ (sym (laws.lengths-fit (a .registered .now) (a .failed .now) (c .before .before .chunk-count .result) (a .g) (entriesOf (a .ram .now)) _ (c .before .before .chunk-count .ensures) (c .before .lengths-fit .ensures)) ∙ c .if7 .left)
+    ∙ laws.build-last w (a .ram .now) (a .offset) (a .g) (e .result) (e .ensures) (c .before .before .before .before .before .before .before .before .before .before .if1 .left) (c .before .before .before .before .before .before .before .before .before .if2 .left) (omega (arith, c .before .before .before .before .before .before .before .before .last-end .ensures)) (c .before .before .before .before .before .before .if4 .left)
+    (c .before .before .before .before .before .if5 .left) (sym (c .before .before .before .before .is-power-from .ensures) ∙ not-false _ (c .before .before .before .if6 .left))
 
 pub build-refusal-spec : {M : Type 1} → statement M
 build-refusal-spec =
@@ -63,8 +100,8 @@ build-refusal-spec =
     last-end-requires
     returns-3
     returns-4
-    is-power-from-requires
     returns-5
+    is-power-from-requires
     returns-6
     chunk-count-requires
     lengths-fit-requires

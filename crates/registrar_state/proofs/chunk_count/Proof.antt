@@ -1,6 +1,6 @@
 -- `registrar_state::chunk_count` meets its contract. Assumes nothing.
 use borrow.Author.Needs.{needs}
-use Rattle.registrar_state.specs.Laws as laws
+use Rattle.registrar_state.proofs.Laws as laws
 use Rattle.registrar_state.proofs.chunk_count.Statement.{statement}
 use Rattle.registrar_state.proofs.chunk_count.Tie as tie
 

@@ -1,5 +1,5 @@
 -- `registrar_state::chunks_fit` meets its contract. Assumes nothing.
-use Rattle.registrar_state.specs.Laws as laws
+use Rattle.registrar_state.proofs.Laws as laws
 use Rattle.registrar_state.proofs.chunks_fit.Statement.{statement}
 use Rattle.registrar_state.proofs.chunks_fit.Tie as tie
 

@@ -1,7 +1,7 @@
 -- `registrar_state::is_known` meets its contract. Assumes nothing.
 use borrow.Author.Needs.{needs}
 use borrow.Author.Tests.{not-true, not-false}
-use Rattle.registrar_state.specs.Laws as laws
+use Rattle.registrar_state.proofs.Laws as laws
 use Rattle.registrar_state.proofs.is_known.Statement.{statement}
 use Rattle.registrar_state.proofs.is_known.Tie as tie
 

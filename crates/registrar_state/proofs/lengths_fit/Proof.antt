@@ -1,6 +1,6 @@
 -- `registrar_state::lengths_fit` meets its contract. Assumes nothing.
 use borrow.Author.Needs.{needs}
-use Rattle.registrar_state.specs.Laws as laws
+use Rattle.registrar_state.proofs.Laws as laws
 use Rattle.registrar_state.proofs.lengths_fit.Statement.{statement}
 use Rattle.registrar_state.proofs.lengths_fit.Tie as tie
 

@@ -2,7 +2,7 @@
 use native.Mathlib.Omega.{arith}
 use borrow.Author.Needs.{needs}
 use lib.ListN.{length-set}
-use Rattle.registrar_state.specs.Laws as laws
+use Rattle.registrar_state.proofs.Laws as laws
 use Rattle.registrar_state.proofs.save.Statement.{statement}
 use Rattle.registrar_state.proofs.save.Tie as tie
 

@@ -1,7 +1,7 @@
 -- `registrar_steps::act` meets its contract. Assumes nothing.
 use borrow.Author.Needs.{needs}
 use Rattle.layout.specs.Layout.{entriesOf}
-use Rattle.registrar_steps.specs.Laws as laws
+use Rattle.registrar_steps.proofs.Laws as laws
 use Rattle.registrar_steps.proofs.act.Statement.{statement}
 use Rattle.registrar_steps.proofs.act.Tie as tie
 

@@ -1,6 +1,6 @@
 -- `registrar_steps::is_barred` meets its contract. Assumes nothing.
 use borrow.Author.Tests.{eq-eqb, ne-eqb}
-use Rattle.chunks.specs.Laws as chunk-laws
+use Rattle.chunks.proofs.Laws as chunk-laws
 use Rattle.registrar_steps.proofs.is_barred.Statement.{statement}
 use Rattle.registrar_steps.proofs.is_barred.Tie as tie
 

@@ -2,7 +2,7 @@
 use native.Mathlib.Omega.{arith}
 use borrow.Author.Tests.{leb-true}
 use Rattle.laws.specs.Bools.{false≢true}
-use Rattle.registrar_steps.specs.Laws as laws
+use Rattle.registrar_steps.proofs.Laws as laws
 use Rattle.registrar_steps.proofs.is_whole.Statement.{statement}
 use Rattle.registrar_steps.proofs.is_whole.Tie as tie
 

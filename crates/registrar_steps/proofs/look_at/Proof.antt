@@ -3,8 +3,8 @@ use native.Mathlib.Omega.{arith}
 use borrow.Author.Needs.{needs}
 use mathlib.Core.Path.{sym, ap, _∙_}
 use Prim.Native.Nat.{max}
-use Rattle.registrar_steps.specs.Laws as laws
-use Rattle.chunks.specs.Laws as chunk-laws
+use Rattle.registrar_steps.proofs.Laws as laws
+use Rattle.chunks.proofs.Laws as chunk-laws
 use Rattle.registrar_steps.proofs.look_at.Statement.{statement}
 use Rattle.registrar_steps.proofs.look_at.Tie as tie
 
@@ -37,8 +37,9 @@ stretch-in-requires c κs = omega (arith, chunk-laws.quotient-fits (c .before .b
 
 returns-3 : tie.Need-returns-3
 returns-3 c =
+    let a = c .before .before .before .before .before .before .before .before .before .before .before .before .args in
     let p = c .before .before .before .before .before .before .aligned-subrange in
-    laws.look-in (c .before .before .before .before .before .before .before .before .before .before .before .before .args .g) (c .before .before .before .before .before .before .before .before .before .before .before .before .args .registered .now) (c .before .before .before .before .before .before .before .before .before .before .before .before .args .failed .now) (c .before .before .before .before .before .before .before .before .before .before .before .before .args .alignment) (c .before .before .before .before .before .before .before .before .before .before .before .before .args .ignore) (c .before .before .before .before .before .before .before .before .before .before .before .before .args .c) (c .before .before .before .before .before .before .before .before .before .before .before .before .args .r) (c .before .before .before .before .before .before .before .before .before .unaligned-edge .result) (c .before .before .before .before .before .before .before .before .before .unaligned-edge .ensures) (sym (c .before .before .before .before .before .before .before .before .is-barred .ensures) ∙ c .before .before .before .before .before .before .before .if1 .left) (p .result) (p .ensures) (c .before .before .greatest .result) (c .before .div2 .result) (c .stretch-in .result) (c .before .before .before .before .if2 .left) (c .before .before .greatest .ensures ∙ ap (max (c .before .before .before .before .before .before .before .before .before .before .before .before .args .c)) (c .before .before .before .div .ensures)) (c .before .div2 .ensures) (c .stretch-in .ensures)
+    laws.look-in (a .g) (a .registered .now) (a .failed .now) (a .alignment) (a .ignore) (a .c) (a .r) (c .before .before .before .before .before .before .before .before .before .unaligned-edge .result) (c .before .before .before .before .before .before .before .before .before .unaligned-edge .ensures) (sym (c .before .before .before .before .before .before .before .before .is-barred .ensures) ∙ c .before .before .before .before .before .before .before .if1 .left) (p .result) (p .ensures) (c .before .before .greatest .result) (c .before .div2 .result) (c .stretch-in .result) (c .before .before .before .before .if2 .left) (c .before .before .greatest .ensures ∙ ap (max (a .c)) (c .before .before .before .div .ensures)) (c .before .div2 .ensures) (c .stretch-in .ensures)
 
 pub look-at-spec : {M : Type 1} → statement M
 look-at-spec =

@@ -3,7 +3,7 @@ use borrow.Author.Needs.{needs}
 use mathlib.Core.Path.{sym, _∙_}
 use Rattle.layout.specs.Layout.{entriesOf}
 use Rattle.registrar_steps.specs.Steps.{seen}
-use Rattle.registrar_steps.specs.Laws as laws
+use Rattle.registrar_steps.proofs.Laws as laws
 use Rattle.registrar_steps.proofs.offer_of.Statement.{statement}
 use Rattle.registrar_steps.proofs.offer_of.Tie as tie
 
@@ -35,13 +35,17 @@ stop-of-requires-3 : tie.Need-stop-of-requires-3
 stop-of-requires-3 c κs = search needs
 
 returns-3 : tie.Need-returns-3
-returns-3 c = laws.offer-none (seen (c .before .before .before .before .before .before .before .before .before .before .before .args .g) (entriesOf (c .before .before .before .before .before .before .before .before .before .before .before .args .ram .now)) (c .before .before .before .before .before .before .before .before .before .before .before .args .registered .now) (c .before .before .before .before .before .before .before .before .before .before .before .args .failed .now)) (c .before .before .before .before .before .before .before .before .before .before .before .args .c) (c .stop-of3 .result) (sym (c .before .before .before .before .before .before .before .get .ensures) ∙ c .before .before .before .before .before .before .if1 .left) (sym (c .before .before .before .before .before .get2 .ensures) ∙ c .before .before .before .before .if2 .left) (c .before .before .before .chunk-ram .result) (c .before .before .before .chunk-ram .ensures) (c .before .if3 .taken) (c .stop-of3 .ensures)
+returns-3 c =
+    let a = c .before .before .before .before .before .before .before .before .before .before .before .args in
+    laws.offer-none (seen (a .g) (entriesOf (a .ram .now)) (a .registered .now) (a .failed .now)) (a .c) (c .stop-of3 .result) (sym (c .before .before .before .before .before .before .before .get .ensures) ∙ c .before .before .before .before .before .before .if1 .left) (sym (c .before .before .before .before .before .get2 .ensures) ∙ c .before .before .before .before .if2 .left) (c .before .before .before .chunk-ram .result) (c .before .before .before .chunk-ram .ensures) (c .before .if3 .taken) (c .stop-of3 .ensures)
 
 stop-of-requires-4 : tie.Need-stop-of-requires-4
 stop-of-requires-4 c κs = search needs
 
 returns-4 : tie.Need-returns-4
-returns-4 c = laws.offer-some (seen (c .before .before .before .before .before .before .before .before .before .before .before .args .g) (entriesOf (c .before .before .before .before .before .before .before .before .before .before .before .args .ram .now)) (c .before .before .before .before .before .before .before .before .before .before .before .args .registered .now) (c .before .before .before .before .before .before .before .before .before .before .before .args .failed .now)) (c .before .before .before .before .before .before .before .before .before .before .before .args .c) (c .stop-of4 .result) (sym (c .before .before .before .before .before .before .before .get .ensures) ∙ c .before .before .before .before .before .before .if1 .left) (sym (c .before .before .before .before .before .get2 .ensures) ∙ c .before .before .before .before .if2 .left) (c .before .before .before .chunk-ram .result) (c .before .before .before .chunk-ram .ensures) (c .before .if3 .left) (c .stop-of4 .ensures)
+returns-4 c =
+    let a = c .before .before .before .before .before .before .before .before .before .before .before .args in
+    laws.offer-some (seen (a .g) (entriesOf (a .ram .now)) (a .registered .now) (a .failed .now)) (a .c) (c .stop-of4 .result) (sym (c .before .before .before .before .before .before .before .get .ensures) ∙ c .before .before .before .before .before .before .if1 .left) (sym (c .before .before .before .before .before .get2 .ensures) ∙ c .before .before .before .before .if2 .left) (c .before .before .before .chunk-ram .result) (c .before .before .before .chunk-ram .ensures) (c .before .if3 .left) (c .stop-of4 .ensures)
 
 pub offer-of-spec : {M : Type 1} → statement M
 offer-of-spec =

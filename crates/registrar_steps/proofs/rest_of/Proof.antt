@@ -2,7 +2,7 @@
 use native.Mathlib.Omega.{arith}
 use borrow.Author.Needs.{needs}
 use Rattle.layout.specs.Layout.{entriesOf}
-use Rattle.registrar_steps.specs.Laws as laws
+use Rattle.registrar_steps.proofs.Laws as laws
 use Rattle.registrar_steps.proofs.rest_of.Statement.{statement}
 use Rattle.registrar_steps.proofs.rest_of.Tie as tie
 

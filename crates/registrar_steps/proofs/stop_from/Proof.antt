@@ -4,7 +4,7 @@ use mathlib.Core.Path.{refl, ap, _∙_}
 use Prim.Native.Nat.{min}
 use Rattle.layout.specs.Layout.{entriesOf}
 use Rattle.registrar_steps.specs.Steps.{seen, stopAt}
-use Rattle.registrar_steps.specs.Laws as laws
+use Rattle.registrar_steps.proofs.Laws as laws
 use Rattle.registrar_steps.proofs.stop_from.Statement.{statement}
 use Rattle.registrar_steps.proofs.stop_from.Tie as tie
 

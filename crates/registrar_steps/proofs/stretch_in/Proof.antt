@@ -2,7 +2,7 @@
 use native.Mathlib.Omega.{arith}
 use borrow.Author.Needs.{needs}
 use mathlib.Core.Path.{sym, _∙_}
-use Rattle.registrar_steps.specs.Laws as laws
+use Rattle.registrar_steps.proofs.Laws as laws
 use Rattle.registrar_steps.proofs.stretch_in.Statement.{statement}
 use Rattle.registrar_steps.proofs.stretch_in.Tie as tie
 

@@ -21,8 +21,8 @@ use Rattle.layout.specs.declared.MemoryRangeWithNode.{MemoryRangeWithNode}
 use Rattle.layout.specs.declared.Span.{Span}
 use Rattle.layout.specs.Layout.{range, entry, entryAt, spans, spanAt}
 use Rattle.layout.proofs.Laws.{spans-at, spans-end, next-entry, no-entry, span-next as span-after}
-use Rattle.chunks.specs.Chunks.{up, powerFrom, empty, pieces, firstOf, firstNot, alike, alignedPart, edgeOf, entryWith}
-use Rattle.chunks.specs.Scan.{Ahead, first-stop, first-end, first-all}
+use Rattle.chunks.specs.Chunks.{up, powerFrom, empty, pieces, firstOf, firstNot, Ahead, alike, alignedPart, edgeOf, entryWith}
+use Rattle.chunks.proofs.Scan.{first-stop, first-end, first-all}
 
 -- ---- division, rounded down and up
 

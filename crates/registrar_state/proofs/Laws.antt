@@ -2,29 +2,29 @@
 use native.Mathlib.Omega.{arith}
 use native.Mathlib.Decide.{decLt}
 use mathlib.Core.Path.{_≡_, refl, sym, ap, ap₂, _∙_}
-use mathlib.Core.Bool.{Bool, true, false, cond, _||_, _&&_}
+use mathlib.Core.Bool.{Bool, true, false, not, cond, _||_, _&&_}
 use mathlib.Core.List.{List, [], _∷_, _++_}
 use Prim.Native.Nat.{ℕ, _+_, _-_, _*_, _/_, _%_, _^_, _≤_, _<_, min, max}
-use lib.Dec.{eqb, leb}
+use lib.Dec.{eqb, leb, ltb}
 use lib.ListN.{length, getD, drop, take, set, length-drop}
 use lib.Seq.{take-all}
-use borrow.Author.Tests.{eqb-true, eq-eqb, ne-eqb, lt-ltb, le-ltb, le-leb, lt-leb, leb-true}
+use borrow.Author.Tests.{eqb-true, eq-eqb, ne-eqb, lt-ltb, le-ltb, le-leb, lt-leb, leb-true, ltb-true}
 use Rattle.laws.specs.Bools.{and-left, and-right, and-ends, both-true, or-left}
 use Rattle.laws.specs.Ranges.{between, between-from, between-to}
-use Rattle.laws.specs.Refusal.{unless}
+use Rattle.laws.specs.Refusal.{unless, passed}
 use Rattle.bitmap.specs.Pages.{bit, bitAt}
 use Rattle.bitmap.proofs.Map.{already}
 use Rattle.layout.specs.declared.MemoryRange.{MemoryRange}
 use Rattle.layout.specs.declared.MemoryRangeWithNode.{MemoryRangeWithNode}
 use Rattle.layout.specs.Layout.{entriesOf, refusalOf, lastEnd, spans}
 use Rattle.chunks.specs.Chunks.{up, chunkCount, firstChunk, endChunk, isPower, firstNot}
-use Rattle.chunks.specs.Scan.{first-holds, first-all}
+use Rattle.chunks.proofs.Scan.{first-holds, first-all}
 use Rattle.registrar_steps.specs.declared.Request.{Request}
 use Rattle.registrar_steps.specs.declared.Answer.the-variants.{Done}
 use Rattle.registrar_steps.specs.declared.Plan.{Plan}
 use Rattle.registrar_steps.specs.declared.Stop.{Stop}
 use Rattle.registrar_steps.specs.Steps.{Seen, seen, idle, isIdle, ends, ramFrom, passes, stopAt, allFrom}
-use Rattle.registrar_steps.specs.Laws.{register-done}
+use Rattle.registrar_steps.proofs.Laws.{register-done}
 use Rattle.registrar_state.specs.World.{World, outcome, requestOf, requestWords, withRequest, offsetOf, granularityOf, ramOf, entriesIn, seenIn, flatOf, lengthsFit, buildRefusal, callRefusal, countIn, chunksFit, marked, carriedOut, registerPlan, isKnown, restOf}
 
 -- ---- the request's words
@@ -152,25 +152,47 @@ module _ (w : World) (ram : List ℕ) (o g n : ℕ) (e : n ≡ refusalOf ram) wh
         module _ (f : n ≡ 0) where
           -- what is tested last
           left : ℕ
-          left = unless (leb 4096 g && isPower g) 9 (unless (eqb (length (w .state)) 108) 4 (unless (lengthsFit g (entriesOf ram) (w .registered) (w .failed)) 4 0))
+          left = unless (eqb (length (w .state)) 108) 4 (unless (leb 4096 g && isPower g) 9 (unless (lengthsFit g (entriesOf ram) (w .registered) (w .failed)) 4 0))
 
           build-left : left ≡ buildRefusal w ram o g
           unfolding buildRefusal left
           build-left =
               rw (ne-eqb (refusalOf ram) 1 (λ q. a (e ∙ q)), eq-eqb (o % 4096) 0 b, lt-ltb (o + lastEnd (entriesOf ram)) (2 ^ 64) d, eq-eqb (refusalOf ram) 0 (sym e ∙ f))
 
-          pub build-power : (leb 4096 g && isPower g) ≡ false → 9 ≡ buildRefusal w ram o g
+          pub build-state : (length (w .state) ≡ 108 → ⊥) → 4 ≡ buildRefusal w ram o g
           unfolding left
-          build-power h = sym (rw h) ∙ build-left
+          build-state h = sym (rw (ne-eqb (length (w .state)) 108 h)) ∙ build-left
 
-          module _ (i : (leb 4096 g && isPower g) ≡ true) where
-            pub build-state : (length (w .state) ≡ 108 → ⊥) → 4 ≡ buildRefusal w ram o g
+          module _ (i : length (w .state) ≡ 108) where
+            pub build-power : (leb 4096 g && isPower g) ≡ false → 9 ≡ buildRefusal w ram o g
             unfolding left
-            build-state h = sym (rw (i, ne-eqb (length (w .state)) 108 h)) ∙ build-left
+            build-power h = sym (rw (eq-eqb (length (w .state)) 108 i, h)) ∙ build-left
 
-            pub build-last : length (w .state) ≡ 108 → unless (lengthsFit g (entriesOf ram) (w .registered) (w .failed)) 4 0 ≡ buildRefusal w ram o g
+            pub build-last : (leb 4096 g && isPower g) ≡ true → unless (lengthsFit g (entriesOf ram) (w .registered) (w .failed)) 4 0 ≡ buildRefusal w ram o g
             unfolding left
-            build-last h = sym (rw (i, eq-eqb (length (w .state)) 108 h)) ∙ build-left
+            build-last h = sym (rw (eq-eqb (length (w .state)) 108 i, h)) ∙ build-left
+
+-- what a build that is taken was given
+pub record BuildFits (w : World) (ram : List ℕ) (o g : ℕ) : Type 0 where
+  pub layout : refusalOf ram ≡ 0
+  pub room : o + lastEnd (entriesOf ram) < 2 ^ 64
+  pub block : length (w .state) ≡ 108
+  pub fine : leb 4096 g ≡ true
+  pub power : isPower g ≡ true
+  pub lengths : lengthsFit g (entriesOf ram) (w .registered) (w .failed) ≡ true
+
+pub build-fits : (w : World) (ram : List ℕ) (o g : ℕ) → buildRefusal w ram o g ≡ 0 → BuildFits w ram o g
+unfolding buildRefusal
+build-fits w ram o g z =
+    let a = passed (not (eqb (refusalOf ram) 1)) 0 _ z in
+    let b = passed (eqb (o % 4096) 0) 0 _ (a .1) in
+    let c = passed (ltb (o + lastEnd (entriesOf ram)) (2 ^ 64)) 0 _ (b .1) in
+    let d = passed (eqb (refusalOf ram) 0) 1 _ (c .1) in
+    let e = passed (eqb (length (w .state)) 108) 3 _ (d .1) in
+    let f = passed (leb 4096 g && isPower g) 8 _ (e .1) in
+    let p = both-true (leb 4096 g) (isPower g) (f .0) in
+    let l = passed (lengthsFit g (entriesOf ram) (w .registered) (w .failed)) 3 _ (f .1) in
+    record { layout = eqb-true _ _ (d .0); room = ltb-true (o + lastEnd (entriesOf ram)) (2 ^ 64) (c .0); block = eqb-true _ _ (e .0); fine = p .0; power = p .1; lengths = l .0 }
 
 -- ---- plans
 

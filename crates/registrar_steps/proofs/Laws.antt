@@ -16,8 +16,8 @@ use Rattle.layout.specs.declared.Span.{Span}
 use Rattle.layout.specs.Layout.{range, entriesOf, lastEnd, spans, spanAt}
 use Rattle.layout.proofs.Laws.{entries-at, entries-past, spans-end}
 use Rattle.chunks.specs.Chunks.{chunkCount, empty, pieces, firstOf, firstNot, alike, alignedPart, edgeOf}
-use Rattle.chunks.specs.Laws.{below-up, pieces-past, span-step}
-use Rattle.chunks.specs.Scan.{first-step, first-stop, first-end, first-to}
+use Rattle.chunks.proofs.Laws.{below-up, pieces-past, span-step}
+use Rattle.chunks.proofs.Scan.{first-step, first-stop, first-end, first-to}
 use Rattle.registrar_steps.specs.declared.Request.{Request}
 use Rattle.registrar_steps.specs.declared.Unaligned.{Unaligned}
 use Rattle.registrar_steps.specs.declared.Answer.the-variants.{Done, RegistrationFailed, UnalignedMemory}
@@ -155,7 +155,10 @@ module _ (s : Seen) (c e : ℕ) where
 pub stop-below : (s : Seen) (c e : ℕ) (a : Stop) → a ≡ stopAt s c e → a .what ≡ 1 → a .chunk < e
 unfolding stopAt
 stop-below s c e a q h = elim (decLt (firstNot (passes s) c e) e) [
-  | yes d ↦ omega (arith, below (bitAt 64 (s .failed) (firstNot (passes s) c e)) (stop 2 (firstNot (passes s) c e) (firstNot (passes s) c e * s .granularity) 0) (stop 1 (firstNot (passes s) c e) (ramFrom (s .granularity) (s .entries) (firstNot (passes s) c e) (firstNot (passes s) c e * s .granularity) .start) (ramFrom (s .granularity) (s .entries) (firstNot (passes s) c e) (firstNot (passes s) c e * s .granularity) .end)) refl refl (q ∙ rw (lt-ltb (firstNot (passes s) c e) e d)), d)
+  | yes d ↦
+      let t : ℕ = firstNot (passes s) c e in
+      let r : MemoryRange = ramFrom (s .granularity) (s .entries) t (t * s .granularity) in
+      omega (arith, below (bitAt 64 (s .failed) t) (stop 2 t (t * s .granularity) 0) (stop 1 t (r .start) (r .end)) refl refl (q ∙ rw (lt-ltb t e d)), d)
   | no d ↦
       let ended : a ≡ stop 0 (firstNot (passes s) c e) 0 0 = q ∙ rw (le-ltb (firstNot (passes s) c e) e (omega arith)) in
       absurd (omega (arith, ap (λ (k : Stop). k .what) ended))

@@ -5,13 +5,7 @@ use native.Mathlib.Decide.{decLt}
 use mathlib.Core.Path.{_≡_, refl, sym, ap, _∙_}
 use mathlib.Core.Bool.{Bool, true, false, cond}
 use Prim.Native.Nat.{ℕ, zero, suc, _+_, _-_, _≤_, _<_, max}
-use Rattle.chunks.specs.Chunks.{firstNotOf, firstNot}
-
--- P holds of n numbers from c on, all before e; where n is 0, not of c
-pub record Ahead (P : ℕ → Bool) (c e n : ℕ) : Type 0 where
-  pub within : c + n ≤ e
-  pub holds : (q : ℕ) → c ≤ q → q < c + n → P q ≡ true
-  pub stops : n ≡ 0 → P c ≡ false
+use Rattle.chunks.specs.Chunks.{firstNotOf, firstNot, Ahead}
 
 module _ (P : ℕ → Bool) where
   pub ahead-one : (c e : ℕ) → c < e → P c ≡ true → Ahead P c e 1

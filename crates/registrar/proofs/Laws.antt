@@ -2,7 +2,7 @@
 use native.Mathlib.Omega.{arith}
 use native.Mathlib.Numerals.{add-one}
 use mathlib.Core.Path.{_≡_, refl, sym, ap, ap₂, _∙_}
-use mathlib.Core.Bool.{Bool, true, false, not, cond, _&&_}
+use mathlib.Core.Bool.{Bool, true, false, not, cond}
 use mathlib.Core.List.{List, [], _∷_, _++_, append-assoc}
 use Prim.Native.Nat.{ℕ, suc, _+_, _-_, _*_, _%_, _^_, _≤_, _<_, min}
 use lib.Dec.{eqb, leb, ltb}
@@ -14,19 +14,18 @@ use Rattle.laws.specs.Refusal.{unless, passed, refused, answered}
 use Rattle.bitmap.specs.Pages.{bitAt}
 use Rattle.bitmap.proofs.Map.{none}
 use Rattle.layout.specs.declared.MemoryRange.{MemoryRange}
-use Rattle.layout.specs.Layout.{range, entriesOf, refusalOf, lastEnd, spans}
+use Rattle.layout.specs.Layout.{range, entriesOf, spans}
 use Rattle.layout.proofs.Laws.{fit, entries-count}
-use Rattle.chunks.specs.Chunks.{chunkCount, firstChunk, endChunk, isPower, empty, firstNot}
+use Rattle.chunks.specs.Chunks.{chunkCount, firstChunk, endChunk, empty, firstNot}
 use Rattle.registrar_steps.specs.declared.Request.{Request}
 use Rattle.registrar_steps.specs.declared.Answer.the-variants.{Done, RegistrationFailed, Refused}
 use Rattle.registrar_steps.specs.declared.Plan.{Plan}
 use Rattle.registrar_steps.specs.declared.Stop.{Stop}
 use Rattle.registrar_steps.specs.Steps.{idle, askedOf, asks, ends, ramFrom, passes, pieceOf, registerFrom, stopAt, stopPlan, allFrom}
-use Rattle.registrar_steps.specs.Laws.{register-stopped}
+use Rattle.registrar_steps.proofs.Laws.{register-stopped}
 use Rattle.registrar_state.specs.declared.Reply.{Reply}
 use Rattle.registrar_state.specs.World.{World, world, Outcome, outcome, requestOf, withRequest, offsetOf, granularityOf, entriesIn, seenIn, builtState, simple, flatOf, decided, buildRefusal, callRefusal, chunksFit, registerRefusal, allRefusal, marked, carriedOut, registerPlan, isKnown, answerRefusal, restOf, hasRest, takenTo, donePlan, afterTaken}
-use Rattle.registrar_state.specs.Laws.{known-kept}
-use Rattle.registrar.specs.Stored.{Stored, answerOf}
+use Rattle.registrar_state.proofs.Laws.{build-fits, known-kept}
 
 -- ---- a call refused, and one carried out
 
@@ -83,16 +82,10 @@ module _ (w : World) (n : ℕ) (z : n ≡ 0) where
 
 -- a layout that is taken has 96 words at most, and the state block its length
 pub build-lengths : (w : World) (ram : List ℕ) (o g n : ℕ) → n ≡ 0 → n ≡ buildRefusal w ram o g → (length (w .state) ≡ 108) × (length ram ≤ 96)
-unfolding buildRefusal
 build-lengths w ram o g n z e =
-    let a = passed (not (eqb (refusalOf ram) 1)) 0 _ (sym e ∙ z) in
-    let b = passed (eqb (o % 4096) 0) 0 _ (a .1) in
-    let d = passed (ltb (o + lastEnd (entriesOf ram)) (2 ^ 64)) 0 _ (b .1) in
-    let f = passed (eqb (refusalOf ram) 0) 1 _ (d .1) in
-    let g = passed (leb 4096 g && isPower g) 8 _ (f .1) in
-    let h = passed (eqb (length (w .state)) 108) 3 _ (g .1) in
-    let k = fit ram (eqb-true (refusalOf ram) 0 (f .0)) in
-    (eqb-true _ _ (h .0), omega (arith, k .divided, k .few, entries-count ram))
+    let t = build-fits w ram o g (sym e ∙ z) in
+    let k = fit ram (t .layout) in
+    (t .block, omega (arith, k .divided, k .few, entries-count ram))
 
 -- the block while it is filled
 abbrev pub filledTo : List ℕ → ℕ → ℕ → ℕ → List ℕ
@@ -126,6 +119,16 @@ filled-all ram o g i h k =
 pub plan-made : (w : World) (p q : Plan) (s m : List ℕ) (r : Reply) → q ≡ p → s ≡ withRequest (q .request) (w .state) → m ≡ marked (q .from) (q .to) (w .registered)
     → r ≡ flatOf (q .answer) → outcome s m (w .failed) r ≡ carriedOut w p
 plan-made w p q s m r e hs hm hr = let here : outcome s m (w .failed) r ≡ carriedOut w q = cc in here ∙ ap (carriedOut w) e
+
+-- how `register` goes on between its two parts: what a plan stores and marks, and where it stops
+abbrev pub Stored : World → Plan → List ℕ → List ℕ → ℕ → Type 0
+Stored w p s m c = (s ≡ withRequest (p .request) (w .state)) × (m ≡ marked (p .from) (p .to) (w .registered)) × (c ≡ p .to)
+
+-- then what is answered, of the words that are stored: the operation asked for, else where the request stops
+abbrev pub answerOf : List ℕ → ℕ → ℕ → ℕ → ℕ → Reply
+answerOf s n count until c =
+    cond (eqb (getD s 0 0) 1) (simple 0 1 0 ((offsetOf s + getD s 4 0) % 2 ^ 64) ((offsetOf s + getD s 5 0) % 2 ^ 64) 0)
+    (cond (ltb c (min until n)) (simple 23 0 count 0 0 (c * granularityOf s)) (simple 0 0 count 0 0 0))
 
 stored : (w : World) (p q : Plan) (s m : List ℕ) (c : ℕ) → q ≡ p → s ≡ withRequest (q .request) (w .state) → m ≡ marked (q .from) (q .to) (w .registered) → c ≡ q .to → Stored w p s m c
 stored w p q s m c e hs hm hc =

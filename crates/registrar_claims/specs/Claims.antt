@@ -1,0 +1,111 @@
+-- What is claimed of a registrar wherever a list of any calls from its build stops, refused ones and later builds among them.
+use mathlib.Core.Path.{_≡_}
+use mathlib.Core.Bool.{Bool, true, false, _||_, _&&_}
+use mathlib.Core.List.{List}
+use Prim.Native.Nat.{ℕ, _+_, _/_, _%_, _^_, _≤_, _<_}
+use lib.Dec.{leb}
+use lib.ListN.{length}
+use Rattle.bitmap.specs.Pages.{bitAt}
+use Rattle.layout.specs.Layout.{range, entriesOf}
+use Rattle.chunks.specs.Chunks.{up, chunkCount, mapWords, firstChunk, endChunk, isPower}
+use Rattle.registrar_steps.specs.declared.Request.{Request}
+use Rattle.registrar_steps.specs.declared.Answer.the-variants.{Done, Register, Refused}
+use Rattle.registrar_steps.specs.Steps.{askedOf}
+use Rattle.registrar_state.specs.World.{World, requestOf, offsetOf, granularityOf, ramOf, flatOf, buildOf, registerRefusal, allRefusal, registerOf, allOf, doneOf, failedOf}
+use Rattle.registrar_claims.specs.Runs.{Call, give, isBuild, isTaken, underWay, after, awaitsAfter, Settings, builtWith, settingsAfter, quiet, Told, follow}
+use Rattle.registrar_claims.specs.Changes.{withTaken, withFailed, Kept, Stays}
+use Rattle.registrar_claims.specs.Whole.{wholeRegister, wholeAll, Match}
+use Rattle.registrar_claims.specs.Ends.{RequestEnds}
+
+-- ---- what is lent stays a registrar's, and what 01 takes is taken
+
+-- widened to pages and then to chunks, the request touches no chunk past the last
+abbrev pub isWithin : Settings → ℕ → ℕ → Bool
+isWithin b address len =
+    let end : ℕ = endChunk (b .granularity) address len in
+    leb end (firstChunk (b .granularity) address) || leb end (chunkCount (b .granularity) (entriesOf (b .ram)))
+
+-- edges are ignored or not, and the alignment is a power of two from the granularity on
+abbrev pub isAligned : Settings → ℕ → ℕ → Bool
+isAligned b al ignore = leb ignore 1 && (leb (b .granularity) al && isPower al)
+
+-- a registrar v that was built so, and that awaits an answer or not
+pub record Stands (v : World) (b : Settings) (awaits : Bool) : Type 0 where
+  -- offset, granularity and layout are the build's
+  pub same-offset : offsetOf (v .state) ≡ b .offset
+  pub same-granularity : granularityOf (v .state) ≡ b .granularity
+  pub same-ram : ramOf (v .state) ≡ b .ram
+  -- all that is lent has the length that the build asked for
+  pub state-length : length (v .state) ≡ 108
+  pub registered-length : length (v .registered) ≡ mapWords (b .granularity) (entriesOf (b .ram))
+  pub failed-length : length (v .failed) ≡ mapWords (b .granularity) (entriesOf (b .ram))
+  -- an answer that is awaited is taken, done or failed; any other is refused by 21
+  pub told : underWay v ≡ awaits
+  pub answer-taken : awaits ≡ true → (isTaken (doneOf v) ≡ true) × (isTaken (failedOf v) ≡ true)
+  pub answer-refused : awaits ≡ false → (doneOf v ≡ record { world = v; reply = flatOf (Refused 21) }) × (failedOf v ≡ record { world = v; reply = flatOf (Refused 21) })
+  -- where none is awaited a request within the limits is taken
+  pub register-taken : awaits ≡ false → (address len : ℕ) → isWithin b address len ≡ true → isTaken (registerOf v address len) ≡ true
+  pub all-taken : awaits ≡ false → (al ignore : ℕ) → isAligned b al ignore ≡ true → isTaken (allOf v al ignore) ≡ true
+
+-- ---- a call that is taken is, under any answers, the whole call as 01 writes it
+
+abbrev pub RegisterWhole : World → Type 0
+RegisterWhole v = (address len : ℕ) (bs : List Bool) → registerRefusal v address len ≡ 0 → Match 0 (follow (registerOf v address len) bs) (wholeRegister v address len bs)
+
+abbrev pub AllWhole : World → Type 0
+AllWhole v = (al ignore : ℕ) (bs : List Bool) → allRefusal v al ignore ≡ 0 → Match 0 (follow (allOf v al ignore) bs) (wholeAll v al ignore bs)
+
+-- a request whose chunks are all registered is Ok, asks for nothing and changes no word
+abbrev pub RegisteredKept : World → Type 0
+RegisteredKept v =
+    (address len : ℕ) → registerRefusal v address len ≡ 0
+    → ((c : ℕ) → firstChunk (granularityOf (v .state)) address ≤ c → c < endChunk (granularityOf (v .state)) address len → bitAt 64 (v .registered) c ≡ true)
+    → registerOf v address len ≡ record { world = v; reply = flatOf (Done 0) }
+
+-- the chunks that a request touches, widened to pages or not, are those of its bytes
+abbrev pub ChunksPlain : World → Type 0
+ChunksPlain v =
+    let g : ℕ = granularityOf (v .state) in
+    (address len : ℕ) → (firstChunk g address ≡ address / g) × (endChunk g address len ≡ up (address + len) g)
+
+-- what is asked for lies at offset + address, and no number wraps
+abbrev pub AskedPlain : World → Type 0
+AskedPlain v =
+    let o : ℕ = offsetOf (v .state) in
+    let q : Request = requestOf (v .state) in
+    askedOf o q ≡ Register (range (o + q .start) (o + q .end))
+
+-- ---- of any words that are lent
+
+-- a refusal leaves every lent word as given, save what 22 and 23 name; what is marked stays marked until a build
+abbrev pub RefusalsKeep : World → Type 0
+RefusalsKeep w = (x : Call) → Kept w (withTaken w x) (withFailed w x) (give w x)
+
+abbrev pub MarksStay : World → Type 0
+MarksStay w = (x : Call) (c : ℕ) → isBuild x ≡ false → Stays w c (give w x)
+
+-- a call that has ended, with Ok, 22 or 23, tells how many operations it asked for, in 64 bits
+abbrev pub Counts : Told → Type 0
+Counts t = t .last .reply .asked ≡ 0 → isTaken (t .last) ≡ true → t .last .reply .count ≡ length (t .asked) % 2 ^ 64
+
+-- ---- all of it
+
+pub record Claim (v : World) (b : Settings) (awaits : Bool) : Type 0 where
+  pub stands : Stands v b awaits
+  pub register-whole : RegisterWhole v
+  pub all-whole : AllWhole v
+  pub registered-kept : RegisteredKept v
+  pub chunks-plain : ChunksPlain v
+  pub asked-plain : AskedPlain v
+  pub refusals-keep : RefusalsKeep v
+  pub marks-stay : MarksStay v
+  pub register-counts : (address len : ℕ) (bs : List Bool) → Counts (follow (registerOf v address len) bs)
+  pub all-counts : (al ignore : ℕ) (bs : List Bool) → Counts (follow (allOf v al ignore) bs)
+  pub ends : RequestEnds v
+
+-- from a build that is taken on
+pub record FromBuild (w : World) (ram : List ℕ) (offset g : ℕ) : Type 0 where
+  pub always : (xs : List Call) → let u : World = buildOf w ram offset g .world in
+      Claim (after u xs) (settingsAfter u (builtWith ram offset g) xs) (awaitsAfter u false xs)
+  -- with no other build the settings stay this one's
+  pub stay : (xs : List Call) → quiet xs ≡ true → settingsAfter (buildOf w ram offset g .world) (builtWith ram offset g) xs ≡ builtWith ram offset g
