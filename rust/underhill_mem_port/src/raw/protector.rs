@@ -1,6 +1,8 @@
 //! The protector's entries; [`HardwareIsolatedMemoryProtector`](crate::HardwareIsolatedMemoryProtector)
 //! is what one wants instead.
 
+use super::entries;
+
 /// What an entry of the protector gives.
 #[repr(C)]
 #[derive(Debug, Clone, Copy, PartialEq, Eq, Default)]
@@ -138,99 +140,6 @@ pub fn list(gpns: &[u64]) -> &[u8] {
     };
     // SAFETY: the bytes are those of a slice that is borrowed as long, and any bytes are fit.
     unsafe { std::slice::from_raw_parts(gpns.as_ptr().cast(), size_of_val(gpns)) }
-}
-
-/// Declares entries that are lent all, between the words before and those behind. A slice crosses
-/// as its pointer and its length.
-macro_rules! lent {
-    ($($entry:ident([$($before:ident: $word:ty),*], [$($behind:ident: $more:ty),*]);)*) => {
-        unsafe extern "C" {
-            $(pub fn $entry(
-                $($before: $word,)*
-                private: *mut u8,
-                private_len: usize,
-                shared: *mut u8,
-                shared_len: usize,
-                read: *mut u8,
-                read_len: usize,
-                write: *mut u8,
-                write_len: usize,
-                kernel: *mut u8,
-                kernel_len: usize,
-                user: *mut u8,
-                user_len: usize,
-                state: *mut u64,
-                state_len: usize,
-                pages: *mut u64,
-                pages_len: usize,
-                tables: *mut u64,
-                tables_len: usize,
-                $($behind: $more,)*
-            ) -> Reply;)*
-        }
-    };
-}
-
-/// Declares entries that see maps and state and write nothing, with the words behind.
-macro_rules! seen {
-    ($($entry:ident($($behind:ident: $more:ty),*);)*) => {
-        unsafe extern "C" {
-            $(pub fn $entry(
-                private: *const u8,
-                private_len: usize,
-                shared: *const u8,
-                shared_len: usize,
-                read: *const u8,
-                read_len: usize,
-                write: *const u8,
-                write_len: usize,
-                kernel: *const u8,
-                kernel_len: usize,
-                user: *const u8,
-                user_len: usize,
-                state: *const u64,
-                state_len: usize,
-                $($behind: $more,)*
-            ) -> Value;)*
-        }
-    };
-}
-
-mod entries {
-    use super::Reply;
-    use super::Value;
-
-    lent! {
-        protector_build(
-            [ram: *const u64, ram_len: usize, isolation: u64, tracked: u64, release: u64],
-            []
-        );
-        protector_change_host_visibility(
-            [],
-            [vtl: u64, visibility: u64, list: *const u8, list_len: usize]
-        );
-        protector_answer_done([], []);
-        protector_answer_failed([], [code: u16, processed: u64]);
-    }
-
-    seen! {
-        protector_page_fault(mapping: u64, view: u64, address: u64, writes: u64, failure: u64);
-        protector_query_lower_vtl_permissions(vtl: u64, gpn: u64);
-        protector_query_access_permission(gpn: u64);
-    }
-
-    unsafe extern "C" {
-        pub fn protector_query_host_visibility(
-            state: *const u64,
-            state_len: usize,
-            shared: *const u8,
-            shared_len: usize,
-            list: *const u8,
-            list_len: usize,
-            out: *mut u8,
-            out_len: usize,
-        ) -> Reply;
-    }
 }
 
 /// Calls an entry with what is lent between the words before and those behind.

@@ -1,5 +1,7 @@
 //! The registrar's entries; [`MemoryRegistrar`](crate::MemoryRegistrar) is what one wants instead.
 
+use super::entries;
+
 /// What a registrar's entry gives.
 #[repr(C)]
 #[derive(Debug, Clone, Copy, PartialEq, Eq, Default)]
@@ -64,66 +66,6 @@ pub fn map_words(last_end: u64, granularity: u64) -> u64 {
     match granularity {
         0 => 0,
         _ => last_end.div_ceil(granularity).div_ceil(64),
-    }
-}
-
-mod entries {
-    use super::Reply;
-
-    // A slice crosses as its pointer and its length in words.
-    unsafe extern "C" {
-        pub fn registrar_build(
-            ram: *const u64,
-            ram_len: usize,
-            offset: u64,
-            granularity: u64,
-            state: *mut u64,
-            state_len: usize,
-            registered: *mut u64,
-            registered_len: usize,
-            failed: *mut u64,
-            failed_len: usize,
-        ) -> Reply;
-
-        pub fn registrar_register(
-            state: *mut u64,
-            state_len: usize,
-            registered: *mut u64,
-            registered_len: usize,
-            failed: *mut u64,
-            failed_len: usize,
-            address: u64,
-            len: u64,
-        ) -> Reply;
-
-        pub fn registrar_register_all_aligned(
-            state: *mut u64,
-            state_len: usize,
-            registered: *mut u64,
-            registered_len: usize,
-            failed: *mut u64,
-            failed_len: usize,
-            alignment: u64,
-            ignore_unaligned_ranges: u64,
-        ) -> Reply;
-
-        pub fn registrar_answer_done(
-            state: *mut u64,
-            state_len: usize,
-            registered: *mut u64,
-            registered_len: usize,
-            failed: *mut u64,
-            failed_len: usize,
-        ) -> Reply;
-
-        pub fn registrar_answer_failed(
-            state: *mut u64,
-            state_len: usize,
-            registered: *mut u64,
-            registered_len: usize,
-            failed: *mut u64,
-            failed_len: usize,
-        ) -> Reply;
     }
 }
 

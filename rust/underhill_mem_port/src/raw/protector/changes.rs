@@ -4,64 +4,10 @@ use super::Lent;
 use super::Maps;
 use super::Reply;
 use super::Value;
+use super::entries;
 
 /// No new flags, in the place of some.
 pub const NO_FLAGS: u64 = 16;
-
-mod entries {
-    use super::Reply;
-    use super::Value;
-
-    lent! {
-        protector_change_vtl_protections(
-            [],
-            [vtl: u64, flags: u64, list: *const u8, list_len: usize]
-        );
-        protector_change_default_vtl_protections([], [vtl: u64, flags: u64]);
-        protector_register_overlay_page(
-            [],
-            [vtl: u64, gpn: u64, source: u64, checked: u64, new: u64]
-        );
-        protector_unregister_overlay_page([], [vtl: u64, gpn: u64]);
-    }
-
-    unsafe extern "C" {
-        pub fn protector_is_overlay_page(
-            state: *const u64,
-            state_len: usize,
-            tables: *const u64,
-            tables_len: usize,
-            vtl: u64,
-            gpn: u64,
-        ) -> Value;
-
-        pub fn protector_lock_gpns(
-            state: *const u64,
-            state_len: usize,
-            tables: *mut u64,
-            tables_len: usize,
-            vtl: u64,
-            list: *const u8,
-            list_len: usize,
-        ) -> Reply;
-
-        pub fn protector_unlock_gpns(
-            state: *const u64,
-            state_len: usize,
-            tables: *mut u64,
-            tables_len: usize,
-            vtl: u64,
-            list: *const u8,
-            list_len: usize,
-        ) -> Reply;
-
-        pub fn protector_set_vtl1_protections_enabled(state: *mut u64, state_len: usize) -> Reply;
-
-        pub fn protector_vtl1_protections_enabled(state: *const u64, state_len: usize) -> Value;
-
-        pub fn protector_default_vtl0_protections(state: *const u64, state_len: usize) -> Value;
-    }
-}
 
 /// `flags` are 0 to 15; `list` has eight bytes a page, the lowest first. Marks and tables are read
 /// only.
