@@ -4,12 +4,15 @@ use differential::case::Act;
 use differential::case::Build;
 use differential::case::Entry;
 use differential::case::Lend;
+use differential::case::MOST_CHUNKS;
 use differential::case::Request;
 use differential::case::What;
+use differential::coverage::Coverage;
 use differential::protector::change::Change;
 use differential::protector::change::List;
 use differential::protector::lines;
 use differential::protector::raw;
+use differential::run::run;
 use differential::shrink::shrink;
 use std::collections::BTreeMap;
 
@@ -76,6 +79,57 @@ fn a_difference_is_shortened() {
         lines[0]
     );
     assert_eq!(lines[0].matches(',').count(), 1, "{}", lines[0]);
+}
+
+/// A layout up to 2^52 in as many chunks as a case may have.
+fn large() -> Act {
+    let entry = |start, end| Entry {
+        start,
+        end,
+        node: 9,
+    };
+    let top = 1 << 52;
+    Act {
+        what: What::Build(Build {
+            ram: vec![
+                entry(0, 1 << 40),
+                entry(1 << 50, 1 << 51),
+                entry(top / 2, top),
+            ],
+            offset: 1 << 40,
+            granularity: top / MOST_CHUNKS,
+        }),
+        lend: Lend::default(),
+    }
+}
+
+/// As if a Register that fails were told wrongly where RAM ends past 2^51. Each case is run, and
+/// has no difference of its own.
+fn differs_past_2_51(acts: &[Act]) -> Option<usize> {
+    assert_eq!(run(acts, &mut Coverage::default()), None);
+    let mut built = false;
+    acts.iter().position(|act| match &act.what {
+        What::Build(build) => {
+            built = build.ram.last().is_some_and(|entry| entry.end > 1 << 51);
+            false
+        }
+        What::Call { fail, .. } => built && fail.is_some(),
+        _ => false,
+    })
+}
+
+#[test]
+fn a_difference_on_a_large_layout_is_shortened() {
+    let case = [
+        large(),
+        register(5, 5),
+        register(7 << 48, 1 << 40),
+        register(3 << 50, 1 << 44),
+    ];
+    let short = shrink(&case, differs_past_2_51);
+    let lines: Vec<_> = short.iter().map(Act::line).collect();
+    assert_eq!(lines[1..], ["register 0 0 fail=1:5:0"]);
+    assert_eq!(lines[0].matches(',').count(), 0, "{}", lines[0]);
 }
 
 fn called(change: Change) -> lines::Act {
