@@ -55,12 +55,32 @@ fn main() {
             }
         }
     }
+    for isolation in [2, 3, 4] {
+        let build = calls::Build {
+            isolation,
+            tracked: 1,
+            release: 0,
+            layout: LAYOUTS[2],
+            enable: true,
+        };
+        calls::record_locked_overlay(build, &mut part, &mut coverage);
+    }
     part.print();
+    registrations(seed, &mut coverage).print();
+    coverage.print();
+}
+
+/// The registrar's part.
+fn registrations(seed: u64, coverage: &mut Coverage) -> Part {
     let mut part = Part::default();
     for place in 0..12 {
         let mut random = Random::new(seed, 1000 + place);
-        registrar::record(&mut random, REGISTRATIONS, &mut part, &mut coverage);
+        registrar::record(&mut random, REGISTRATIONS, &mut part, coverage);
     }
-    part.print();
-    coverage.print();
+    for offset in [4096, 1 << 40] {
+        for failing in 0..=3 {
+            registrar::record_spans(offset, failing, &mut part, coverage);
+        }
+    }
+    part
 }
