@@ -12,6 +12,7 @@ use boundary::rattle::Sources;
 use boundary::rust;
 use boundary::theorem;
 use std::collections::BTreeMap;
+use std::collections::BTreeSet;
 use std::fs;
 use std::path::PathBuf;
 
@@ -157,6 +158,18 @@ fn the_theorem_is_about_every_entry() {
         "record Unasked",
         "Asked",
     ));
+}
+
+#[test]
+fn every_crate_with_entries_is_linked() {
+    let build = read("rust/underhill_mem_port/build.rs");
+    let (_, list) = build
+        .split_once("const LIBRARIES")
+        .expect("a list of crates");
+    let list = list.split_once("];").expect("its end").0;
+    let linked: BTreeSet<_> = list.split('"').skip(1).step_by(2).collect();
+    let (_, crates) = in_crates();
+    assert_eq!(linked, crates.values().map(String::as_str).collect());
 }
 
 /// An edit of the header, and the entry at which it is seen.
