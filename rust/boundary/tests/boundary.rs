@@ -50,6 +50,18 @@ fn same(unlike: Vec<String>) {
     assert!(unlike.is_empty(), "{}", unlike.join("\n"));
 }
 
+/// The header against the crates and against Rust.
+fn same_thrice<T: PartialEq>(
+    header: &BTreeMap<String, T>,
+    entries: &BTreeMap<String, T>,
+    declared: &BTreeMap<String, T>,
+    shown: impl Fn(&T) -> String,
+) {
+    let header = ("the header", header);
+    same(differences(header, ("the crates", entries), &shown));
+    same(differences(header, ("Rust", declared), &shown));
+}
+
 fn in_header(text: &str) -> Signatures {
     header::signatures(text).expect("the header is read")
 }
@@ -65,16 +77,7 @@ fn signatures_are_the_same_everywhere() {
     let declared = rust::signatures(&read("rust/underhill_mem_port/src/raw/entries.rs"));
     let declared = declared.expect("the declarations are read");
     assert!(!entries.is_empty());
-    same(differences(
-        ("the header", &header),
-        ("the crates", &entries),
-        shown,
-    ));
-    same(differences(
-        ("the header", &header),
-        ("Rust", &declared),
-        shown,
-    ));
+    same_thrice(&header, &entries, &declared, shown);
 }
 
 #[test]
@@ -88,16 +91,7 @@ fn records_are_the_same_everywhere() {
     let mut declared: Records = of("protector", &["Reply", "Value"]);
     declared.extend(of("registrar", &["Reply"]));
     let shown = |fields: &Fields| format!("{fields:?}");
-    same(differences(
-        ("the header", &header),
-        ("the crates", &entries),
-        shown,
-    ));
-    same(differences(
-        ("the header", &header),
-        ("Rust", &declared),
-        shown,
-    ));
+    same_thrice(&header, &entries, &declared, shown);
 }
 
 #[test]
