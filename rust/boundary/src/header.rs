@@ -1,13 +1,49 @@
 //! The C header.
 
 use crate::Fields;
-use crate::Flat;
+use crate::Kind;
 use crate::Records;
 use crate::Signature;
 use crate::Signatures;
-use crate::joined;
 use crate::listed;
 use std::collections::BTreeMap;
+
+/// An argument as C has it: a run is two of them.
+struct Flat {
+    name: String,
+    bits: u32,
+    /// Whether it is an address, and whether what is there may be written.
+    address: Option<bool>,
+    is_length: bool,
+}
+
+/// Puts each address together with the length behind it, which is named after the run.
+fn joined(flat: Vec<Flat>) -> Result<Vec<(String, Kind)>, String> {
+    let mut arguments = Vec::new();
+    let mut flat = flat.into_iter();
+    while let Some(Flat {
+        name,
+        bits,
+        address,
+        is_length,
+    }) = flat.next()
+    {
+        let kind = match address {
+            None if is_length => return Err(format!("{name} is the length of nothing")),
+            None => Kind::Word(bits),
+            Some(written) => {
+                let wanted = length(&name, bits);
+                let behind = flat.next().filter(|next| next.is_length);
+                if behind.is_none_or(|next| next.name != wanted) {
+                    return Err(format!("{name} is not followed by its length {wanted}"));
+                }
+                Kind::Run { bits, written }
+            }
+        };
+        arguments.push((name, kind));
+    }
+    Ok(arguments)
+}
 
 /// Without comments and `#` lines.
 fn code(text: &str) -> String {
@@ -43,7 +79,7 @@ pub fn signatures(text: &str) -> Result<Signatures, String> {
             continue;
         };
         let flat: Result<_, _> = listed(inner).map(flat).collect();
-        let arguments = joined(flat?, length).map_err(|error| format!("{name}: {error}"))?;
+        let arguments = joined(flat?).map_err(|error| format!("{name}: {error}"))?;
         let gives = gives.to_string();
         let signature = Signature { arguments, gives };
         if signatures.insert(name.to_string(), signature).is_some() {

@@ -59,46 +59,6 @@ pub type Fields = Vec<(String, u32)>;
 /// Records by name.
 pub type Records = BTreeMap<String, Fields>;
 
-/// An argument as C and Rust have it: a run is two of them.
-struct Flat {
-    name: String,
-    bits: u32,
-    /// Whether it is an address, and whether what is there may be written.
-    address: Option<bool>,
-    is_length: bool,
-}
-
-/// Puts each address together with the length behind it, which `length` names after the run.
-fn joined(
-    flat: Vec<Flat>,
-    length: impl Fn(&str, u32) -> String,
-) -> Result<Vec<(String, Kind)>, String> {
-    let mut arguments = Vec::new();
-    let mut flat = flat.into_iter();
-    while let Some(Flat {
-        name,
-        bits,
-        address,
-        is_length,
-    }) = flat.next()
-    {
-        let kind = match address {
-            None if is_length => return Err(format!("{name} is the length of nothing")),
-            None => Kind::Word(bits),
-            Some(written) => {
-                let wanted = length(&name, bits);
-                let behind = flat.next().filter(|next| next.is_length);
-                if behind.is_none_or(|next| next.name != wanted) {
-                    return Err(format!("{name} is not followed by its length {wanted}"));
-                }
-                Kind::Run { bits, written }
-            }
-        };
-        arguments.push((name, kind));
-    }
-    Ok(arguments)
-}
-
 /// What lies between a mark and the next of another.
 fn between<'a>(text: &'a str, from: &str, to: &str) -> Option<&'a str> {
     let (_, behind) = text.split_once(from)?;

@@ -56,8 +56,8 @@ fn signatures_of(text: &str) -> Result<Signatures, String> {
     exported.map(signature).collect()
 }
 
-/// `list: &[u8]`
-fn argument(text: &str) -> Result<(String, Kind), String> {
+/// `list: &[u8]`; Rust has the same words for it.
+pub(crate) fn argument(text: &str) -> Result<(String, Kind), String> {
     let (name, kind) = named(text)?;
     let run = |inner: &str, written: bool| {
         let bits = bits(inner.trim_end_matches(']'))?;

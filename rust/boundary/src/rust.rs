@@ -1,32 +1,29 @@
 //! The Rust declarations of the entries.
 
-use crate::Flat;
 use crate::Records;
 use crate::Signature;
 use crate::Signatures;
 use crate::between;
-use crate::bits;
 use crate::fields;
-use crate::joined;
 use crate::listed;
-use crate::named;
+use crate::rattle::argument;
 use crate::record;
 use crate::uncommented;
 
-/// The functions of an `unsafe extern "C"` block.
+/// What `entries! {..}` lists: `NAME(ARGUMENTS) -> FAMILY::RECORD;` each.
 pub fn signatures(text: &str) -> Result<Signatures, String> {
     let code = uncommented(text);
+    let list = between(&code, "\nentries! {", "\n}").ok_or("no entries are declared")?;
     let mut signatures = Signatures::new();
-    for part in code.split(" fn ").skip(1) {
+    for part in list.split(';').map(str::trim).filter(|p| !p.is_empty()) {
         let name = part.split('(').next().unwrap_or("").to_string();
         let wrong = |error: String| format!("{name}: {error}");
         let inner = between(part, "(", ")").ok_or(wrong("no arguments".to_string()))?;
-        let gives = between(part, "-> ", ";").ok_or(wrong("gives nothing".to_string()))?;
-        let flat: Result<_, _> = listed(inner).map(flat).collect();
-        let arguments = joined(flat.map_err(wrong)?, |run, _| format!("{run}_len"));
+        let gives = part.split_once("-> ").map(|(_, gives)| gives);
+        let arguments: Result<_, _> = listed(inner).map(argument).collect();
         let signature = Signature {
             arguments: arguments.map_err(wrong)?,
-            gives: given(gives),
+            gives: given(gives.ok_or(wrong("gives nothing".to_string()))?),
         };
         if signatures.insert(name.clone(), signature).is_some() {
             return Err(wrong("declared twice".to_string()));
@@ -45,21 +42,4 @@ fn given(path: &str) -> String {
 pub fn records(text: &str, family: &str, names: &[&str]) -> Result<Records, String> {
     let of = |name: &&str| Ok((record(family, name), fields(text, name)?));
     names.iter().map(of).collect()
-}
-
-/// `list: *const u8`
-fn flat(text: &str) -> Result<Flat, String> {
-    let (name, kind) = named(text)?;
-    let (address, number) = match kind.strip_prefix('*').and_then(|kind| kind.split_once(' ')) {
-        Some(("const", number)) => (Some(false), number),
-        Some(("mut", number)) => (Some(true), number),
-        _ => (None, kind),
-    };
-    let is_length = number == "usize";
-    Ok(Flat {
-        name: name.to_string(),
-        bits: if is_length { 64 } else { bits(number)? },
-        address,
-        is_length,
-    })
 }

@@ -183,29 +183,24 @@ fn is_seen(entry: &str, from: &str, to: &str) {
     }
 }
 
+/// Order, width, const for mut and the other way round, a length in front, in another unit, none.
+#[rustfmt::skip]
+const EDITS: [(&str, &str, &str); 8] = [
+    ("protector_page_fault", "mapping, uint64_t view", "view, uint64_t mapping"),
+    ("protector_answer_failed", "uint16_t code", "uint64_t code"),
+    ("protector_build", "const uint64_t *ram", "uint64_t *ram"),
+    ("protector_lock_gpns", "uint64_t *tables", "const uint64_t *tables"),
+    ("registrar_register", "uint64_t *state, size_t state_words", "size_t state_words, uint64_t *state"),
+    ("protector_is_overlay_page", "tables_words", "tables_bytes"),
+    ("protector_query_host_visibility", ", size_t out_bytes", ""),
+    ("registrar_answer_done", ");\n", ", uint64_t code);\n"),
+];
+
 #[test]
 fn a_wrong_header_is_seen() {
-    // Order, width, const for mut and the other way round, a length in front, in another unit, none.
-    is_seen(
-        "protector_page_fault",
-        "uint64_t mapping, uint64_t view",
-        "uint64_t view, uint64_t mapping",
-    );
-    is_seen("protector_answer_failed", "uint16_t code", "uint64_t code");
-    is_seen("protector_build", "const uint64_t *ram", "uint64_t *ram");
-    is_seen(
-        "protector_lock_gpns",
-        "uint64_t *tables",
-        "const uint64_t *tables",
-    );
-    is_seen(
-        "registrar_register",
-        "uint64_t *state, size_t state_words",
-        "size_t state_words, uint64_t *state",
-    );
-    is_seen("protector_is_overlay_page", "tables_words", "tables_bytes");
-    is_seen("protector_query_host_visibility", ", size_t out_bytes", "");
-    is_seen("registrar_answer_done", ");\n", ", uint64_t code);\n");
+    for (entry, from, to) in EDITS {
+        is_seen(entry, from, to);
+    }
 }
 
 #[test]

@@ -147,33 +147,11 @@ macro_rules! call {
     ($entry:ident, [$($before:expr),*], $lent:expr, [$($behind:expr),*]) => {{
         let Lent { maps, state, pages, tables } = $lent;
         let Maps { private, shared, read, write, kernel, user } = maps;
-        // SAFETY: the pointers and lengths are of slices that are borrowed for the call, those
-        // that are written exclusively. The entry reads and writes inside them alone, keeps none,
-        // and takes any length, any bytes and any words: that is proved of it.
-        unsafe {
-            entries::$entry(
-                $($before,)*
-                private.as_mut_ptr(),
-                private.len(),
-                shared.as_mut_ptr(),
-                shared.len(),
-                read.as_mut_ptr(),
-                read.len(),
-                write.as_mut_ptr(),
-                write.len(),
-                kernel.as_mut_ptr(),
-                kernel.len(),
-                user.as_mut_ptr(),
-                user.len(),
-                state.as_mut_ptr(),
-                state.len(),
-                pages.as_mut_ptr(),
-                pages.len(),
-                tables.as_mut_ptr(),
-                tables.len(),
-                $($behind,)*
-            )
-        }
+        entries::$entry(
+            $($before,)*
+            private, shared, read, write, kernel, user, state, pages, tables,
+            $($behind,)*
+        )
     }};
 }
 
@@ -186,7 +164,7 @@ pub use changes::*;
 pub fn build(ram: &[u64], isolation: u64, tracked: u64, release: u64, lent: Lent<'_>) -> Reply {
     call!(
         protector_build,
-        [ram.as_ptr(), ram.len(), isolation, tracked, release],
+        [ram, isolation, tracked, release],
         lent,
         []
     )
@@ -199,7 +177,7 @@ pub fn change_host_visibility(lent: Lent<'_>, vtl: u64, visibility: u64, list: &
         protector_change_host_visibility,
         [],
         lent,
-        [vtl, visibility, list.as_ptr(), list.len()]
+        [vtl, visibility, list]
     )
 }
 
@@ -237,45 +215,13 @@ pub struct Seen<'a> {
 macro_rules! look {
     ($entry:ident, $seen:expr, [$($behind:expr),*]) => {{
         let Seen { private, shared, read, write, kernel, user, state } = $seen;
-        // SAFETY: the pointers and lengths are of slices that are borrowed for the call. The entry
-        // reads inside them alone, keeps none, and takes any length, any bytes and any words.
-        unsafe {
-            entries::$entry(
-                private.as_ptr(),
-                private.len(),
-                shared.as_ptr(),
-                shared.len(),
-                read.as_ptr(),
-                read.len(),
-                write.as_ptr(),
-                write.len(),
-                kernel.as_ptr(),
-                kernel.len(),
-                user.as_ptr(),
-                user.len(),
-                state.as_ptr(),
-                state.len(),
-                $($behind,)*
-            )
-        }
+        entries::$entry(private, shared, read, write, kernel, user, state, $($behind,)*)
     }};
 }
 
 /// Writes a byte a page to `out`, as far as it goes: 0 private, 1 shared.
 pub fn query_host_visibility(state: &[u64], shared: &[u8], list: &[u8], out: &mut [u8]) -> Reply {
-    // SAFETY: as above; `out` is borrowed exclusively.
-    unsafe {
-        entries::protector_query_host_visibility(
-            state.as_ptr(),
-            state.len(),
-            shared.as_ptr(),
-            shared.len(),
-            list.as_ptr(),
-            list.len(),
-            out.as_mut_ptr(),
-            out.len(),
-        )
-    }
+    entries::protector_query_host_visibility(state, shared, list, out)
 }
 
 /// `mapping` is 0 for the encrypted one, 1 for the shared; `view` is 0 for read, 1 for kernel

@@ -73,32 +73,13 @@ pub fn map_words(last_end: u64, granularity: u64) -> u64 {
 macro_rules! call {
     ($entry:ident, [$($before:expr),*], $lent:expr, [$($behind:expr),*]) => {{
         let Lent { state, registered, failed } = $lent;
-        // SAFETY: the pointers and lengths are of slices that are borrowed for the call, those
-        // that are written exclusively. The entry reads and writes inside them alone, keeps none,
-        // and takes any length and any words: that is proved of it.
-        unsafe {
-            entries::$entry(
-                $($before,)*
-                state.as_mut_ptr(),
-                state.len(),
-                registered.as_mut_ptr(),
-                registered.len(),
-                failed.as_mut_ptr(),
-                failed.len(),
-                $($behind,)*
-            )
-        }
+        entries::$entry($($before,)* state, registered, failed, $($behind,)*)
     }};
 }
 
 /// `ram` is three words an entry: start, end, node.
 pub fn build(ram: &[u64], offset: u64, granularity: u64, lent: Lent<'_>) -> Reply {
-    call!(
-        registrar_build,
-        [ram.as_ptr(), ram.len(), offset, granularity],
-        lent,
-        []
-    )
+    call!(registrar_build, [ram, offset, granularity], lent, [])
 }
 
 /// Registers the chunks that a range of bytes touches.
