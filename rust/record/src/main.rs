@@ -35,6 +35,13 @@ fn main() {
     // A call on which the original panics is left out.
     std::panic::set_hook(Box::new(|_| ()));
     let mut coverage = Coverage::default();
+    changes(seed, &mut coverage).print();
+    registrations(seed, &mut coverage).print();
+    coverage.print();
+}
+
+/// The protector's part.
+fn changes(seed: u64, coverage: &mut Coverage) -> Part {
     let mut part = Part::default();
     let mut case = 0;
     for tracked in [1, 0] {
@@ -50,7 +57,7 @@ fn main() {
                         layout,
                         enable: place % 2 == 0,
                     };
-                    calls::record(&mut random, build, CALLS, &mut part, &mut coverage);
+                    calls::record(&mut random, build, CALLS, &mut part, coverage);
                 }
             }
         }
@@ -63,11 +70,9 @@ fn main() {
             layout: LAYOUTS[2],
             enable: true,
         };
-        calls::record_locked_overlay(build, &mut part, &mut coverage);
+        calls::record_locked_overlay(build, &mut part, coverage);
     }
-    part.print();
-    registrations(seed, &mut coverage).print();
-    coverage.print();
+    part
 }
 
 /// The registrar's part.
