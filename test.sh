@@ -6,6 +6,8 @@ cd "$(dirname "${BASH_SOURCE[0]}")"
 verdict=$(mktemp)
 trap 'rm -f "$verdict"' EXIT
 rt fmt --check
+# The entries in header, Rust, crates and theorem: read as text, in seconds.
+cargo test --offline --quiet --manifest-path rust/Cargo.toml -p boundary
 # More at a time than cores: the longest of a group then leaves no core idle.
 export RT_JOBS=${RT_JOBS:-4}
 rt ci | tee "$verdict"

@@ -1,4 +1,4 @@
-/* The entries of the proved library; docs/ABI.md says what each buffer and reply word means.
+/* The entries of the proved library, libunderhill_mem.a; docs/ABI.md says what each buffer and reply word means.
    A run is passed as its address and its length, in words or in bytes. No two runs may overlap. */
 #ifndef UNDERHILL_MEM_H
 #define UNDERHILL_MEM_H
@@ -98,7 +98,7 @@ struct protector_value protector_query_access_permission(const uint8_t *private_
     const uint64_t *state, size_t state_words,
     uint64_t gpn);
 
-/* Protections and defaults: libvtl_protections.a */
+/* Protections and defaults */
 struct protector_reply protector_change_vtl_protections(const uint8_t *private_, size_t private_bytes, const uint8_t *shared, size_t shared_bytes,
     uint8_t *read, size_t read_bytes, uint8_t *write, size_t write_bytes, uint8_t *kernel, size_t kernel_bytes,
     uint8_t *user, size_t user_bytes, uint64_t *state, size_t state_words, uint64_t *pages, size_t pages_words,
@@ -108,12 +108,12 @@ struct protector_reply protector_change_default_vtl_protections(const uint8_t *p
     uint8_t *user, size_t user_bytes, uint64_t *state, size_t state_words,
     const uint64_t *pages, size_t pages_words, uint64_t *tables, size_t tables_words, uint64_t vtl, uint64_t flags);
 
-/* The setter and what is set: libvtl1_protections.a */
+/* The setter and what is set */
 struct protector_reply protector_set_vtl1_protections_enabled(uint64_t *state, size_t state_words);
 struct protector_value protector_vtl1_protections_enabled(const uint64_t *state, size_t state_words);
 struct protector_value protector_default_vtl0_protections(const uint64_t *state, size_t state_words);
 
-/* Overlays: liboverlay_pages.a */
+/* Overlays */
 #define PROTECTOR_NO_FLAGS 16 /* in the place of new_: none are given */
 
 struct protector_reply protector_register_overlay_page(const uint8_t *private_, size_t private_bytes, const uint8_t *shared, size_t shared_bytes,
@@ -128,7 +128,7 @@ struct protector_reply protector_unregister_overlay_page(const uint8_t *private_
 struct protector_value protector_is_overlay_page(const uint64_t *state, size_t state_words,
     const uint64_t *tables, size_t tables_words, uint64_t vtl, uint64_t gpn);
 
-/* Locks: liblocked_pages.a */
+/* Locks */
 struct protector_reply protector_lock_gpns(const uint64_t *state, size_t state_words,
     uint64_t *tables, size_t tables_words, uint64_t vtl, const uint8_t *list, size_t list_bytes);
 struct protector_reply protector_unlock_gpns(const uint64_t *state, size_t state_words,

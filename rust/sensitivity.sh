@@ -197,6 +197,10 @@ edit mapping.rs 'GuestMemoryViewReadType::Read => &permission_bitmaps.read_bitma
 edit mapping.rs '&permission_bitmaps.kernel_execute_bitmap' '&permission_bitmaps.user_execute_bitmap'
 edit mapping.rs 'let gpn = address / PAGE_SIZE as u64;' 'let gpn = (address + 1) / PAGE_SIZE as u64;'
 
+# ---- the registrar's layouts that end high
+
+edit registrar.rs 'return Err(range.start());' 'return Err(range.start() / self.granularity * self.granularity);'
+
 echo
 echo "sensitivity: $tried edits, $missed missed"
 [ "$missed" -eq 0 ]

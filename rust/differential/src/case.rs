@@ -16,6 +16,19 @@ pub struct Build {
     pub granularity: u64,
 }
 
+/// The most chunks that a build of a case has: two bits of each are kept by the port, the original
+/// and the predictor, and copied with every call.
+pub const MOST_CHUNKS: u64 = 1 << 20;
+
+impl Build {
+    /// Whether it has so few chunks that it may be put to the programs.
+    pub fn is_small(&self) -> bool {
+        let end = self.ram.last().map_or(0, |entry| entry.end);
+        let chunks = end.checked_div(self.granularity).unwrap_or(0);
+        chunks <= MOST_CHUNKS
+    }
+}
+
 #[derive(Debug, Clone, Copy, PartialEq, Eq)]
 pub enum Request {
     Register {

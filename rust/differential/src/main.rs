@@ -6,7 +6,6 @@
 use differential::coverage::Coverage;
 use differential::part::Case;
 use differential::part::Part;
-use differential::run::Difference;
 use std::process::ExitCode;
 use std::time::Duration;
 use std::time::Instant;
@@ -74,7 +73,7 @@ fn all(options: &Options, coverage: &mut Coverage) -> ExitCode {
         if let Some(difference) = case.run(coverage) {
             println!("{coverage}");
             println!("differential: case {number} of seed {seed} differs");
-            report(&case, difference);
+            print!("{}", case.report(difference));
             return ExitCode::FAILURE;
         }
         number += 1;
@@ -96,35 +95,15 @@ fn all(options: &Options, coverage: &mut Coverage) -> ExitCode {
 
 fn one(options: &Options, number: u64, coverage: &mut Coverage) -> ExitCode {
     let case = Case::new(options.seed, number, options.part);
-    print_script(&case);
+    print!("{}", case.script());
     match case.run(coverage) {
         Some(difference) => {
-            report(&case, difference);
+            print!("{}", case.report(difference));
             ExitCode::FAILURE
         }
         None => {
             println!("differential: no difference");
             ExitCode::SUCCESS
         }
-    }
-}
-
-fn report(case: &Case, difference: Difference) {
-    let short = case.shrunk();
-    let shown = short.run(&mut Coverage::default()).unwrap_or(difference);
-    println!("The shortest list found{}:", short.readers());
-    print_script(&short);
-    println!("differs at       {}", shown.line);
-    println!("the port gives   {}", shown.port);
-    match shown.original {
-        Some(answer) => println!("the original     {answer}"),
-        None => println!("the original     was not asked"),
-    }
-    println!("01 is read as    {}", shown.predicted);
-}
-
-fn print_script(case: &Case) {
-    for line in case.lines() {
-        println!("    {line}");
     }
 }

@@ -95,8 +95,33 @@ impl Case {
         }
     }
 
+    /// A difference as it is told: the shortest list found, and what each gives where it differs.
+    pub fn report(&self, difference: Difference) -> String {
+        let short = self.shrunk();
+        let shown = short.run(&mut Coverage::default()).unwrap_or(difference);
+        let original = shown.original.unwrap_or("was not asked".to_string());
+        format!(
+            "The shortest list found{}:\n{}\
+             differs at       {}\n\
+             the port gives   {}\n\
+             the original     {original}\n\
+             01 is read as    {}\n",
+            short.readers(),
+            short.script(),
+            shown.line,
+            shown.port,
+            shown.predicted,
+        )
+    }
+
+    /// Its lines, indented.
+    pub fn script(&self) -> String {
+        let lines = self.lines().into_iter();
+        lines.map(|line| format!("    {line}\n")).collect()
+    }
+
     /// Who reads its lines besides people.
-    pub fn readers(&self) -> &'static str {
+    fn readers(&self) -> &'static str {
         match self {
             Self::Raw(_) | Self::RegistrarRaw(_) => "",
             _ => ", which port and oracle read too",

@@ -137,7 +137,8 @@ fn simpler_builds(build: &Build) -> Vec<Build> {
             ..build.clone()
         });
     }
-    builds.retain(|simpler| weight(simpler) < weight(build));
+    // A finer granularity has more chunks.
+    builds.retain(|simpler| weight(simpler) < weight(build) && simpler.is_small());
     builds
 }
 

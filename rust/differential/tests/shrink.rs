@@ -4,12 +4,17 @@ use differential::case::Act;
 use differential::case::Build;
 use differential::case::Entry;
 use differential::case::Lend;
+use differential::case::MOST_CHUNKS;
 use differential::case::Request;
 use differential::case::What;
+use differential::coverage::Coverage;
+use differential::part::Case;
 use differential::protector::change::Change;
 use differential::protector::change::List;
 use differential::protector::lines;
 use differential::protector::raw;
+use differential::run::Difference;
+use differential::run::run;
 use differential::shrink::shrink;
 use std::collections::BTreeMap;
 
@@ -23,22 +28,18 @@ fn register(address: u64, len: u64) -> Act {
     }
 }
 
-fn build() -> Act {
-    let entry = |start, end| Entry {
+/// A registrar on entries of so many bytes.
+fn built(bounds: &[(u64, u64)], granularity: u64) -> Act {
+    let entry = |&(start, end): &(u64, u64)| Entry {
         start,
         end,
         node: 9,
     };
-    let ram = vec![
-        entry(0, 65_536),
-        entry(98_304, 1 << 30),
-        entry(1 << 31, 1 << 32),
-    ];
     Act {
         what: What::Build(Build {
-            ram,
+            ram: bounds.iter().map(entry).collect(),
             offset: 1 << 40,
-            granularity: 65_536,
+            granularity,
         }),
         lend: Lend::default(),
     }
@@ -62,7 +63,10 @@ fn differs_high(acts: &[Act]) -> Option<usize> {
 #[test]
 fn a_difference_is_shortened() {
     let case = [
-        build(),
+        built(
+            &[(0, 65_536), (98_304, 1 << 30), (1 << 31, 1 << 32)],
+            65_536,
+        ),
         register(5, 5),
         register(7 << 20, 1 << 20),
         register(3, 3),
@@ -76,6 +80,67 @@ fn a_difference_is_shortened() {
         lines[0]
     );
     assert_eq!(lines[0].matches(',').count(), 1, "{}", lines[0]);
+}
+
+/// A layout up to 2^52 in 64 chunks, and requests high up. In chunks of a page it has 2^40.
+fn large() -> [Act; 4] {
+    let top = 1 << 52;
+    let bounds = [(0, 1 << 40), (top / 4, top / 2), (top / 2, top)];
+    [
+        built(&bounds, top / 64),
+        register(5, 5),
+        register(7 << 48, 1 << 40),
+        register(3 << 50, 1 << 44),
+    ]
+}
+
+/// As if a Register that fails were told wrongly where RAM ends past 2^51. Each case is run, and
+/// has no difference of its own.
+fn differs_past_2_51(acts: &[Act]) -> Option<usize> {
+    assert_eq!(run(acts, &mut Coverage::default()), None);
+    let mut built = false;
+    acts.iter().position(|act| match &act.what {
+        What::Build(build) => {
+            built = build.ram.last().is_some_and(|entry| entry.end > 1 << 51);
+            false
+        }
+        What::Call { fail, .. } => built && fail.is_some(),
+        _ => false,
+    })
+}
+
+#[test]
+fn a_difference_on_a_large_layout_is_shortened() {
+    let short = shrink(&large(), differs_past_2_51);
+    let lines: Vec<_> = short.iter().map(Act::line).collect();
+    assert_eq!(lines[1..], ["register 0 0 fail=1:5:0"]);
+    assert_eq!(lines[0].matches(',').count(), 0, "{}", lines[0]);
+    let What::Build(build) = &short[0].what else {
+        panic!("{}", lines[0]);
+    };
+    assert!(build.is_small() && build.ram[0].end / build.granularity > MOST_CHUNKS / 4);
+}
+
+/// Every simpler case is run before it is told.
+#[test]
+fn a_difference_on_a_large_layout_is_shown() {
+    let [a, b] = ["one", "another"].map(str::to_string);
+    let told = Case::Registrar(large().to_vec()).report(Difference {
+        place: 1,
+        line: "register 5 5 fail=7:5:0".to_string(),
+        port: a.clone(),
+        original: Some(b),
+        predicted: a,
+    });
+    assert!(told.starts_with("The shortest list found, "), "{told}");
+    for line in [
+        "    registrar offset=1099511627776 granularity=70368744177664 ram=0-",
+        "    register 5 5 fail=7:5:0\n",
+        "\ndiffers at       register 5 5 fail=7:5:0\n",
+        "\nthe port gives   one\nthe original     another\n01 is read as    one\n",
+    ] {
+        assert!(told.contains(line), "{told}");
+    }
 }
 
 fn called(change: Change) -> lines::Act {

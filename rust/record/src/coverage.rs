@@ -30,6 +30,8 @@ const KINDS: [&str; 19] = [
 pub struct Coverage {
     calls: u64,
     pub panics: u64,
+    /// The highest count of an overlay.
+    most: u64,
     met: BTreeMap<String, u64>,
 }
 
@@ -39,19 +41,18 @@ impl Coverage {
         self.calls += 1;
         let kind = KINDS[call.kind as usize];
         self.meet(format!("{kind}, {on}"));
-        let failed = if call.failure[0] == 0 {
-            ""
-        } else {
-            ", an operation fails"
-        };
-        let result = match (given.result, given.code) {
-            (0, _) => "ok".to_string(),
-            (1, 0) => format!("err {}", given.index),
-            (1, code @ (6 | 8)) => format!("err {code}"),
-            (1, _) => "err of Modify".to_string(),
-            (number, _) => format!("number {number}"),
-        };
-        self.meet(format!("{kind}: {result}{failed}"));
+        self.meet(result_of(call, given));
+    }
+
+    /// A call at what chance seldom makes.
+    pub fn call_at(&mut self, at: &str, call: &Call, given: &Given) {
+        let result = result_of(call, given);
+        self.meet(format!("{at}: {result}"));
+    }
+
+    /// The highest count of an overlay that a call left.
+    pub fn counted(&mut self, count: Option<u64>) {
+        self.most = self.most.max(count.unwrap_or(0));
     }
 
     pub fn operation(&mut self, on: &str, name: &str) {
@@ -67,8 +68,30 @@ impl Coverage {
             eprintln!("{count:6} {what}");
         }
         eprintln!(
+            "An overlay is counted {} times at most: a line a registration leaves no room for \
+             65,535 (differential/tests/counts.rs has them)",
+            self.most
+        );
+        eprintln!(
             "{} calls, {} left out on which the original panics",
             self.calls, self.panics
         );
     }
+}
+
+/// The kind of a call and what it gave.
+fn result_of(call: &Call, given: &Given) -> String {
+    let kind = KINDS[call.kind as usize];
+    let failed = match call.failure[0] {
+        0 => "",
+        _ => ", an operation fails",
+    };
+    let result = match (given.result, given.code) {
+        (0, _) => "ok".to_string(),
+        (1, 0) => format!("err {}", given.index),
+        (1, code @ (6 | 8)) => format!("err {code}"),
+        (1, _) => "err of Modify".to_string(),
+        (number, _) => format!("number {number}"),
+    };
+    format!("{kind}: {result}{failed}")
 }

@@ -35,6 +35,13 @@ fn main() {
     // A call on which the original panics is left out.
     std::panic::set_hook(Box::new(|_| ()));
     let mut coverage = Coverage::default();
+    changes(seed, &mut coverage).print();
+    registrations(seed, &mut coverage).print();
+    coverage.print();
+}
+
+/// The protector's part.
+fn changes(seed: u64, coverage: &mut Coverage) -> Part {
     let mut part = Part::default();
     let mut case = 0;
     for tracked in [1, 0] {
@@ -50,17 +57,35 @@ fn main() {
                         layout,
                         enable: place % 2 == 0,
                     };
-                    calls::record(&mut random, build, CALLS, &mut part, &mut coverage);
+                    calls::record(&mut random, build, CALLS, &mut part, coverage);
                 }
             }
         }
     }
-    part.print();
+    for isolation in [2, 3, 4] {
+        let build = calls::Build {
+            isolation,
+            tracked: 1,
+            release: 0,
+            layout: LAYOUTS[2],
+            enable: true,
+        };
+        calls::record_locked_overlay(build, &mut part, coverage);
+    }
+    part
+}
+
+/// The registrar's part.
+fn registrations(seed: u64, coverage: &mut Coverage) -> Part {
     let mut part = Part::default();
     for place in 0..12 {
         let mut random = Random::new(seed, 1000 + place);
-        registrar::record(&mut random, REGISTRATIONS, &mut part, &mut coverage);
+        registrar::record(&mut random, REGISTRATIONS, &mut part, coverage);
     }
-    part.print();
-    coverage.print();
+    for offset in [4096, 1 << 40] {
+        for failing in 0..=3 {
+            registrar::record_spans(offset, failing, &mut part, coverage);
+        }
+    }
+    part
 }

@@ -15,6 +15,7 @@ use crate::random::Random;
 /// Chunks of every layout: eight words of a bitmap.
 const CHUNKS: u64 = 512;
 
+/// Calls that are drawn by chance.
 pub fn record(random: &mut Random, calls: usize, part: &mut Part, coverage: &mut Coverage) {
     let granularity = random.pick(&[4096, 32_768, 65_536]);
     let pages = granularity / 4096;
@@ -24,11 +25,62 @@ pub fn record(random: &mut Random, calls: usize, part: &mut Part, coverage: &mut
         runs: layout(random, pages),
         ..Call::default()
     };
-    let mut original = oracle::Session::new(2);
-    put(&mut original, &build, part, coverage);
+    let mut session = Session::begun(&build, part, coverage);
     for _ in 0..calls {
         let call = some_call(random, granularity);
-        put(&mut original, &call, part, coverage);
+        session.put(&call);
+    }
+}
+
+/// Pages of a chunk that is wide enough for two spans and a hole before them.
+const WIDE: u64 = 32;
+
+/// First page and count of entries in chunks of 32 pages: a hole, then RAM; RAM, a hole, RAM; a
+/// hole, RAM, a hole, RAM; RAM of two entries; RAM in the middle; then all up to the last chunk.
+const SPANS: [(u64, u64); 9] = [
+    (8, 24),
+    (32, 8),
+    (48, 16),
+    (72, 8),
+    (88, 8),
+    (96, 16),
+    (112, 16),
+    (144, 8),
+    (160, WIDE * CHUNKS - 160),
+];
+
+/// Chunks of two spans and chunks that begin with a hole, under an offset: each alone, then all
+/// together, twice, and whole spans. Of each call the operation of that number fails, if it has it.
+pub fn record_spans(offset: u64, failing: u64, part: &mut Part, coverage: &mut Coverage) {
+    let granularity = WIDE * 4096;
+    let build = Call {
+        kind: file::REGISTRAR,
+        arguments: [offset, granularity, 0, 0, 0],
+        runs: SPANS.to_vec(),
+        ..Call::default()
+    };
+    let mut session = Session::begun(&build, part, coverage);
+    let one = |chunk: u64| (file::REGISTER, chunk * granularity + 1, granularity - 1);
+    let some = (file::REGISTER, 0, 6 * granularity);
+    let all = |ignore: u64| (file::REGISTER_ALL, granularity, ignore);
+    let calls = [
+        one(2),
+        one(0),
+        some,
+        one(1),
+        one(4),
+        some,
+        some,
+        all(1),
+        all(0),
+    ];
+    for (kind, a, b) in calls {
+        session.put(&Call {
+            kind,
+            arguments: [a, b, 0, 0, 0],
+            failure: [failing, 0, 0],
+            ..Call::default()
+        });
     }
 }
 
@@ -87,25 +139,71 @@ fn line(call: &Call) -> String {
     }
 }
 
-fn put(original: &mut oracle::Session, call: &Call, part: &mut Part, coverage: &mut Coverage) {
-    let mut ask = |line: &str| original.line(line).expect("a line is answered");
-    let text = ask(&line(call));
-    let answer = original::answer(&text);
-    let mut call = call.clone();
-    if answer.ops.len() < call.failure[0] as usize {
-        call.failure = [0; 3];
+struct Session<'a> {
+    original: oracle::Session,
+    offset: u64,
+    granularity: u64,
+    part: &'a mut Part,
+    coverage: &'a mut Coverage,
+}
+
+impl<'a> Session<'a> {
+    /// A registrar that is built.
+    fn begun(build: &Call, part: &'a mut Part, coverage: &'a mut Coverage) -> Self {
+        let [offset, granularity, ..] = build.arguments;
+        let mut session = Self {
+            original: oracle::Session::new(2),
+            offset,
+            granularity,
+            part,
+            coverage,
+        };
+        session.put(build);
+        session
     }
-    let mut digest = Digest::new();
-    for op in &answer.ops {
-        digest.words(&op.bytes());
-        coverage.operation("registrar", op.name);
+
+    fn put(&mut self, call: &Call) {
+        let mut ask = |line: &str| self.original.line(line).expect("a line is answered");
+        let text = ask(&line(call));
+        let answer = original::answer(&text);
+        let mut call = call.clone();
+        if answer.ops.len() < call.failure[0] as usize {
+            call.failure = [0; 3];
+        }
+        let mut digest = Digest::new();
+        for op in &answer.ops {
+            digest.words(&op.bytes());
+            self.coverage.operation("registrar", op.name);
+        }
+        let mut given = given(answer.result, &mut digest);
+        given.count = answer.ops.len() as u64;
+        given.asked = digest.0;
+        given.left = left(&ask("rdump"));
+        self.coverage.call("registrar", &call, &given);
+        self.count_spans(&call, &given, &answer.ops);
+        self.part.write(&call, &given);
     }
-    let mut given = given(answer.result, &mut digest);
-    given.count = answer.ops.len() as u64;
-    given.asked = digest.0;
-    given.left = left(&ask("rdump"));
-    coverage.call("registrar", &call, &given);
-    part.write(&call, &given);
+
+    /// Chunks that are registered under an offset: of two spans, or with a hole before their RAM.
+    fn count_spans(&mut self, call: &Call, given: &Given, ops: &[original::Op<'_>]) {
+        if call.kind != file::REGISTER || self.offset == 0 {
+            return;
+        }
+        let starts = ops.iter().map(|op| op.bytes()[0] - self.offset);
+        let starts: Vec<u64> = starts.collect();
+        let chunk = |start: u64| start / self.granularity;
+        let two = starts.windows(2).any(|w| chunk(w[0]) == chunk(w[1]));
+        let hole = starts.chunk_by(|a, b| chunk(*a) == chunk(*b));
+        let hole = hole
+            .map(|chunk| chunk[0])
+            .any(|s| s % self.granularity != 0);
+        for (met, at) in [(two, "of two spans"), (hole, "with a hole first")] {
+            if met {
+                let at = format!("under an offset, a chunk {at}");
+                self.coverage.call_at(&at, call, given);
+            }
+        }
+    }
 }
 
 /// The result; the fields of UnalignedMemory, or zeros, go into the digest.

@@ -1,14 +1,15 @@
 //! The proved port of underhill_mem, for Rust.
 //!
-//! The port is six libraries made by `rt staticlib`. They hold no memory of their own: each call is
-//! lent a state block and bitmaps, and asks one backend operation at a time instead of calling back.
-//! This crate owns that memory, speaks in Rust's types and drives a call to its end over a backend.
-//! Nothing is decided here: each answer is the libraries' own.
+//! The port is one static library, which the build script joins of what `rt staticlib` makes. It
+//! holds no memory of its own: each call is lent a state block and bitmaps, and asks one backend
+//! operation at a time instead of calling back. This crate owns that memory, speaks in Rust's types
+//! and drives a call to its end over a backend. Nothing is decided here: each answer is the
+//! library's own.
 //!
 //! - [`HardwareIsolatedMemoryProtector`] takes the place of the original's; its [`Backend`] has a
 //!   method for each operation.
 //! - [`MemoryRegistrar`] takes the place of the original's `MemoryRegistrar`.
-//! - [`raw`] has the libraries' entries as they are, over lent slices of any length.
+//! - [`raw`] has the library's entries as they are, over lent slices of any length.
 //!
 //! Refusals go by document 01's numbers, [`Refusal`].
 //!

@@ -293,7 +293,13 @@ impl From<Refusal> for ChangeError {
 /// queries is refused by [`Refusal::Busy`]. If a backend panics, its operation stays asked for.
 ///
 /// The original is shared between threads and locks itself; this one is borrowed exclusively, so
-/// that the lock is the caller's.
+/// that the lock is the caller's. It can't be cloned: a clone would keep marks of pages that the
+/// other changes, and be asked again for what the other was asked.
+///
+/// ```compile_fail,E0277
+/// fn cloned<T: Clone>() {}
+/// cloned::<underhill_mem_port::HardwareIsolatedMemoryProtector>();
+/// ```
 ///
 /// # Example
 ///
@@ -386,7 +392,6 @@ impl From<Refusal> for ChangeError {
 /// protector.unlock_gpns(GuestVtl::Vtl0, &[6, 7])?;
 /// # Ok::<(), Box<dyn std::error::Error>>(())
 /// ```
-#[derive(Debug, Clone)]
 pub struct HardwareIsolatedMemoryProtector {
     /// Private, shared, read, write, kernel execute, user execute.
     maps: [Vec<u8>; 6],
@@ -395,6 +400,17 @@ pub struct HardwareIsolatedMemoryProtector {
     tables: Box<[u64; TABLES_WORDS]>,
     /// The operation asked for and not answered yet.
     asked: Option<Reply>,
+}
+
+/// The maps and tables are left out.
+impl fmt::Debug for HardwareIsolatedMemoryProtector {
+    fn fmt(&self, f: &mut fmt::Formatter<'_>) -> fmt::Result {
+        f.debug_struct("HardwareIsolatedMemoryProtector")
+            .field("isolation", &self.state[place::ISOLATION])
+            .field("tracked", &(self.state[place::TRACKED] == 1))
+            .field("asked", &self.asked())
+            .finish_non_exhaustive()
+    }
 }
 
 impl HardwareIsolatedMemoryProtector {

@@ -186,12 +186,28 @@ impl From<Refusal> for RegisterError {
 /// by [`Refusal::Busy`]. If a backend panics, its operation stays asked for.
 ///
 /// The original is shared between threads and locks itself; this one is borrowed exclusively, so
-/// that the lock is the caller's.
-#[derive(Debug, Clone)]
+/// that the lock is the caller's. It can't be cloned: a clone would tell the kernel of everything
+/// again.
+///
+/// ```compile_fail,E0277
+/// fn cloned<T: Clone>() {}
+/// cloned::<underhill_mem_port::MemoryRegistrar>();
+/// ```
 pub struct MemoryRegistrar {
     state: Box<[u64; STATE_WORDS]>,
     registered: Vec<u64>,
     failed: Vec<u64>,
+}
+
+/// The bitmaps are left out.
+impl fmt::Debug for MemoryRegistrar {
+    fn fmt(&self, f: &mut fmt::Formatter<'_>) -> fmt::Result {
+        f.debug_struct("MemoryRegistrar")
+            .field("offset", &self.state[place::OFFSET])
+            .field("granularity", &self.granularity())
+            .field("asked", &self.asked())
+            .finish_non_exhaustive()
+    }
 }
 
 impl MemoryRegistrar {

@@ -39,6 +39,12 @@ impl Left {
         byte >> (page % 8) & 1 == 1
     }
 
+    /// Whether a page of a VTL is both locked and overlay.
+    pub fn has_locked_overlay(&self, vtl: usize) -> bool {
+        let mut locked = self.locks[vtl].iter().flatten();
+        locked.any(|page| self.overlays[vtl].iter().any(|entry| entry[0] == *page))
+    }
+
     /// Of the maps' bytes, the settings, and the tables in the words of `docs/ABI.md`.
     pub fn digest(&self) -> u64 {
         let mut digest = Digest::new();

@@ -1,6 +1,8 @@
 //! The protector's entries; [`HardwareIsolatedMemoryProtector`](crate::HardwareIsolatedMemoryProtector)
 //! is what one wants instead.
 
+use super::entries;
+
 /// What an entry of the protector gives.
 #[repr(C)]
 #[derive(Debug, Clone, Copy, PartialEq, Eq, Default)]
@@ -140,131 +142,16 @@ pub fn list(gpns: &[u64]) -> &[u8] {
     unsafe { std::slice::from_raw_parts(gpns.as_ptr().cast(), size_of_val(gpns)) }
 }
 
-/// Declares entries that are lent all, between the words before and those behind. A slice crosses
-/// as its pointer and its length.
-macro_rules! lent {
-    ($($entry:ident([$($before:ident: $word:ty),*], [$($behind:ident: $more:ty),*]);)*) => {
-        unsafe extern "C" {
-            $(pub fn $entry(
-                $($before: $word,)*
-                private: *mut u8,
-                private_len: usize,
-                shared: *mut u8,
-                shared_len: usize,
-                read: *mut u8,
-                read_len: usize,
-                write: *mut u8,
-                write_len: usize,
-                kernel: *mut u8,
-                kernel_len: usize,
-                user: *mut u8,
-                user_len: usize,
-                state: *mut u64,
-                state_len: usize,
-                pages: *mut u64,
-                pages_len: usize,
-                tables: *mut u64,
-                tables_len: usize,
-                $($behind: $more,)*
-            ) -> Reply;)*
-        }
-    };
-}
-
-/// Declares entries that see maps and state and write nothing, with the words behind.
-macro_rules! seen {
-    ($($entry:ident($($behind:ident: $more:ty),*);)*) => {
-        unsafe extern "C" {
-            $(pub fn $entry(
-                private: *const u8,
-                private_len: usize,
-                shared: *const u8,
-                shared_len: usize,
-                read: *const u8,
-                read_len: usize,
-                write: *const u8,
-                write_len: usize,
-                kernel: *const u8,
-                kernel_len: usize,
-                user: *const u8,
-                user_len: usize,
-                state: *const u64,
-                state_len: usize,
-                $($behind: $more,)*
-            ) -> Value;)*
-        }
-    };
-}
-
-mod entries {
-    use super::Reply;
-    use super::Value;
-
-    lent! {
-        protector_build(
-            [ram: *const u64, ram_len: usize, isolation: u64, tracked: u64, release: u64],
-            []
-        );
-        protector_change_host_visibility(
-            [],
-            [vtl: u64, visibility: u64, list: *const u8, list_len: usize]
-        );
-        protector_answer_done([], []);
-        protector_answer_failed([], [code: u16, processed: u64]);
-    }
-
-    seen! {
-        protector_page_fault(mapping: u64, view: u64, address: u64, writes: u64, failure: u64);
-        protector_query_lower_vtl_permissions(vtl: u64, gpn: u64);
-        protector_query_access_permission(gpn: u64);
-    }
-
-    unsafe extern "C" {
-        pub fn protector_query_host_visibility(
-            state: *const u64,
-            state_len: usize,
-            shared: *const u8,
-            shared_len: usize,
-            list: *const u8,
-            list_len: usize,
-            out: *mut u8,
-            out_len: usize,
-        ) -> Reply;
-    }
-}
-
 /// Calls an entry with what is lent between the words before and those behind.
 macro_rules! call {
     ($entry:ident, [$($before:expr),*], $lent:expr, [$($behind:expr),*]) => {{
         let Lent { maps, state, pages, tables } = $lent;
         let Maps { private, shared, read, write, kernel, user } = maps;
-        // SAFETY: the pointers and lengths are of slices that are borrowed for the call, those
-        // that are written exclusively. The entry reads and writes inside them alone, keeps none,
-        // and takes any length, any bytes and any words: that is proved of it.
-        unsafe {
-            entries::$entry(
-                $($before,)*
-                private.as_mut_ptr(),
-                private.len(),
-                shared.as_mut_ptr(),
-                shared.len(),
-                read.as_mut_ptr(),
-                read.len(),
-                write.as_mut_ptr(),
-                write.len(),
-                kernel.as_mut_ptr(),
-                kernel.len(),
-                user.as_mut_ptr(),
-                user.len(),
-                state.as_mut_ptr(),
-                state.len(),
-                pages.as_mut_ptr(),
-                pages.len(),
-                tables.as_mut_ptr(),
-                tables.len(),
-                $($behind,)*
-            )
-        }
+        entries::$entry(
+            $($before,)*
+            private, shared, read, write, kernel, user, state, pages, tables,
+            $($behind,)*
+        )
     }};
 }
 
@@ -277,7 +164,7 @@ pub use changes::*;
 pub fn build(ram: &[u64], isolation: u64, tracked: u64, release: u64, lent: Lent<'_>) -> Reply {
     call!(
         protector_build,
-        [ram.as_ptr(), ram.len(), isolation, tracked, release],
+        [ram, isolation, tracked, release],
         lent,
         []
     )
@@ -290,7 +177,7 @@ pub fn change_host_visibility(lent: Lent<'_>, vtl: u64, visibility: u64, list: &
         protector_change_host_visibility,
         [],
         lent,
-        [vtl, visibility, list.as_ptr(), list.len()]
+        [vtl, visibility, list]
     )
 }
 
@@ -328,45 +215,13 @@ pub struct Seen<'a> {
 macro_rules! look {
     ($entry:ident, $seen:expr, [$($behind:expr),*]) => {{
         let Seen { private, shared, read, write, kernel, user, state } = $seen;
-        // SAFETY: the pointers and lengths are of slices that are borrowed for the call. The entry
-        // reads inside them alone, keeps none, and takes any length, any bytes and any words.
-        unsafe {
-            entries::$entry(
-                private.as_ptr(),
-                private.len(),
-                shared.as_ptr(),
-                shared.len(),
-                read.as_ptr(),
-                read.len(),
-                write.as_ptr(),
-                write.len(),
-                kernel.as_ptr(),
-                kernel.len(),
-                user.as_ptr(),
-                user.len(),
-                state.as_ptr(),
-                state.len(),
-                $($behind,)*
-            )
-        }
+        entries::$entry(private, shared, read, write, kernel, user, state, $($behind,)*)
     }};
 }
 
 /// Writes a byte a page to `out`, as far as it goes: 0 private, 1 shared.
 pub fn query_host_visibility(state: &[u64], shared: &[u8], list: &[u8], out: &mut [u8]) -> Reply {
-    // SAFETY: as above; `out` is borrowed exclusively.
-    unsafe {
-        entries::protector_query_host_visibility(
-            state.as_ptr(),
-            state.len(),
-            shared.as_ptr(),
-            shared.len(),
-            list.as_ptr(),
-            list.len(),
-            out.as_mut_ptr(),
-            out.len(),
-        )
-    }
+    entries::protector_query_host_visibility(state, shared, list, out)
 }
 
 /// `mapping` is 0 for the encrypted one, 1 for the shared; `view` is 0 for read, 1 for kernel

@@ -1,5 +1,7 @@
 //! The registrar's entries; [`MemoryRegistrar`](crate::MemoryRegistrar) is what one wants instead.
 
+use super::entries;
+
 /// What a registrar's entry gives.
 #[repr(C)]
 #[derive(Debug, Clone, Copy, PartialEq, Eq, Default)]
@@ -67,96 +69,17 @@ pub fn map_words(last_end: u64, granularity: u64) -> u64 {
     }
 }
 
-mod entries {
-    use super::Reply;
-
-    // A slice crosses as its pointer and its length in words.
-    unsafe extern "C" {
-        pub fn registrar_build(
-            ram: *const u64,
-            ram_len: usize,
-            offset: u64,
-            granularity: u64,
-            state: *mut u64,
-            state_len: usize,
-            registered: *mut u64,
-            registered_len: usize,
-            failed: *mut u64,
-            failed_len: usize,
-        ) -> Reply;
-
-        pub fn registrar_register(
-            state: *mut u64,
-            state_len: usize,
-            registered: *mut u64,
-            registered_len: usize,
-            failed: *mut u64,
-            failed_len: usize,
-            address: u64,
-            len: u64,
-        ) -> Reply;
-
-        pub fn registrar_register_all_aligned(
-            state: *mut u64,
-            state_len: usize,
-            registered: *mut u64,
-            registered_len: usize,
-            failed: *mut u64,
-            failed_len: usize,
-            alignment: u64,
-            ignore_unaligned_ranges: u64,
-        ) -> Reply;
-
-        pub fn registrar_answer_done(
-            state: *mut u64,
-            state_len: usize,
-            registered: *mut u64,
-            registered_len: usize,
-            failed: *mut u64,
-            failed_len: usize,
-        ) -> Reply;
-
-        pub fn registrar_answer_failed(
-            state: *mut u64,
-            state_len: usize,
-            registered: *mut u64,
-            registered_len: usize,
-            failed: *mut u64,
-            failed_len: usize,
-        ) -> Reply;
-    }
-}
-
 /// Calls an entry with what is lent between the words before and those behind.
 macro_rules! call {
     ($entry:ident, [$($before:expr),*], $lent:expr, [$($behind:expr),*]) => {{
         let Lent { state, registered, failed } = $lent;
-        // SAFETY: the pointers and lengths are of slices that are borrowed for the call, those
-        // that are written exclusively. The entry reads and writes inside them alone, keeps none,
-        // and takes any length and any words: that is proved of it.
-        unsafe {
-            entries::$entry(
-                $($before,)*
-                state.as_mut_ptr(),
-                state.len(),
-                registered.as_mut_ptr(),
-                registered.len(),
-                failed.as_mut_ptr(),
-                failed.len(),
-                $($behind,)*
-            )
-        }
+        entries::$entry($($before,)* state, registered, failed, $($behind,)*)
     }};
 }
 
 /// `ram` is three words an entry: start, end, node.
 pub fn build(ram: &[u64], offset: u64, granularity: u64, lent: Lent<'_>) -> Reply {
-    call!(
-        registrar_build,
-        [ram.as_ptr(), ram.len(), offset, granularity],
-        lent,
-        []
-    )
+    call!(registrar_build, [ram, offset, granularity], lent, [])
 }
 
 /// Registers the chunks that a range of bytes touches.
