@@ -22,7 +22,7 @@ use Rattle.protector.specs.World.{applied, entered}
 use Rattle.protector.specs.Calls.{carriedOut, carriedChange, firstRefusal, visibilityRefusal, visibilityTaken, visibilityOf, answerRefusal, afterDone, afterFailed, answerDone, answerFailed}
 use Rattle.vtl_protections.specs.Calls.{protectionRefusal, protectionTaken, protectionOf, defaultRefusal, defaultStarted, defaultTaken, defaultOf}
 use Rattle.visibility_claims.specs.Calls.{follow}
-use Rattle.worked.specs.Shares.{Operations, Moves, Stops, Failures}
+use Rattle.worked.specs.Shares.{Operations, Moves, Stops, Calls, Failures}
 
 pub operations : Operations
 unfolding word writtenFrom entriesOf ramByte operandOf numberOf numberAt numbersFrom among repeats neighbours runAt pick pickPlaces tableOf stopAt
@@ -98,6 +98,26 @@ stops =
       closed-off = refl;
       hole-first = refl;
       returned = refl;
+    }
+
+pub calls : Calls
+unfolding word writtenFrom entriesOf ramByte operandOf numberOf numberAt numbersFrom among repeats neighbours runAt pick pickPlaces tableOf stopAt
+    runEnd put placeFrom listsFrom held operationOf ask end halt keep shareRun defaultRun returnRun afterFlush afterWait afterModify afterAccept
+    failedModify doneOf failedOf cleared startOf firstPhases phaseOf askedOf flatOf applied carriedOut firstRefusal visibilityRefusal visibilityTaken
+    visibilityOf answerRefusal answerDone answerFailed follow
+calls =
+    record {
+      P2 = refl;
+      P2-left = refl;
+      P3 = refl;
+      P3-left = refl;
+      P4 = refl;
+      P5-first = refl;
+      P5-left = refl;
+      P5-second = refl;
+      P5-vtl1-first = refl;
+      P5-vtl1-left = refl;
+      P5-vtl1-second = refl;
     }
 
 pub failures : Failures

@@ -8,7 +8,7 @@ use Rattle.worked.specs.Table.{Worked}
 use Rattle.worked.proofs.Builds.{builds}
 use Rattle.worked.proofs.Faults.{faults, permissions}
 use Rattle.worked.proofs.Lists.{lists}
-use Rattle.worked.proofs.Shares.{operations, moves, stops, failures}
+use Rattle.worked.proofs.Shares.{operations, moves, stops, calls, failures}
 use Rattle.worked.proofs.Changes.{protections, default-changes}
 use Rattle.worked.proofs.Overlays.{new-overlays, known-overlays}
 use Rattle.worked.proofs.Bars.{bars, locks, queries, turns}
@@ -20,6 +20,7 @@ unfolding operandOf
 worked =
     record {
       builds = builds;
+      calls = calls;
       P2-to-P5 = visibility;
       P7-vtl0 = refl;
       P7-vtl1 = refl;

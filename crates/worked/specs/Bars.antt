@@ -1,23 +1,24 @@
 -- What bars a call, each refusal with its number and code, locks and their limits, and the visibility query: document 01, "Overlays and locks", "From the input" 7,
 -- "From the state" 10, 11, 17 to 20, "Misreadings to shut out".
-use mathlib.Core.List.{List, [], _∷_, _++_}
+use mathlib.Core.List.{List, [], _∷_}
 use mathlib.Core.Path.{_≡_}
-use Prim.Native.Nat.{ℕ, zero, suc}
+use Prim.Native.Nat.{ℕ}
 use lib.ListN.{replicate}
 use Rattle.mapping.specs.Maps.{Maps, maps}
 use Rattle.protector_state.specs.declared.Reply.{Reply}
+use Rattle.protector_state.specs.Reply.{finished}
 use Rattle.protector.specs.World.{World}
 use Rattle.protector.specs.Calls.{visibilityOf, answerDone, answerFailed}
 use Rattle.vtl_protections.specs.Calls.{protectionOf, defaultOf}
 use Rattle.overlay_pages.specs.Calls.{registerOf, unregisterOf, isOverlayIn}
-use Rattle.locked_pages.specs.Calls.{Kept, kept, lockOf, unlockOf}
+use Rattle.locked_pages.specs.Calls.{kept, lockOf, unlockOf}
 use Rattle.vtl1_protections.specs.Calls.{enableOf, enabledIn, defaultIn}
-use Rattle.queries.specs.Queries.{query, queryOf, faultIn, lowerIn, accessIn, value}
+use Rattle.queries.specs.Queries.{query, queryOf, faultIn, lowerIn, accessIn}
 use Rattle.visibility_claims.specs.Whole.{Succeeds, Fails}
 use Rattle.visibility_claims.specs.Calls.{follow}
-use Rattle.visibility_claims.specs.Table.{page, dones, fresh}
-use Rattle.worked.specs.Crossing.{ok, refused, keeps, waits, protects, replies, after, low, whole, only, clear, first, settings, tables, noTables, rest, forgotten}
-use Rattle.worked.specs.Shares.{off, closed, read-only}
+use Rattle.visibility_claims.specs.Table.{page, fresh}
+use Rattle.worked.specs.Crossing.{ok, refused, keeps, waits, protects, after, low, clear, first, settings, tables, noTables, rest}
+use Rattle.worked.specs.Shares.{closed, read-only}
 use Rattle.worked.specs.Changes.{overlaid}
 
 -- ---- a VTL has page 5 as an overlay and has locked pages 5 and 6
@@ -119,7 +120,7 @@ pub record Locks : Type 0 where
   pub vtl-2 : lockOf state noTables 2 (page 1 []) ≡ kept noTables (refused 8 0)
   pub over : lockOf state noTables 0 (page 1 (1 ∷ [])) ≡ kept noTables (refused 8 0)
 
--- ---- the visibility query: 0 private, 1 shared; pages 3 is shared
+-- ---- the visibility query: 0 private, 1 shared; page 3 is shared
 
 abbrev pub told : List ℕ → List ℕ → Reply → List ℕ → Type 0
 told l out r filled = queryOf state (closed .shared) l out ≡ query filled r
@@ -131,8 +132,8 @@ pub record Queries : Type 0 where
   pub none : told (page 3 (page 4 [])) [] (ok 0) []
   pub long : told (page 3 []) (9 ∷ 9 ∷ []) (ok 0) (1 ∷ 9 ∷ [])
   -- 7 at its own index, before any byte, also past a short output
-  pub hole : told (page 3 (page 4 (page 16 []))) (9 ∷ 9 ∷ 9 ∷ []) (record { number = 7; code = 8; index = 2; count = 0; operation = 0; vtl = 0; flags = 0; operand = 0; first = 0; pages = 0; shared = 0 }) (9 ∷ 9 ∷ 9 ∷ [])
-  pub hole-past : told (page 3 (page 40 [])) (9 ∷ []) (record { number = 7; code = 8; index = 1; count = 0; operation = 0; vtl = 0; flags = 0; operand = 0; first = 0; pages = 0; shared = 0 }) (9 ∷ [])
+  pub hole : told (page 3 (page 4 (page 16 []))) (9 ∷ 9 ∷ 9 ∷ []) (finished 7 8 2 0) (9 ∷ 9 ∷ 9 ∷ [])
+  pub hole-past : told (page 3 (page 40 [])) (9 ∷ []) (finished 7 8 1 0) (9 ∷ [])
   pub over : told (page 16 (1 ∷ [])) (9 ∷ []) (refused 8 0) (9 ∷ [])
   pub length : queryOf state (0 ∷ []) (page 3 (1 ∷ [])) (9 ∷ []) ≡ query (9 ∷ []) (refused 4 0)
 

@@ -7,7 +7,7 @@ use Prim.Native.Nat.{ℕ, _+_, _*_, _^_}
 use lib.ListN.{replicate}
 use Rattle.mapping.specs.Maps.{Maps, maps}
 use Rattle.protector.specs.World.{World}
-use Rattle.protector.specs.Calls.{visibilityOf, answerFailed}
+use Rattle.protector.specs.Calls.{visibilityOf}
 use Rattle.queries.specs.declared.Value.{Value}
 use Rattle.queries.specs.Queries.{value, faultIn, lowerIn, accessIn}
 use Rattle.visibility_claims.specs.Table.{page, fresh, P2}

@@ -5,7 +5,7 @@ use mathlib.Core.Path.{_≡_}
 use Prim.Native.Nat.{ℕ, zero, suc, _+_}
 use lib.ListN.{replicate}
 use Rattle.protector.specs.World.{World}
-use Rattle.overlay_pages.specs.Calls.{registerOf, unregisterOf}
+use Rattle.overlay_pages.specs.Calls.{registerOf}
 use Rattle.locked_pages.specs.Calls.{kept, lockOf, unlockOf}
 use Rattle.visibility_claims.specs.Table.{page, fresh}
 use Rattle.worked.specs.Crossing.{ok, refused, keeps, waits, after, first, settings, tables, noTables, rest, forgotten}

@@ -2,7 +2,7 @@
 -- crosses as 0 guest memory or 1 Dma; new flags as 16 where none are given.
 use mathlib.Core.List.{List, [], _∷_}
 use mathlib.Core.Path.{_≡_}
-use Prim.Native.Nat.{ℕ, _+_, _-_, _^_}
+use Prim.Native.Nat.{ℕ, _+_, _^_}
 use Rattle.mapping.specs.Maps.{maps}
 use Rattle.protector_state.specs.declared.Reply.{Reply}
 use Rattle.protector_state.specs.Reply.{finished}
@@ -14,7 +14,7 @@ use Rattle.visibility_claims.specs.Calls.{follow}
 use Rattle.visibility_claims.specs.Table.{dones, fresh}
 use Rattle.worked.specs.Crossing.{ok, refused, keeps, waits, protects, flushes, tlbWaits, replies, after, low, whole, clear, first, untracked, settings, tables, noTables, rest, forgotten}
 use Rattle.worked.specs.Faults.{split}
-use Rattle.worked.specs.Shares.{on, off, closed, read-only}
+use Rattle.worked.specs.Shares.{on, off, closed}
 use Rattle.worked.specs.Changes.{overlaid, dma}
 
 -- these entries of VTL0, and of VTL1: how many, then page, previous flags, own flags, count and source of each

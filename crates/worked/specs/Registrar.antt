@@ -2,8 +2,8 @@
 -- 21, 22 and 23.
 use mathlib.Core.List.{List, [], _∷_, _++_}
 use mathlib.Core.Path.{_≡_}
-use Prim.Native.Nat.{ℕ, _+_, _-_, _*_, _^_}
-use lib.ListN.{replicate, length}
+use Prim.Native.Nat.{ℕ, _+_, _-_, _^_}
+use lib.ListN.{replicate}
 use Rattle.registrar_state.specs.declared.Reply.{Reply}
 use Rattle.registrar_state.specs.World.{World, world, Outcome, outcome, builtState, buildOf, registerOf, allOf, doneOf, failedOf}
 use Rattle.visibility_claims.specs.Table.{ram}
@@ -135,7 +135,7 @@ all layout = allOf (at layout 32768) 65536 0
 abbrev pub ignoring : List ℕ → Outcome
 ignoring layout = allOf (at layout 32768) 65536 1
 
--- two nodes make one span; and three
+-- two nodes make one span
 abbrev pub joined : List ℕ
 joined = 0 ∷ 65536 ∷ 3 ∷ 65536 ∷ 98304 ∷ 9 ∷ []
 

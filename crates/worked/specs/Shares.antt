@@ -151,6 +151,24 @@ pub record Stops : Type 0 where
   pub hole-first : visibilityOf (guarded closed) 0 1 (page 3 (page 16 [])) .reply ≡ refused 7 8
   pub returned : follow (visibilityOf (guarded closed) 0 0 (page 3 [])) (dones 6) .last .reply ≡ ok 6
 
+-- ---- P2 to P5
+
+pub record Calls : Type 0 where
+  pub P2 : replies (visibilityOf fresh 0 1 three) (dones 9)
+      ≡ waits ∷ flushesAll ∷ protects 0 0 2 3 1 ∷ protects 1 0 1 3 1 ∷ invalidates 3 1 ∷ protects 0 0 2 9 2 ∷ protects 1 0 1 9 2 ∷ invalidates 9 2 ∷ shares 3 ∷ ok 9 ∷ []
+  pub P2-left : forgotten (after 9 (visibilityOf fresh 0 1 three)) ≡ off shared
+  pub P3 : replies (visibilityOf (off shared) 0 0 (page 9 (page 10 []))) (Succeeds ∷ Succeeds ∷ Fails 77 1 ∷ dones 3)
+      ≡ waits ∷ flushesAll ∷ returns 2 ∷ accepts 9 1 ∷ zeroes 9 1 ∷ protects 0 15 3842 9 1 ∷ finished 16 77 1 6 ∷ []
+  pub P3-left : follow (visibilityOf (off shared) 0 0 (page 9 (page 10 []))) (Succeeds ∷ Succeeds ∷ Fails 77 1 ∷ dones 3) .last .world .maps
+      ≡ maps (0xf7 ∷ 0xfb ∷ 0x00 ∷ 0x00 ∷ 0xff ∷ []) (0x08 ∷ 0x04 ∷ 0x00 ∷ 0x00 ∷ 0x00 ∷ []) (0xf7 ∷ 0xfb ∷ 0x00 ∷ 0x00 ∷ 0xff ∷ []) (0xf7 ∷ 0xfb ∷ 0x00 ∷ 0x00 ∷ 0xff ∷ []) (0xf7 ∷ 0xfb ∷ 0x00 ∷ 0x00 ∷ 0xff ∷ []) (0xf7 ∷ 0xfb ∷ 0x00 ∷ 0x00 ∷ 0xff ∷ [])
+  pub P4 : visibilityOf fresh 0 1 (page 3 (page 16 [])) ≡ keeps fresh (refused 7 8)
+  pub P5-first : last enabled 0 (page 3 []) ≡ ok 6
+  pub P5-left : forgotten (after 6 (visibilityOf enabled 0 1 (page 3 []))) ≡ guarded closed
+  pub P5-second : last (guarded closed) 0 (page 3 []) ≡ finished 15 6 0 3
+  pub P5-vtl1-first : last enabled 1 (page 3 []) ≡ ok 6
+  pub P5-vtl1-left : forgotten (after 6 (visibilityOf enabled 1 1 (page 3 []))) ≡ guarded (maps (low 0xf7) (only 0x08) whole whole whole whole)
+  pub P5-vtl1-second : last (guarded (maps (low 0xf7) (only 0x08) whole whole whole whole)) 1 (page 3 []) ≡ ok 3
+
 -- ---- failures, of a return of 4, 3, 9 and 10, of which 4 is private already
 
 abbrev pub four : List ℕ

@@ -9,7 +9,7 @@ use Rattle.visibility_claims.specs.Table.{Visibility}
 use Rattle.worked.specs.Builds.{Builds}
 use Rattle.worked.specs.Faults.{Faults, Permissions}
 use Rattle.worked.specs.Lists.{Lists}
-use Rattle.worked.specs.Shares.{Operations, Moves, Stops, Failures}
+use Rattle.worked.specs.Shares.{Operations, Moves, Stops, Calls, Failures}
 use Rattle.worked.specs.Changes.{Protections, DefaultChanges}
 use Rattle.worked.specs.Overlays.{NewOverlays, KnownOverlays}
 use Rattle.worked.specs.Bars.{Bars, Locks, Queries, Turns}
@@ -19,7 +19,8 @@ use Rattle.worked.specs.Registrar.{RegistrarBuilds, Registers, AllAligne
 pub record Worked : Type 0 where
   -- P1 and P6
   pub builds : Builds
-  -- P2 to P5, as whole calls
+  -- P2 to P5, by the calls and as whole calls
+  pub calls : Calls
   pub P2-to-P5 : Visibility
   pub P7-vtl0 : operandOf Vtl0 (flagsOf 5) ≡ 2306
   pub P7-vtl1 : operandOf Vtl1 (flagsOf 4) ≡ 2049
