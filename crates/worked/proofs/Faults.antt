@@ -1,0 +1,77 @@
+-- The rows of `Faults` and `Permissions`, computed. Assumes nothing.
+use mathlib.Core.Path.{refl}
+use Rattle.bitmap.specs.Pages.{word, writtenFrom}
+use Rattle.layout.specs.Layout.{entriesOf, ramByte}
+use Rattle.permissions.specs.Rmpadjust.{operandOf}
+use Rattle.mapping.specs.Maps.{mapsFit}
+use Rattle.access.specs.Query.{accessPermission, lowerVtlPermissions}
+use Rattle.fault.specs.Fault.{faultOf, faultRefusal, pageFault}
+use Rattle.pages.specs.Pages.{numberOf, numberAt, numbersFrom, among, repeats}
+use Rattle.pages.specs.Runs.{runsOf, neighbours, runAt}
+use Rattle.request.specs.Request.{pick, pickPlaces, tableOf, stopAt, runEnd, put}
+use Rattle.overlays.specs.Overlays.{placeFrom}
+use Rattle.locks.specs.Locks.{listsFrom, held}
+use Rattle.acceptor.specs.Steps.{operationOf, ask, end, halt, keep, shareRun, defaultRun, returnRun, afterFlush, afterWait, afterModify, afterAccept, failedModify, doneOf, failedOf, cleared, startOf}
+use Rattle.protector_state.specs.State.{firstPhases, phaseOf}
+use Rattle.protector_state.specs.Reply.{askedOf, flatOf}
+use Rattle.protector.specs.World.{applied}
+use Rattle.protector.specs.Calls.{carriedOut, firstRefusal, visibilityRefusal, visibilityTaken, visibilityOf, answerRefusal, answerDone, answerFailed}
+use Rattle.queries.specs.Queries.{faultIn, lowerIn, accessIn}
+use Rattle.visibility_claims.specs.Whole.{one, inTurn, perRun, wholeShare}
+use Rattle.visibility_claims.specs.Calls.{follow}
+use Rattle.worked.specs.Faults.{Faults, Permissions}
+
+pub faults : Faults
+unfolding word writtenFrom entriesOf ramByte operandOf mapsFit faultOf faultRefusal pageFault numberOf numberAt numbersFrom among repeats runsOf
+    neighbours runAt pick pickPlaces tableOf stopAt runEnd put placeFrom listsFrom held operationOf ask end halt keep shareRun defaultRun returnRun
+    afterFlush afterWait afterModify afterAccept failedModify doneOf failedOf cleared startOf firstPhases phaseOf askedOf flatOf applied carriedOut
+    firstRefusal visibilityRefusal visibilityTaken visibilityOf answerRefusal answerDone answerFailed faultIn one inTurn perRun wholeShare follow
+faults =
+    record {
+      read-flag = refl;
+      write-flag = refl;
+      kernel-flag = refl;
+      user-flag = refl;
+      kernel-write = refl;
+      user-write = refl;
+      not-mapped = refl;
+      not-mapped-hole = refl;
+      P10-private = refl;
+      P10-shared = refl;
+      shared-write = refl;
+      last-byte = refl;
+      next-byte = refl;
+      hole-private = refl;
+      hole-shared = refl;
+      untracked-write = refl;
+      last = refl;
+      past = refl;
+      past-unfailed = refl;
+      mapping-2 = refl;
+      view-3 = refl;
+      write-2 = refl;
+      failure-2 = refl;
+      length-first = refl;
+      state-length = refl;
+      waiting = refl;
+      waiting-shared = refl;
+    }
+
+pub permissions : Permissions
+unfolding entriesOf ramByte mapsFit accessPermission lowerVtlPermissions lowerIn accessIn
+permissions =
+    record {
+      lower-vtl0 = refl;
+      lower-vtl1 = refl;
+      lower-untracked = refl;
+      lower-hole = refl;
+      lower-high = refl;
+      lower-vtl2 = refl;
+      lower-length = refl;
+      access = refl;
+      access-hole = refl;
+      access-last = refl;
+      access-past = refl;
+      access-untracked = refl;
+      access-length = refl;
+    }

@@ -1,0 +1,10 @@
+pub mod Builds
+pub mod Faults
+pub mod Lists
+pub mod Shares
+pub mod Changes
+pub mod Overlays
+pub mod Bars
+pub mod Registrar
+pub mod Limits
+pub mod Table

@@ -1,0 +1,74 @@
+-- The rows of the limits, computed. Assumes nothing.
+use mathlib.Core.Path.{refl}
+use Rattle.bitmap.specs.Pages.{word, writtenFrom}
+use Rattle.words.specs.Words.{closed, closedTo, swapped}
+use Rattle.layout.specs.Layout.{entriesOf, ramByte}
+use Rattle.pages.specs.Pages.{numberOf, numberAt, numbersFrom}
+use Rattle.overlays.specs.Overlays.{placeFrom}
+use Rattle.locks.specs.Locks as lock
+use Rattle.locks.specs.Locks.{listsFrom, endFrom, held, total, same, kept, without}
+use Rattle.changes.specs.Changes as changes
+use Rattle.changes.specs.Changes.{protect, wait, finish, startNew}
+use Rattle.protector_state.specs.State.{firstPhases, phaseOf}
+use Rattle.protector_state.specs.Reply.{askedOf, flatOf}
+use Rattle.change_state.specs.State.{stageOf}
+use Rattle.protector.specs.World.{entered}
+use Rattle.protector.specs.Calls.{carriedChange, answerRefusal, afterDone, answerDone}
+use Rattle.locked_pages.specs.Calls.{lockRefusal, lockOf, unlockOf}
+use Rattle.overlay_tests.specs.Refusals.{callRefusal, within, knownRefusal, guestRefusal, dmaRefusal, pageRefusal, registerRefusal, currentOf}
+use Rattle.overlay_pages.specs.Calls.{registerTaken, registerOf}
+use Rattle.visibility_claims.specs.Calls.{follow}
+use Rattle.worked.specs.Limits.{blocks, dmaFrom, holdings, lockBlocks, lockSingles, registered, singlesFrom, tablesFrom, OverlayLimit, FirstOverlays, LastOverlays, LockLimits, PageLimits}
+
+pub overlay-limit : OverlayLimit
+unfolding word writtenFrom entriesOf ramByte placeFrom listsFrom held protect changes.ask wait finish changes.doneOf startNew firstPhases phaseOf
+    askedOf flatOf stageOf entered carriedChange answerRefusal afterDone answerDone callRefusal within knownRefusal guestRefusal dmaRefusal
+    pageRefusal registerRefusal currentOf registerTaken registerOf follow dmaFrom
+overlay-limit =
+    record {
+      none = refl;
+      full = refl;
+      full-guest = refl;
+      full-known = refl;
+      full-other = refl;
+    }
+
+pub first-overlays : FirstOverlays
+unfolding word writtenFrom entriesOf ramByte placeFrom listsFrom held protect changes.ask wait finish changes.doneOf startNew firstPhases phaseOf
+    askedOf flatOf stageOf entered carriedChange answerRefusal afterDone answerDone callRefusal within knownRefusal guestRefusal dmaRefusal
+    pageRefusal registerRefusal currentOf registerTaken registerOf follow registered dmaFrom holdings
+first-overlays =
+    record {
+      made = refl;
+    }
+
+pub last-overlays : LastOverlays
+unfolding word writtenFrom entriesOf ramByte placeFrom listsFrom held protect changes.ask wait finish changes.doneOf startNew firstPhases phaseOf
+    askedOf flatOf stageOf entered carriedChange answerRefusal afterDone answerDone callRefusal within knownRefusal guestRefusal dmaRefusal
+    pageRefusal registerRefusal currentOf registerTaken registerOf follow registered dmaFrom holdings
+last-overlays =
+    record {
+      made = refl;
+    }
+
+pub lock-limits : LockLimits
+unfolding closed closedTo swapped numberOf numberAt numbersFrom listsFrom endFrom held total same kept lock.placeFrom without firstPhases phaseOf
+    lockRefusal lockOf unlockOf tablesFrom lockSingles singlesFrom
+lock-limits =
+    record {
+      none = refl;
+      lists-64 = refl;
+      list-65 = refl;
+      list-65-other = refl;
+      freed = refl;
+    }
+
+pub page-limits : PageLimits
+unfolding closed closedTo swapped numberOf numberAt numbersFrom listsFrom endFrom held total same kept lock.placeFrom without firstPhases phaseOf
+    lockRefusal lockOf unlockOf lockBlocks tablesFrom blocks
+page-limits =
+    record {
+      pages-1024 = refl;
+      page-1025 = refl;
+      no-page-more = refl;
+    }
