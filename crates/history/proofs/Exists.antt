@@ -2,17 +2,17 @@
 -- something of another length may be lent to it, whatever was last left. Assumes nothing.
 use native.Mathlib.Omega.{arith}
 use mathlib.Core.Path.{_≡_, refl, ap, subst}
-use mathlib.Core.Bool.{Bool, true, false, _&&_}
+use mathlib.Core.Bool.{Bool, true, false, cond, _&&_}
 use mathlib.Core.List.{List, []}
 use Prim.Native.Nat.{ℕ}
-use lib.ListN.{length}
+use lib.Dec.{eqb}
+use borrow.Author.Tests.{eqb-true, eqb-false}
 use contract.Lifetimes.{Lfts}
-use Rattle.layout.specs.declared.MemoryRangeWithNode.{MemoryRangeWithNode}
-use Rattle.layout.specs.Layout.{mapLen}
-use Rattle.mapping.specs.Maps.{marksFit, permissionLen, permissionsFit}
-use Rattle.protector_state.specs.State.{settingsOf, entriesIn}
+use Rattle.laws.specs.Refusal.{passed}
+use Rattle.layout.specs.Layout.{entriesOf, refusalOf, mapLen}
+use Rattle.permissions.specs.Flags.{fitIsolation}
 use Rattle.protector.specs.World.{World, Outcome}
-use Rattle.protector.specs.Calls.{visibilityOf, answerDone, answerFailed, buildOf}
+use Rattle.protector.specs.Calls.{refusedBy, visibilityOf, answerDone, answerFailed, buildFits, buildRefusal, buildTaken, buildOf}
 use Rattle.vtl_protections.specs.Calls.{protectionOf, defaultOf}
 use Rattle.overlay_pages.specs.Calls.{registerOf, unregisterOf}
 use Rattle.locked_pages.specs.Calls.{Kept, lockOf, unlockOf}
@@ -25,6 +25,9 @@ use Rattle.history.specs.Made.{Run, Seven, Nine, Made, visibility, done,
 use Rattle.history.specs.History.{block, other, lockBlock, lockTables}
 use Rattle.history.specs.Callable.{Callable, Strays}
 use Rattle.history.specs.Answered.{given}
+use Rattle.history.proofs.Bits.{clash}
+use Rattle.history.proofs.Fits.{mapsLong}
+use Rattle.history.proofs.Calls.{status}
 use Rattle.history.proofs.Spared.{visibility-same, protection-same, default-same, register-same, unregister-same}
 
 -- ---- a world as it is lent
@@ -103,8 +106,20 @@ answer-made : (g : Given) (w : World) → Made (Answer g) w (gives (Answer g) w 
 answer-made Succeeds w = let X : Outcome = answerDone w in done lasting9 (nine w tt) (X .reply) (nine (X .world) tt) refl
 answer-made (Fails code n) w = let X : Outcome = answerFailed w code n in failed lasting9 (nine w (code, (n, tt))) (X .reply) (nine (X .world) (code, (n, tt))) refl
 
+-- a build with a number that names no isolation is refused, by it or by what comes before
+unfit-refused : (w : World) (ram : List ℕ) (isolation tracked release : ℕ) → fitIsolation isolation ≡ false → buildOf w ram isolation tracked release .reply .number ≡ 0 → ⊥
+unfolding buildOf buildRefusal
+unfit-refused w ram isolation tracked release f e = go (eqb n 0) refl e
+  where
+    n : ℕ
+    n = buildRefusal ram isolation tracked release (buildFits (mapLen (entriesOf ram)) tracked w)
+
+    go : (b : Bool) → eqb n 0 ≡ b → cond b (buildTaken w ram isolation tracked release) (refusedBy w n) .reply .number ≡ 0 → ⊥
+    go true h _ = clash _ (passed (fitIsolation isolation) 2 _ (status (refusalOf ram) _ (eqb-true n 0 h) .1) .0) f
+    go false h z = eqb-false n 0 h z
+
 pub any-call : (w : World) → Callable w
-any-call w = record { made = made; built = built }
+any-call w = record { made = made; built = built; refused = λ ram isolation tracked release f. unfit-refused w ram isolation tracked release f }
   where
     made : (c : Call) → Made c w (gives c w .world) (gives c w .answer)
     made (Do a) = act-made a w
@@ -122,14 +137,11 @@ pub any-stray : (u : World) → Strays u
 any-stray u =
     record {
       no-block = block (λ e. absurd (omega (arith, e)));
-      no-pages = other refl (none (marksFit (mapLen es) (length (u .maps .private)) (length (u .maps .shared)) && permissionsFit (permissionLen (mapLen es) (settingsOf (u .state) .tracked)) (length (u .maps .permissions .read)) (length (u .maps .permissions .write)) (length (u .maps .permissions .kernel)) (length (u .maps .permissions .user))));
+      no-pages = other refl (none (mapsLong u));
       no-lock-block = lockBlock (λ e. absurd (omega (arith, e)));
       no-lock-tables = lockTables refl (λ e. absurd (omega (arith, e)));
     }
   where
-    es : List MemoryRangeWithNode
-    es = entriesIn (u .state)
-
     none : (b : Bool) → (b && false) ≡ false
     none true = refl
     none false = refl

@@ -21,7 +21,7 @@ use Rattle.visibility_claims.proofs.Refusals.{answer-takes}
 use Rattle.history.specs.Seen.{Seen, isWaiting, isTaken}
 use Rattle.history.specs.Call.{Do, Read, Answer, Result, Gave}
 use Rattle.history.specs.Made.{Made}
-use Rattle.history.specs.History.{History, none, call, stray, Stray}
+use Rattle.history.specs.History.{History, none, call, stray, refusedBuild, Stray}
 use Rattle.history.specs.Answered.{given}
 use Rattle.history.specs.Ends.{courseOf, Falls}
 use Rattle.history.proofs.Bits.{clash}
@@ -109,3 +109,4 @@ module _ (es : List MemoryRangeWithNode) {w : World} {a : Seen} (k : Stands es w
   steps-fall (stray h (Read q) r m s) = (steps-fall h, λ b. refl)
   steps-fall (stray {u} {x} {y} {o} h (Answer g) r m s) =
       let f = stray-falls es u o (at-stop h) x y g r s (answer-is m) in (steps-fall h, f .0, f .1, stray-begins es u o (at-stop h) _ (at-stop (stray h (Answer g) r m s)))
+  steps-fall (refusedBuild h ram i t l r m f) = (steps-fall h, λ b. refl)

@@ -29,11 +29,11 @@ use Rattle.change_claims.proofs.Calls.{protection-is-whole, register-is-whole, 
 use Rattle.change_claims.proofs.Default.{default-is-whole}
 use Rattle.history.specs.Seen.{Seen, asks, isWaiting, isTaken, seesTaken, seesCall, seesAnswer}
 use Rattle.history.specs.Call.{Reader, Tells, Act, Visibility, Protection, Default, Register, Unregister, Lock, Unlock, Enable, Do, Read, Answer, Result, Gave, does, seesAct}
-use Rattle.history.specs.Made.{Made}
-use Rattle.history.specs.History.{Wrong, History, none, call, stray}
+use Rattle.history.specs.Made.{Made, Built}
+use Rattle.history.specs.History.{Wrong, History, none, call, stray, refusedBuild}
 use Rattle.history.specs.Answered.{given}
 use Rattle.history.specs.Ends.{Course, start, answer, other, courseOf, Falls, Meanwhile}
-use Rattle.history.specs.Requests.{givenIn, askedIn, toldIn, WholeOf, IsWhole, Begun, nothing, since, thenCall, thenStray, begunIn, AskedAt, Asked}
+use Rattle.history.specs.Requests.{givenIn, askedIn, toldIn, WholeOf, IsWhole, Begun, nothing, since, thenCall, thenStray, thenBuild, begunIn, AskedAt, Asked}
 use Rattle.history.proofs.Bits.{clash}
 use Rattle.history.proofs.World.{Stands}
 use Rattle.history.proofs.Answers.{taken-seen}
@@ -129,6 +129,7 @@ module _ (es : List MemoryRangeWithNode) {w : World} {a : Seen} (k : Stands es w
   steps-go (stray h (Read q) r m s) = (steps-go h, λ b. (refl, refl))
   steps-go (stray {u} {x} {y} {o} h (Answer g) r m s) =
       let f = untaken-goes es u o (at-stop es k h) g r (y .pages) (ap (λ (X : Outcome). isTaken o (X .reply)) (answer-is m) ∙ stray-untaken u x s o (at-stop es k h .halts) g) in (steps-go h, f .0, f .1)
+  steps-go (refusedBuild h ram i t l r m f) = (steps-go h, λ b. (refl, refl))
 
 -- ---- a call that asks for something is taken, and with its answers in turn is the whole call
 
@@ -290,6 +291,11 @@ module _ (es : List MemoryRangeWithNode) {w : World} {a : Seen} (k : Stands es w
   astray-answer nothing f g r m s e = none-waits _ _ e f
   astray-answer (since g d s n h) f c r m t e = f
 
+  astray-build : {u x y : World} {o : Seen} (b : Begun w a u o) → Open b → isWaiting o ≡ true → (ram : List ℕ) (i t l : ℕ) (r : Reply) (m : Built ram i t l x y r) (n : r .number ≡ 0 → ⊥) → Open (thenBuild b ram i t l r m n)
+  unfolding courseOf Meanwhile
+  astray-build nothing f e ram i t l r m n = clash _ e f
+  astray-build (since g d s n h) f e ram i t l r m z = (f .0, (f .1, e))
+
   begun-open : {x : World} {p : Seen} (h : History w a x p) → Open (begunIn h)
   unfolding begunIn courseOf Meanwhile Falls
   begun-open none = free
@@ -316,6 +322,11 @@ module _ (es : List MemoryRangeWithNode) {w : World} {a : Seen} (k : Stands es w
       go f true i = astray-read (begunIn h) f i q r m s
       go f false i = i
   begun-open (stray h (Answer g) r m s) = astray-answer (begunIn h) (begun-open h) g r m s (steps-fall es k (stray h (Answer g) r m s) .3)
+  begun-open (refusedBuild {u} {x} {y} {o} h ram i t l r m n) = go (begun-open h) (isWaiting o) refl
+    where
+      go : Open (begunIn h) → (c : Bool) → isWaiting o ≡ c → Open (cond c (thenBuild (begunIn h) ram i t l r m n) nothing)
+      go f true e = astray-build (begunIn h) f e ram i t l r m n
+      go f false e = e
 
   open-asked : {x : World} {p : Seen} (b : Begun w a x p) → Open b → AskedAt b
   open-asked nothing f = f
@@ -326,3 +337,4 @@ module _ (es : List MemoryRangeWithNode) {w : World} {a : Seen} (k : Stands es w
   asked-from none = tt
   asked-from (call h c r m) = (asked-from h, open-asked (begunIn (call h c r m)) (begun-open (call h c r m)))
   asked-from (stray h c r m s) = (asked-from h, open-asked (begunIn (stray h c r m s)) (begun-open (stray h c r m s)))
+  asked-from (refusedBuild h ram i t l r m n) = (asked-from h, open-asked (begunIn (refusedBuild h ram i t l r m n)) (begun-open (refusedBuild h ram i t l r m n)))

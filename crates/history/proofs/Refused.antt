@@ -1,5 +1,5 @@
--- A call that is refused writes nothing, and nothing is seen to change: one that is lent something of another length, and one that is no answer while a request is
--- under way. Assumes nothing.
+-- A call that is refused writes nothing, and nothing is seen to change: one that is lent something of another length, one that is no answer while a request is under
+-- way, and a build. Assumes nothing.
 use Prim.Native.Nat.{ℕ}
 use mathlib.Core.Path.{_≡_, refl, ap}
 use mathlib.Core.List.{List, []}
@@ -8,13 +8,14 @@ use lib.ListN.{length}
 use lib.Dec.{eqb}
 use borrow.Author.Tests.{ne-eqb}
 use Rattle.laws.specs.Refusal.{unless, passed}
+use Rattle.layout.specs.Layout.{entriesOf, mapLen}
 use Rattle.permissions.specs.Flags.{vtlOf, boolOf}
 use Rattle.pages.specs.Pages.{pagesOf}
 use Rattle.protector_state.specs.declared.Reply.{Reply}
 use Rattle.protector_state.specs.State.{stateLen}
 use Rattle.change_state.specs.State.{isChanging}
 use Rattle.protector.specs.World.{World, world, Outcome, fits, statusIn}
-use Rattle.protector.specs.Calls.{refusedBy, decided, visibilityRefusal, visibilityTaken, visibilityOf, answerRefusal, visibilityDone, visibilityFailed, changeDone, changeFailed, answerDone, answerFailed}
+use Rattle.protector.specs.Calls.{refusedBy, decided, buildFits, buildRefusal, buildTaken, buildOf, visibilityRefusal, visibilityTaken, visibilityOf, answerRefusal, visibilityDone, visibilityFailed, changeDone, changeFailed, answerDone, answerFailed}
 use Rattle.vtl_protections.specs.Calls.{protectionRefusal, protectionTaken, protectionOf, defaultRefusal, stored, defaultTaken, defaultOf}
 use Rattle.overlay_tests.specs.Refusals.{registerRefusal, unregisterRefusal}
 use Rattle.overlay_pages.specs.Calls.{currentIn, registerTaken, registerOf, unregisterTaken, unregisterOf}
@@ -26,6 +27,7 @@ use Rattle.visibility_claims.specs.Ends.{underWay}
 use Rattle.history.specs.Seen.{Seen, isTaken, seesCall}
 use Rattle.history.specs.Call.{Act, Visibility, Protection, Default, Register, Unregister, Lock, Unlock, Enable, Call, Do, Read, Answer, Gave, replied, does, gives, seesAct, sees}
 use Rattle.history.specs.History.{Stray, StrayAct, Wrong}
+use Rattle.history.specs.Answered.{given}
 use Rattle.history.proofs.Bits.{clash}
 use Rattle.history.proofs.Calls.{status}
 use Rattle.history.proofs.Others.{protection-idle, default-idle, call-idle}
@@ -131,3 +133,16 @@ busy-barred Enable x b z = busy _ b (passed (eqb (length (x .state)) stateLen) 3
 
 pub busy-quiet : (a : Act) (x : World) → underWay x ≡ true → Quiet x (does a x) (seesAct a)
 busy-quiet a x b = barred-quiet a x (busy-barred a x b)
+
+-- ---- a build
+
+pub build-keeps : (x y : World) (ram : List ℕ) (i t l : ℕ) (r : Reply) → given y r ≡ buildOf x ram i t l → (r .number ≡ 0 → ⊥) → y ≡ x
+unfolding buildOf buildTaken
+build-keeps x y ram i t l r e f = go (eqb n 0) e
+  where
+    n : ℕ
+    n = buildRefusal ram i t l (buildFits (mapLen (entriesOf ram)) t x)
+
+    go : (b : Bool) → given y r ≡ cond b (buildTaken x ram i t l) (refusedBy x n) → y ≡ x
+    go true e = absurd (f (ap (λ (X : Outcome). X .reply .number) e))
+    go false e = ap (λ (X : Outcome). X .world) e

@@ -2,12 +2,14 @@
 use mathlib.Core.Path.{_≡_}
 use mathlib.Core.Bool.{false}
 use mathlib.Core.List.{List, [], _∷_, _++_}
+use Prim.Native.Nat.{ℕ}
 use lib.ListN.{length}
+use Rattle.protector_state.specs.declared.Reply.{Reply}
 use Rattle.protector_state.specs.State.{stateLen}
 use Rattle.protector.specs.World.{World, tablesLen, fits}
 use Rattle.history.specs.Seen.{Seen}
 use Rattle.history.specs.Call.{Act, Visibility, Protection, Default, Register, Unregister, Lock, Unlock, Enable, Call, Do, Read, Answer, Result, sees}
-use Rattle.history.specs.Made.{Made}
+use Rattle.history.specs.Made.{Made, Built}
 
 -- ---- for one call alone, what is lent, x, may have another length than what was last left, u: of the state block, or of another buffer beside the state block as
 -- it was left
@@ -43,9 +45,17 @@ pub data History (w : World) (a : Seen) : World → Seen → Type 0 where
   none : History w a w a
   call : {u v : World} {o : Seen} → History w a u o → (c : Call) (r : Result c) → Made c u v r → History w a v (sees c r (v .pages) o)
   stray : {u x y : World} {o : Seen} → History w a u o → (c : Call) (r : Result c) → Made c x y r → Wrong c u x → History w a u (sees c r (y .pages) o)
+  -- a build that is refused may be lent anything, what was last left (u) too; one that is taken is no step of a list: it begins another
+  refusedBuild : {u x y : World} {o : Seen} → History w a u o → (ram : List ℕ) (isolation tracked release : ℕ) (r : Reply) → Built ram isolation tracked release x y r
+      → (r .number ≡ 0 → ⊥) → History w a u o
 
--- the calls themselves, in turn
-unfoldable pub callsIn : {w v : World} {a o : Seen} → History w a v o → List Call
-callsIn none = []
-callsIn (call h c r m) = callsIn h ++ (c ∷ [])
-callsIn (stray h c r m s) = callsIn h ++ (c ∷ [])
+-- what was called, in turn
+pub data Event : Type 0 where
+  Called : Call → Event
+  BuildRefused : (ram : List ℕ) (isolation tracked release : ℕ) → Event
+
+unfoldable pub eventsIn : {w v : World} {a o : Seen} → History w a v o → List Event
+eventsIn none = []
+eventsIn (call h c r m) = eventsIn h ++ (Called c ∷ [])
+eventsIn (stray h c r m s) = eventsIn h ++ (Called c ∷ [])
+eventsIn (refusedBuild h ram isolation tracked release r m f) = eventsIn h ++ (BuildRefused ram isolation tracked release ∷ [])

@@ -148,3 +148,25 @@ pub data Made : (c : Call) → World → World → Result c → Type 0 where
 pub data Built : (ram : List ℕ) (isolation tracked release : ℕ) → World → World → Reply → Type 0 where
   build : (κs : Lfts 10) (a : Dens κs kBuild.ps) (r : Reply) (e : AtExit (endedOf 10 kBuild.ps kBuild.r) κs) → rBuild.Learnt κs a r e
       → Built (now (a .0)) (a .1 .0) (a .1 .1 .0) (a .1 .1 .1 .0) (worldOf (a .1 .1 .1 .1)) (worldOf (e .1 .1 .1 .1)) r
+
+-- ---- no entry asks anything of its arguments: each has its contract whatever it is lent
+
+pub record Unasked : Type 0 where
+  pub visibility : (κs : Lfts 10) (a : Dens κs kVisibility.ps) → rVisibility.Asked κs a
+  pub done : (κs : Lfts 9) (a : Dens κs kDone.ps) → rDone.Asked κs a
+  pub failed : (κs : Lfts 9) (a : Dens κs kFailed.ps) → rFailed.Asked κs a
+  pub protection : (κs : Lfts 10) (a : Dens κs kProtection.ps) → rProtection.Asked κs a
+  pub default : (κs : Lfts 9) (a : Dens κs kDefault.ps) → rDefault.Asked κs a
+  pub register : (κs : Lfts 9) (a : Dens κs kRegister.ps) → rRegister.Asked κs a
+  pub unregister : (κs : Lfts 9) (a : Dens κs kUnregister.ps) → rUnregister.Asked κs a
+  pub lock : (κs : Lfts 3) (a : Dens κs kLock.ps) → rLock.Asked κs a
+  pub unlock : (κs : Lfts 3) (a : Dens κs kUnlock.ps) → rUnlock.Asked κs a
+  pub enable : (κs : Lfts 1) (a : Dens κs kEnable.ps) → rEnable.Asked κs a
+  pub tellEnabled : (κs : Lfts 1) (a : Dens κs kTellEnabled.ps) → rTellEnabled.Asked κs a
+  pub tellDefault : (κs : Lfts 1) (a : Dens κs kTellDefault.ps) → rTellDefault.Asked κs a
+  pub isOverlay : (κs : Lfts 2) (a : Dens κs kIsOverlay.ps) → rIsOverlay.Asked κs a
+  pub query : (κs : Lfts 4) (a : Dens κs kQuery.ps) → rQuery.Asked κs a
+  pub fault : (κs : Lfts 7) (a : Dens κs kFault.ps) → rFault.Asked κs a
+  pub lower : (κs : Lfts 7) (a : Dens κs kLower.ps) → rLower.Asked κs a
+  pub access : (κs : Lfts 7) (a : Dens κs kAccess.ps) → rAccess.Asked κs a
+  pub build : (κs : Lfts 10) (a : Dens κs kBuild.ps) → rBuild.Asked κs a

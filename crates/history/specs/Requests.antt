@@ -18,8 +18,8 @@ use Rattle.change_claims.specs.Whole.{Change}
 use Rattle.change_claims.specs.Calls.{protectionWhole, defaultWhole, registerWhole, unregisterWhole, Agrees}
 use Rattle.history.specs.Seen.{Seen, asks, isWaiting}
 use Rattle.history.specs.Call.{Act, Visibility, Protection, Default, Register, Unregister, Lock, Unlock, Enable, Call, Do, Read, Answer, Result, seesAct, sees}
-use Rattle.history.specs.Made.{Made}
-use Rattle.history.specs.History.{Wrong, History, none, call, stray, callsIn}
+use Rattle.history.specs.Made.{Made, Built}
+use Rattle.history.specs.History.{Wrong, History, none, call, stray, refusedBuild, Event, Called, eventsIn}
 use Rattle.history.specs.Answered.{given}
 use Rattle.history.specs.Ends.{Course, start, answer, other, courseOf}
 
@@ -76,6 +76,11 @@ abbrev pub thenStray : {w u x y : World} {a o : Seen} → Begun w a u o → (c :
 thenStray nothing c r m s = nothing
 thenStray (since g d s n h) c r m t = since g d s n (stray h c r m t)
 
+abbrev pub thenBuild : {w u x y : World} {a o : Seen} → Begun w a u o → (ram : List ℕ) (isolation tracked release : ℕ) (r : Reply) → Built ram isolation tracked release x y r
+    → (r .number ≡ 0 → ⊥) → Begun w a u o
+thenBuild nothing ram isolation tracked release r m f = nothing
+thenBuild (since g d s n h) ram isolation tracked release r m f = since g d s n (refusedBuild h ram isolation tracked release r m f)
+
 unfoldable pub begunIn : {w v : World} {a o : Seen} → History w a v o → Begun w a v o
 begunIn none = nothing
 begunIn (call {u} {v} {o} h (Do d) r m) = cond (asks r) (since h d r m none) (cond (isWaiting o) (thenCall (begunIn h) (Do d) r m) nothing)
@@ -84,6 +89,7 @@ begunIn (call h (Answer g) r m) = thenCall (begunIn h) (Answer g) r m
 begunIn (stray {u} {x} {y} {o} h (Do d) r m s) = cond (isWaiting o) (thenStray (begunIn h) (Do d) r m s) nothing
 begunIn (stray {u} {x} {y} {o} h (Read q) r m s) = cond (isWaiting o) (thenStray (begunIn h) (Read q) r m s) nothing
 begunIn (stray h (Answer g) r m s) = thenStray (begunIn h) (Answer g) r m s
+begunIn (refusedBuild {u} {x} {y} {o} h ram isolation tracked release r m f) = cond (isWaiting o) (thenBuild (begunIn h) ram isolation tracked release r m f) nothing
 
 -- it is the whole call under the answers taken so far; where there is none, nothing is under way
 abbrev pub AskedAt : {w x : World} {a p : Seen} → Begun w a x p → Type 0
@@ -95,8 +101,9 @@ unfoldable pub Asked : {w v : World} {a o : Seen} → History w a v o → Type 0
 Asked none = Unit {0}
 Asked (call h c r m) = Asked h × AskedAt (begunIn (call h c r m))
 Asked (stray h c r m s) = Asked h × AskedAt (begunIn (stray h c r m s))
+Asked (refusedBuild h ram isolation tracked release r m f) = Asked h × AskedAt (begunIn (refusedBuild h ram isolation tracked release r m f))
 
 -- the calls before it, its own and those since are those of the list, l
-abbrev pub Parts : List Call → {w x : World} {a p : Seen} → Begun w a x p → Type 0
+abbrev pub Parts : List Event → {w x : World} {a p : Seen} → Begun w a x p → Type 0
 Parts l nothing = Unit {0}
-Parts l (since g d r m h) = l ≡ callsIn g ++ (Do d ∷ callsIn h)
+Parts l (since g d r m h) = l ≡ eventsIn g ++ (Called (Do d) ∷ eventsIn h)
