@@ -128,7 +128,8 @@ module _ (u : World) (ram : List ℕ) (i t r : ℕ) (z : buildRefusal ram i t r 
       record {
         long = built-long;
         fit =
-            rw (entries-built ram i t r well, length-fresh es true (length (u .maps .private)), length-fresh es false (length (u .maps .shared)), length-fresh es true (length (u .maps .permissions .read)), length-fresh es true (length (u .maps .permissions .write)), length-fresh es true (length (u .maps .permissions .kernel)), length-fresh es true (length (u .maps .permissions .user)), length-replicate {A = ℕ} (length (u .pages)) 0, length-replicate {A = ℕ} (length (u .tables)) 0)
+            let p : Permissions = u .maps .permissions in
+            rw (entries-built ram i t r well, length-fresh es true (length (u .maps .private)), length-fresh es false (length (u .maps .shared)), length-fresh es true (length (p .read)), length-fresh es true (length (p .write)), length-fresh es true (length (p .kernel)), length-fresh es true (length (p .user)), length-replicate {A = ℕ} (length (u .pages)) 0, length-replicate {A = ℕ} (length (u .tables)) 0)
             (and-true _ _ (and-true _ _ marks-fit maps-fit) (and-right (eqb (length (u .state)) stateLen) _ runs-fit));
       }
 

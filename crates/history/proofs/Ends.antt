@@ -30,9 +30,9 @@ use Rattle.history.proofs.Wholes.{answer-long}
 use Rattle.history.proofs.Histories.{Lent, lent-kept, history-keeps}
 use Rattle.history.proofs.Falls.{taken-waits, answer-is, at-stop, steps-fall}
 use Rattle.history.proofs.Claim.{lent-holds}
-use Rattle.history.proofs.Restart.{settled-stands, settled-lent}
+use Rattle.history.proofs.Restart.{settled-lent}
 use Rattle.history.proofs.Exists.{any-call}
-use Rattle.history.proofs.Eight.{build8, build8-taken, sharing8, asking8, share8, share8-asks}
+use Rattle.history.proofs.Eight.{sharing8, asking8, share8, share8-asks}
 
 -- ---- and the whole of it
 
@@ -217,9 +217,6 @@ pub every-request-ends : {ram : List ℕ} {i t r : ℕ} {u w v : World} {reply :
 every-request-ends {ram} {v = v} {o = o} b d h = lent-ends (entriesOf ram) v o (lent-holds b d h)
 
 -- and wherever one stops from a world that is settled
-pub settled-told : {w v : World} {o : Seen} → Settled w → History w (readOff (w .maps)) v o → Told v o
-settled-told {w} {v} {o} k h = stands-told (entriesIn (w .state)) v o (at-stop (entriesIn (w .state)) (settled-stands w k) h)
-
 pub settled-requests-end : {w v : World} {o : Seen} → Settled w → History w (readOff (w .maps)) v o → RequestEnds v o
 settled-requests-end {w} {v} {o} k h = lent-ends (entriesIn (w .state)) v o (settled-lent w k h)
 
@@ -233,6 +230,3 @@ seen8 = sees sharing8 (asking8 .reply) (asking8 .world .pages) unseen
 
 pub share8-waits : isWaiting seen8 ≡ true
 share8-waits = asked-waits _ (asking8 .reply) (asking8 .world .pages) unseen share8-asks
-
-pub share8-ends : RequestEnds (asking8 .world) seen8
-share8-ends = every-request-ends build8 build8-taken (call none sharing8 (asking8 .reply) share8)

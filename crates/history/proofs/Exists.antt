@@ -20,7 +20,7 @@ use Rattle.vtl1_protections.specs.Calls.{Enabled, enableOf}
 use Rattle.queries.specs.Queries as queries
 use Rattle.queries.specs.Queries.{queryOf}
 use Rattle.visibility_claims.specs.Whole.{Given, Succeeds, Fails}
-use Rattle.history.specs.Call.{Act, Visibility, Protection, Default, Register, Unregister, Lock, Unlock, Enable, TellEnabled, TellDefault, IsOverlay, Query, Fault, Lower, Access, Reader, Call, Do, Read, Answer, Result, does, tells, gives}
+use Rattle.history.specs.Call.{Writer, Visibility, Protection, Default, Register, Unregister, Lock, Unlock, Enable, TellEnabled, TellDefault, IsOverlay, Query, Fault, Lower, Access, Reader, Call, Write, Read, Answer, Result, givesWriter, shown, gives}
 use Rattle.history.specs.Made.{Run, Seven, Nine, Made, visibility, done, failed, protection, default, register, unregister, lock, unlock, enable, tellEnabled, tellDefault, isOverlay, query, fault, lower, access, Built, build}
 use Rattle.history.specs.History.{block, other, lockBlock, lockTables}
 use Rattle.history.specs.Callable.{Callable, Strays}
@@ -56,51 +56,51 @@ left-same c r w e m = subst (λ (v : World). Made c w v r) e m
 
 -- ---- every call
 
-act-made : (a : Act) (w : World) → Made (Do a) w (does a w .world) (does a w .answer)
-act-made (Visibility vtl share list) w =
+writer-made : (a : Writer) (w : World) → Made (Write a) w (givesWriter a w .world) (givesWriter a w .answer)
+writer-made (Visibility vtl share list) w =
     let X : Outcome = visibilityOf w vtl share list in
     let e = visibility-same w vtl share list in
-    left-same (Do (Visibility vtl share list)) (X .reply) w e (visibility lasting10 (nine w (vtl, (share, (lend list, tt)))) (X .reply) (nine (X .world) (vtl, (share, (lend list, tt)))) (ap (λ (v : World). given v (X .reply)) e))
-act-made (Protection vtl flags list) w =
+    left-same (Write (Visibility vtl share list)) (X .reply) w e (visibility lasting10 (nine w (vtl, (share, (lend list, tt)))) (X .reply) (nine (X .world) (vtl, (share, (lend list, tt)))) (ap (λ (v : World). given v (X .reply)) e))
+writer-made (Protection vtl flags list) w =
     let X : Outcome = protectionOf w vtl flags list in
     let e = protection-same w vtl flags list in
-    left-same (Do (Protection vtl flags list)) (X .reply) w e (protection lasting10 (nine w (vtl, (flags, (lend list, tt)))) (X .reply) (nine (X .world) (vtl, (flags, (lend list, tt)))) (ap (λ (v : World). given v (X .reply)) e))
-act-made (Default vtl flags) w =
+    left-same (Write (Protection vtl flags list)) (X .reply) w e (protection lasting10 (nine w (vtl, (flags, (lend list, tt)))) (X .reply) (nine (X .world) (vtl, (flags, (lend list, tt)))) (ap (λ (v : World). given v (X .reply)) e))
+writer-made (Default vtl flags) w =
     let X : Outcome = defaultOf w vtl flags in
     let e = default-same w vtl flags in
-    left-same (Do (Default vtl flags)) (X .reply) w e (default lasting9 (nine w (vtl, (flags, tt))) (X .reply) (nine (X .world) (vtl, (flags, tt))) (ap (λ (v : World). given v (X .reply)) e))
-act-made (Register vtl page source checked new) w =
+    left-same (Write (Default vtl flags)) (X .reply) w e (default lasting9 (nine w (vtl, (flags, tt))) (X .reply) (nine (X .world) (vtl, (flags, tt))) (ap (λ (v : World). given v (X .reply)) e))
+writer-made (Register vtl page source checked new) w =
     let X : Outcome = registerOf w vtl page source checked new in
     let e = register-same w vtl page source checked new in
-    left-same (Do (Register vtl page source checked new)) (X .reply) w e
+    left-same (Write (Register vtl page source checked new)) (X .reply) w e
     (register lasting9 (nine w (vtl, (page, (source, (checked, (new, tt)))))) (X .reply) (nine (X .world) (vtl, (page, (source, (checked, (new, tt)))))) (ap (λ (v : World). given v (X .reply)) e))
-act-made (Unregister vtl page) w =
+writer-made (Unregister vtl page) w =
     let X : Outcome = unregisterOf w vtl page in
     let e = unregister-same w vtl page in
-    left-same (Do (Unregister vtl page)) (X .reply) w e (unregister lasting9 (nine w (vtl, (page, tt))) (X .reply) (nine (X .world) (vtl, (page, tt))) (ap (λ (v : World). given v (X .reply)) e))
-act-made (Lock vtl list) w =
+    left-same (Write (Unregister vtl page)) (X .reply) w e (unregister lasting9 (nine w (vtl, (page, tt))) (X .reply) (nine (X .world) (vtl, (page, tt))) (ap (λ (v : World). given v (X .reply)) e))
+writer-made (Lock vtl list) w =
     let k : Kept = lockOf (w .state) (w .tables) vtl list in
     lock (w .maps) (w .pages) ([], ([], ([], tt))) (lend (w .state), (lend (w .tables), (vtl, (lend list, tt)))) (k .reply) (lend (w .state), (lend (k .tables), (vtl, (lend list, tt)))) refl
-act-made (Unlock vtl list) w =
+writer-made (Unlock vtl list) w =
     let k : Kept = unlockOf (w .state) (w .tables) vtl list in
     unlock (w .maps) (w .pages) ([], ([], ([], tt))) (lend (w .state), (lend (w .tables), (vtl, (lend list, tt)))) (k .reply) (lend (w .state), (lend (k .tables), (vtl, (lend list, tt)))) refl
-act-made Enable w =
+writer-made Enable w =
     let k : Enabled = enableOf (w .state) in
     enable (w .maps) (w .pages) (w .tables) ([], tt) (lend (w .state), tt) (k .reply) (lend (k .state), tt) refl
 
-read-made : (q : Reader) (w : World) → Made (Read q) w w (tells q w)
-read-made TellEnabled w = tellEnabled (w .maps) (w .pages) (w .tables) ([], tt) (lend (w .state), tt) (tells TellEnabled w) (lend (w .state), tt) refl
-read-made TellDefault w = tellDefault (w .maps) (w .pages) (w .tables) ([], tt) (lend (w .state), tt) (tells TellDefault w) (lend (w .state), tt) refl
+read-made : (q : Reader) (w : World) → Made (Read q) w w (shown q w)
+read-made TellEnabled w = tellEnabled (w .maps) (w .pages) (w .tables) ([], tt) (lend (w .state), tt) (shown TellEnabled w) (lend (w .state), tt) refl
+read-made TellDefault w = tellDefault (w .maps) (w .pages) (w .tables) ([], tt) (lend (w .state), tt) (shown TellDefault w) (lend (w .state), tt) refl
 read-made (IsOverlay vtl page) w =
-    isOverlay (w .maps) (w .pages) ([], ([], tt)) (lend (w .state), (lend (w .tables), (vtl, (page, tt)))) (tells (IsOverlay vtl page) w) (lend (w .state), (lend (w .tables), (vtl, (page, tt)))) refl
+    isOverlay (w .maps) (w .pages) ([], ([], tt)) (lend (w .state), (lend (w .tables), (vtl, (page, tt)))) (shown (IsOverlay vtl page) w) (lend (w .state), (lend (w .tables), (vtl, (page, tt)))) refl
 read-made (Query list out) w =
     let q : queries.Query = queryOf (w .state) (w .maps .shared) list out in
     query (w .maps .private) (w .maps .permissions) (w .pages) (w .tables) ([], ([], ([], ([], tt)))) (lend (w .state), (lend (w .maps .shared), (lend list, (lend out, tt)))) (q .reply)
     (lend (w .state), (lend (w .maps .shared), (lend list, (lend (q .out), tt)))) refl
 read-made (Fault mapping view address writes failure) w =
-    fault (w .pages) (w .tables) lasting7 (seven w (mapping, (view, (address, (writes, (failure, tt)))))) (tells (Fault mapping view address writes failure) w) (seven w (mapping, (view, (address, (writes, (failure, tt)))))) refl
-read-made (Lower vtl page) w = lower (w .pages) (w .tables) lasting7 (seven w (vtl, (page, tt))) (tells (Lower vtl page) w) (seven w (vtl, (page, tt))) refl
-read-made (Access page) w = access (w .pages) (w .tables) lasting7 (seven w (page, tt)) (tells (Access page) w) (seven w (page, tt)) refl
+    fault (w .pages) (w .tables) lasting7 (seven w (mapping, (view, (address, (writes, (failure, tt)))))) (shown (Fault mapping view address writes failure) w) (seven w (mapping, (view, (address, (writes, (failure, tt)))))) refl
+read-made (Lower vtl page) w = lower (w .pages) (w .tables) lasting7 (seven w (vtl, (page, tt))) (shown (Lower vtl page) w) (seven w (vtl, (page, tt))) refl
+read-made (Access page) w = access (w .pages) (w .tables) lasting7 (seven w (page, tt)) (shown (Access page) w) (seven w (page, tt)) refl
 
 answer-made : (g : Given) (w : World) → Made (Answer g) w (gives (Answer g) w .world) (gives (Answer g) w .answer)
 answer-made Succeeds w = let X : Outcome = answerDone w in done lasting9 (nine w tt) (X .reply) (nine (X .world) tt) refl
@@ -122,7 +122,7 @@ pub any-call : (w : World) → Callable w
 any-call w = record { made = made; built = built; refused = λ ram isolation tracked release f. unfit-refused w ram isolation tracked release f }
   where
     made : (c : Call) → Made c w (gives c w .world) (gives c w .answer)
-    made (Do a) = act-made a w
+    made (Write a) = writer-made a w
     made (Read q) = read-made q w
     made (Answer g) = answer-made g w
 

@@ -14,7 +14,7 @@ use Rattle.protector_state.specs.State.{stateLen, settingsOf}
 use Rattle.protector.specs.World.{World, world}
 use Rattle.vtl1_protections.specs.Calls.{stateRefusal, enableRefusal, enabled, enableOf}
 use Rattle.history.specs.Seen.{Seen}
-use Rattle.history.specs.Call.{Act, Visibility, Protection, Default, Register, Unregister, Lock, Unlock, Enable, does, seesAct}
+use Rattle.history.specs.Call.{Writer, Visibility, Protection, Default, Register, Unregister, Lock, Unlock, Enable, givesWriter, seesWriter}
 use Rattle.history.proofs.Bits.{clash}
 use Rattle.history.proofs.Calls.{status}
 use Rattle.history.proofs.Wholes.{lock-tables-long, unlock-tables-long}
@@ -35,7 +35,7 @@ pub record Framed (K : World → Seen → Type 0) : Type 0 where
   pub setting : (w : World) (o : Seen) → K w o → K (world (w .maps) (set (w .state) 19 1) (w .pages) (w .tables)) o
 
 -- a call that touches neither marks nor request
-abbrev pub isApart : Act → Bool
+abbrev pub isApart : Writer → Bool
 isApart (Visibility vtl share list) = false
 isApart (Protection vtl flags list) = false
 isApart (Default vtl flags) = false
@@ -46,7 +46,7 @@ isApart (Unlock vtl list) = true
 isApart Enable = true
 
 -- THE FRAME LAW; of a call that only reads it holds of any K, by definition
-pub frame : {K : World → Seen → Type 0} → Framed K → (a : Act) → isApart a ≡ true → (w : World) (o : Seen) → K w o → K (does a w .world) (seesAct a (does a w .answer) (does a w .world .pages) o)
+pub frame : {K : World → Seen → Type 0} → Framed K → (a : Writer) → isApart a ≡ true → (w : World) (o : Seen) → K w o → K (givesWriter a w .world) (seesWriter a (givesWriter a w .answer) (givesWriter a w .world .pages) o)
 frame f (Visibility vtl share list) e w o k = clash _ e refl
 frame f (Protection vtl flags list) e w o k = clash _ e refl
 frame f (Default vtl flags) e w o k = clash _ e refl

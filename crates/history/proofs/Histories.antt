@@ -14,7 +14,7 @@ use Rattle.protector_state.specs.declared.Reply.{Reply}
 use Rattle.protector.specs.World.{World, statusIn}
 use Rattle.visibility_claims.specs.Whole.{Given}
 use Rattle.history.specs.Seen.{haltedNumber, Seen, asks, isWaiting, isTaken, seesTaken, seesCall, seesAnswer}
-use Rattle.history.specs.Call.{Act, Visibility, Protection, Default, Register, Unregister, Lock, Unlock, Enable, Call, Do, Read, Answer, Result, Gave, does, gives, seesAct, sees}
+use Rattle.history.specs.Call.{Writer, Visibility, Protection, Default, Register, Unregister, Lock, Unlock, Enable, Call, Write, Read, Answer, Result, Effect, givesWriter, gives, seesWriter, sees}
 use Rattle.history.specs.History.{History, none, call, stray, refusedBuild}
 use Rattle.history.proofs.Bits.{clash}
 use Rattle.history.proofs.World.{Stands}
@@ -43,10 +43,10 @@ module _ (K : World → Seen → Type 0) (f : Keeps K) where
   pub history-keeps : {w v : World} {a o : Seen} → History w a v o → K w a → K v o
   history-keeps none k = k
   history-keeps (call {u} {v} {o} h c r m) k =
-      subst (λ (X : Gave (Result c)). K (X .world) (sees c (X .answer) (X .world .pages) o)) (sym (is m)) (f .step c u o (history-keeps h k))
+      subst (λ (X : Effect (Result c)). K (X .world) (sees c (X .answer) (X .world .pages) o)) (sym (is m)) (f .step c u o (history-keeps h k))
   history-keeps (stray {u} {x} {y} {o} h c r m s) k =
       subst (λ (p : Seen). K u p)
-      (sym (ap (λ (X : Gave (Result c)). sees c (X .answer) (X .world .pages) o) (is m) ∙ stray-unseen c u x o (f .halts u o (history-keeps h k)) s)) (history-keeps h k)
+      (sym (ap (λ (X : Effect (Result c)). sees c (X .answer) (X .world .pages) o) (is m) ∙ stray-unseen c u x o (f .halts u o (history-keeps h k)) s)) (history-keeps h k)
   history-keeps (refusedBuild h ram i t l r m n) k = history-keeps h k
 
 -- ---- parts
@@ -73,18 +73,18 @@ pub stands-framed : (es : List MemoryRangeWithNode) → Framed (Stands es)
 stands-framed es = record { tables = λ w o t _ k. tables-stand es w o k t; setting = λ w o k. set-stands es w o k 19 1 (omega arith) (omega arith) }
 
 module _ (es : List MemoryRangeWithNode) (w : World) (o : Seen) (k : Stands es w o) where
-  stands-act : (a : Act) → Stands es (does a w .world) (seesAct a (does a w .answer) (does a w .world .pages) o)
-  stands-act (Visibility vtl share list) = visibility-stands es w o k vtl share list
-  stands-act (Protection vtl flags list) = protection-stands es w o k vtl flags list
-  stands-act (Default vtl flags) = default-stands es w o k vtl flags
-  stands-act (Register vtl page source checked new) = register-stands es w o k vtl page source checked new
-  stands-act (Unregister vtl page) = unregister-stands es w o k vtl page
-  stands-act (Lock vtl list) = frame (stands-framed es) (Lock vtl list) refl w o k
-  stands-act (Unlock vtl list) = frame (stands-framed es) (Unlock vtl list) refl w o k
-  stands-act Enable = frame (stands-framed es) Enable refl w o k
+  stands-writer : (a : Writer) → Stands es (givesWriter a w .world) (seesWriter a (givesWriter a w .answer) (givesWriter a w .world .pages) o)
+  stands-writer (Visibility vtl share list) = visibility-stands es w o k vtl share list
+  stands-writer (Protection vtl flags list) = protection-stands es w o k vtl flags list
+  stands-writer (Default vtl flags) = default-stands es w o k vtl flags
+  stands-writer (Register vtl page source checked new) = register-stands es w o k vtl page source checked new
+  stands-writer (Unregister vtl page) = unregister-stands es w o k vtl page
+  stands-writer (Lock vtl list) = frame (stands-framed es) (Lock vtl list) refl w o k
+  stands-writer (Unlock vtl list) = frame (stands-framed es) (Unlock vtl list) refl w o k
+  stands-writer Enable = frame (stands-framed es) Enable refl w o k
 
   stands-step : (c : Call) → After (Stands es) c w o
-  stands-step (Do a) = stands-act a
+  stands-step (Write a) = stands-writer a
   stands-step (Read q) = k
   stands-step (Answer g) = answer-stands es w o k g
 
@@ -97,25 +97,25 @@ snp-framed : Framed Snp
 snp-framed = record { tables = λ w o t _ k. tables-aged w o k t; setting = λ w o k. set-aged w o k 19 1 (omega arith) }
 
 module _ (es : List MemoryRangeWithNode) (w : World) (o : Seen) (k : Stands es w o) (n : Snp w o) where
-  aged-act : (a : Act) → Snp (does a w .world) (seesAct a (does a w .answer) (does a w .world .pages) o)
-  aged-act (Visibility vtl share list) = visibility-aged es w o k n vtl share list
-  aged-act (Protection vtl flags list) = protection-aged es w o k n vtl flags list
-  aged-act (Default vtl flags) = default-aged es w o k n vtl flags
-  aged-act (Register vtl page source checked new) = register-aged es w o k n vtl page source checked new
-  aged-act (Unregister vtl page) = unregister-aged es w o k n vtl page
-  aged-act (Lock vtl list) = frame snp-framed (Lock vtl list) refl w o n
-  aged-act (Unlock vtl list) = frame snp-framed (Unlock vtl list) refl w o n
-  aged-act Enable = frame snp-framed Enable refl w o n
+  aged-writer : (a : Writer) → Snp (givesWriter a w .world) (seesWriter a (givesWriter a w .answer) (givesWriter a w .world .pages) o)
+  aged-writer (Visibility vtl share list) = visibility-aged es w o k n vtl share list
+  aged-writer (Protection vtl flags list) = protection-aged es w o k n vtl flags list
+  aged-writer (Default vtl flags) = default-aged es w o k n vtl flags
+  aged-writer (Register vtl page source checked new) = register-aged es w o k n vtl page source checked new
+  aged-writer (Unregister vtl page) = unregister-aged es w o k n vtl page
+  aged-writer (Lock vtl list) = frame snp-framed (Lock vtl list) refl w o n
+  aged-writer (Unlock vtl list) = frame snp-framed (Unlock vtl list) refl w o n
+  aged-writer Enable = frame snp-framed Enable refl w o n
 
   aged-step : (c : Call) → After Snp c w o
-  aged-step (Do a) = aged-act a
+  aged-step (Write a) = aged-writer a
   aged-step (Read q) = n
   aged-step (Answer g) = answer-aged es w o k n g
 
-abbrev pub Ages : IsolationType → World → Seen → Type 0
-Ages i w o = isSnp i ≡ true → Snp w o
+abbrev pub SnpAges : IsolationType → World → Seen → Type 0
+SnpAges i w o = isSnp i ≡ true → Snp w o
 
-pub ages-kept : (es : List MemoryRangeWithNode) (i : IsolationType) → KeepsWith (Stands es) (Ages i)
+pub ages-kept : (es : List MemoryRangeWithNode) (i : IsolationType) → KeepsWith (Stands es) (SnpAges i)
 ages-kept es i c w o k n e = aged-step es w o k (n e) c
 
 -- ---- the lengths
@@ -127,18 +127,18 @@ lengths-framed : Framed Lengths
 lengths-framed = record { tables = λ w o t e k. tables-whole w t e k; setting = λ w o k. set-whole w 19 1 (omega arith) (omega arith) k }
 
 module _ (w : World) (o : Seen) (k : Whole w) where
-  long-act : (a : Act) → Whole (does a w .world)
-  long-act (Visibility vtl share list) = visibility-long w k vtl share list
-  long-act (Protection vtl flags list) = protection-long w k vtl flags list
-  long-act (Default vtl flags) = default-long w k vtl flags
-  long-act (Register vtl page source checked new) = register-long w k vtl page source checked new
-  long-act (Unregister vtl page) = unregister-long w k vtl page
-  long-act (Lock vtl list) = frame lengths-framed (Lock vtl list) refl w o k
-  long-act (Unlock vtl list) = frame lengths-framed (Unlock vtl list) refl w o k
-  long-act Enable = frame lengths-framed Enable refl w o k
+  long-writer : (a : Writer) → Whole (givesWriter a w .world)
+  long-writer (Visibility vtl share list) = visibility-long w k vtl share list
+  long-writer (Protection vtl flags list) = protection-long w k vtl flags list
+  long-writer (Default vtl flags) = default-long w k vtl flags
+  long-writer (Register vtl page source checked new) = register-long w k vtl page source checked new
+  long-writer (Unregister vtl page) = unregister-long w k vtl page
+  long-writer (Lock vtl list) = frame lengths-framed (Lock vtl list) refl w o k
+  long-writer (Unlock vtl list) = frame lengths-framed (Unlock vtl list) refl w o k
+  long-writer Enable = frame lengths-framed Enable refl w o k
 
   long-step : (c : Call) → Whole (gives c w .world)
-  long-step (Do a) = long-act a
+  long-step (Write a) = long-writer a
   long-step (Read q) = k
   long-step (Answer g) = answer-long w k g
 
@@ -172,17 +172,17 @@ module _ (w v : World) (o : Seen) (k : Unlisted w o) where
       go true = λ f h. ap₂ (λ (a b : Bool). cond (a || b) (o .listed) []) f h
       go false = k
 
-  unlisted-act : (a : Act) (r : Reply) (p : List ℕ) → Unlisted v (seesAct a r p o)
-  unlisted-act (Visibility vtl share list) r p = unlisted-call (pagesOf list) r p
-  unlisted-act (Protection vtl flags list) r p = unlisted-call [] r p
-  unlisted-act (Default vtl flags) r p = unlisted-call [] r p
-  unlisted-act (Register vtl page source checked new) r p = unlisted-call [] r p
-  unlisted-act (Unregister vtl page) r p = unlisted-call [] r p
-  unlisted-act (Lock vtl list) r p = k
-  unlisted-act (Unlock vtl list) r p = k
-  unlisted-act Enable r p = k
+  unlisted-writer : (a : Writer) (r : Reply) (p : List ℕ) → Unlisted v (seesWriter a r p o)
+  unlisted-writer (Visibility vtl share list) r p = unlisted-call (pagesOf list) r p
+  unlisted-writer (Protection vtl flags list) r p = unlisted-call [] r p
+  unlisted-writer (Default vtl flags) r p = unlisted-call [] r p
+  unlisted-writer (Register vtl page source checked new) r p = unlisted-call [] r p
+  unlisted-writer (Unregister vtl page) r p = unlisted-call [] r p
+  unlisted-writer (Lock vtl list) r p = k
+  unlisted-writer (Unlock vtl list) r p = k
+  unlisted-writer Enable r p = k
 
 pub unlisted-kept : (P : World → Seen → Type 0) → KeepsWith P Unlisted
-unlisted-kept P (Do a) w o _ k = unlisted-act w (does a w .world) o k a (does a w .answer) (does a w .world .pages)
+unlisted-kept P (Write a) w o _ k = unlisted-writer w (givesWriter a w .world) o k a (givesWriter a w .answer) (givesWriter a w .world .pages)
 unlisted-kept P (Read q) w o _ k = k
 unlisted-kept P (Answer g) w o _ k = unlisted-answer w (gives (Answer g) w .world) o k g (gives (Answer g) w .answer) (gives (Answer g) w .world .pages)

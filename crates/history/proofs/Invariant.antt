@@ -24,7 +24,7 @@ use Rattle.history.specs.Settings.{SettingsFit}
 use Rattle.history.specs.Permitted.{Permitted}
 use Rattle.history.proofs.World.{Stands}
 use Rattle.history.proofs.Strays.{Whole}
-use Rattle.history.proofs.Histories.{Keeps, Both, InWorld, product, history-keeps, stands-kept, Ages, ages-kept, Lengths, lengths-kept, Unlisted, unlisted-kept}
+use Rattle.history.proofs.Histories.{Keeps, Both, InWorld, product, history-keeps, stands-kept, SnpAges, ages-kept, Lengths, lengths-kept, Unlisted, unlisted-kept}
 use Rattle.history.proofs.Tabled.{tables-kept}
 use Rattle.history.proofs.PermittedCalls.{permissions-kept}
 use Rattle.history.proofs.StateWords.{Words, words-kept}
@@ -58,7 +58,7 @@ pub record Invariant (es : List MemoryRangeWithNode) (l : List ℕ) (i t r : ℕ
   pub stands : Stands es w o
   pub tables : TablesFit es w
   pub permitted : Permitted es w
-  pub ages : Ages (isolationOf i) w o
+  pub ages : SnpAges (isolationOf i) w o
   pub whole : Whole w
   pub unlisted : Unlisted w o
   pub settings : SettingsFit i t r (w .state)
@@ -66,7 +66,7 @@ pub record Invariant (es : List MemoryRangeWithNode) (l : List ℕ) (i t r : ℕ
 
 module _ (es : List MemoryRangeWithNode) (l : List ℕ) (i t r : ℕ) where
   abbrev Marks : World → Seen → Type 0
-  Marks = Both (Both (Both (Stands es) (InWorld (TablesFit es))) (InWorld (Permitted es))) (Ages (isolationOf i))
+  Marks = Both (Both (Both (Stands es) (InWorld (TablesFit es))) (InWorld (Permitted es))) (SnpAges (isolationOf i))
 
   abbrev Listed : World → Seen → Type 0
   Listed = Both (Both Marks Lengths) Unlisted

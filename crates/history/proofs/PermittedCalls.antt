@@ -45,20 +45,20 @@ use Rattle.overlay_tests.proofs.Laws.{call-passed, flags-passed}
 use Rattle.overlay_pages.specs.Calls.{entryIn, counting, unregisterTaken, unregisterOf, currentIn, registerTaken, registerOf}
 use Rattle.visibility_claims.specs.Whole.{Given, Succeeds, Fails}
 use Rattle.visibility_claims.specs.Calls.{answerOf}
-use Rattle.history.specs.Seen.{Seen}
+use Rattle.history.specs.Seen.{underWayNumber, haltedNumber, Seen}
 use Rattle.history.specs.Marks.{Has}
-use Rattle.history.specs.Call.{Act, Visibility, Protection, Default, Register, Unregister, Lock, Unlock, Enable, Call, Do, Read, Answer, does, gives}
+use Rattle.history.specs.Call.{Writer, Visibility, Protection, Default, Register, Unregister, Lock, Unlock, Enable, Call, Write, Read, Answer, givesWriter, gives}
 use Rattle.history.specs.Tables.{TablesFit}
 use Rattle.history.specs.Permitted.{Inside, OnRam, isPages, isListing, Permitted}
 use Rattle.history.proofs.Fits.{pages-long}
 use Rattle.history.proofs.Bits.{among-own}
 use Rattle.history.proofs.Start.{first-all, ram-page}
-use Rattle.history.proofs.Calls.{status, taken, in-ram}
+use Rattle.history.proofs.Calls.{not-true, status, taken, in-ram}
 use Rattle.history.proofs.Strays.{answer-whole, protection-whole}
 use Rattle.history.proofs.Deciding.{decides, either}
 use Rattle.history.proofs.Entries.{overlays-entry, overlays-own}
 use Rattle.history.proofs.Tabled.{fresh-page}
-use Rattle.history.proofs.World.{Stands}
+use Rattle.history.proofs.World.{Stands, phase-waits}
 use Rattle.history.proofs.Frame.{Framed, frame}
 use Rattle.history.proofs.Histories.{Both, InWorld, KeepsWith}
 use Rattle.history.proofs.PermittedSteps.{written-ram, places-ram, piece-all, Narrow, done-narrow, failed-narrow, start-narrow, Safe, safe-pages, safe-ram, safe-done, safe-failed, safe-new, safe-old}
@@ -77,25 +77,10 @@ listing-change stage.Wait q s e = e
 listing-change stage.Flush q s e = e
 listing-change stage.TlbWait q s e = e
 
-takes-waits : (p : Phase) (failed : Bool) → takes p failed ≡ true → eqb (statusOf p) 19 ≡ true
-takes-waits at.Idle failed e = e
-takes-waits at.Halted failed e = e
-takes-waits at.Wait failed e = refl
-takes-waits at.FlushAll failed e = refl
-takes-waits at.ProtectNone0 failed e = refl
-takes-waits at.ProtectNone1 failed e = refl
-takes-waits at.Invalidate failed e = refl
-takes-waits at.Release failed e = refl
-takes-waits at.Modify failed e = refl
-takes-waits at.Accept failed e = refl
-takes-waits at.Zero failed e = refl
-takes-waits at.ProtectDefault0 failed e = refl
-takes-waits at.ProtectDefault1 failed e = refl
-
 pub not-listing : (s : List ℕ) → statusIn s ≡ 0 → isListing s ≡ true → ⊥
 not-listing s z e = go (isChanging s) (isPages (stageIn s)) (statusOf (phaseIn s)) z e
   where
-    go : (c a : Bool) (n : ℕ) → cond c 19 n ≡ 0 → cond c a (eqb n 19) ≡ true → ⊥
+    go : (c a : Bool) (n : ℕ) → cond c underWayNumber n ≡ 0 → cond c a (eqb n underWayNumber) ≡ true → ⊥
     go true a n z e = omega (arith, z)
     go false a n z e = omega (arith, z, eqb-true n 19 e)
 
@@ -103,10 +88,6 @@ pick-all : (ps : List ℕ) → pick (λ p. true) ps ≡ ps
 unfolding pick
 pick-all [] = refl
 pick-all (p ∷ ps) = ap (λ (l : List ℕ). p ∷ l) (pick-all ps)
-
-no : (b : Bool) → not b ≡ true → b ≡ false
-no true e = sym e
-no false e = refl
 
 module _ (es : List MemoryRangeWithNode) where
   fewer : (n m : ℕ) (t : List ℕ) → m ≤ n → OnRam es n t → OnRam es m t
@@ -203,7 +184,7 @@ module _ (es : List MemoryRangeWithNode) where
         let e = passed (fitVtl vtl) 7 _ (d .1) in
         let f = passed (fitFlags flags) 7 _ (e .1) in
         let g = passed (not (isRagged l)) 7 _ (f .1) in
-        (ltb-false 4096 (length l) (no (isLong l) (d .0)), status (eachRefusal (w .state) (w .tables) (vtlOf vtl) l) _ (g .1) .0)
+        (ltb-false 4096 (length l) (not-true (isLong l) (d .0)), status (eachRefusal (w .state) (w .tables) (vtlOf vtl) l) _ (g .1) .0)
 
     listed-ram : OnRam es (length (pagesOf l)) (allListed l (w .pages))
     listed-ram j h d =
@@ -234,7 +215,7 @@ module _ (es : List MemoryRangeWithNode) where
       unfolding answerRefusal
       takes-it =
           let a = passed (eqb (length (w .state)) stateLen) 3 _ z in
-          let b = passed (not (eqb (statusIn (w .state)) 20)) 19 _ (a .1) in
+          let b = passed (not (eqb (statusIn (w .state)) haltedNumber)) 19 _ (a .1) in
           let c = passed (fits w) 3 _ (b .1) in
           passed (takesIn (w .state) failed) 20 _ (c .1) .0
 
@@ -245,10 +226,10 @@ module _ (es : List MemoryRangeWithNode) where
       long = omega (arith, pages-long w (answer-whole w failed z .fit))
 
       visible : isChanging (w .state) ≡ false → OnRam es (requestOf (w .state) .n) (w .pages)
-      visible e = p .listed (ap (λ (b : Bool). cond b (isPages (stageIn (w .state))) (eqb (statusOf (phaseIn (w .state))) 19)) e ∙ takes-waits (phaseIn (w .state)) failed (takes-change false e))
+      visible e = p .listed (ap (λ (b : Bool). cond b (isPages (stageIn (w .state))) (eqb (statusOf (phaseIn (w .state))) underWayNumber)) e ∙ phase-waits (phaseIn (w .state)) failed (takes-change false e))
 
       paged : isChanging (w .state) ≡ true → isPages (stageIn (w .state)) ≡ true → OnRam es (requestOf (w .state) .n) (w .pages)
-      paged e d = p .listed (ap (λ (b : Bool). cond b (isPages (stageIn (w .state))) (eqb (statusOf (phaseIn (w .state))) 19)) e ∙ d)
+      paged e d = p .listed (ap (λ (b : Bool). cond b (isPages (stageIn (w .state))) (eqb (statusOf (phaseIn (w .state))) underWayNumber)) e ∙ d)
 
     answer-permits : (g : Given) → Permitted es (answerOf g w .world)
     unfolding answerDone answerFailed afterDone afterFailed
@@ -323,21 +304,21 @@ module _ (es : List MemoryRangeWithNode) where
             change-permits w (w .pages) x (p .inside)
             (safe-new es (w .pages) (settingsOf (w .state) .tracked) v page source (bitsOf (currentIn w v page source)) new (ap (λ (y : List MemoryRangeWithNode). isRam y page) (sym (k .first .layout)) ∙ c .page))
 
-    permits-act : (a : Act) → Permitted es (does a w .world)
+    permits-writer : (a : Writer) → Permitted es (givesWriter a w .world)
     unfolding defaultOf
-    permits-act (Visibility vtl share list) = visibility-permits vtl share list
-    permits-act (Protection vtl flags list) = protection-permits vtl flags list
-    permits-act (Default vtl flags) =
+    permits-writer (Visibility vtl share list) = visibility-permits vtl share list
+    permits-writer (Protection vtl flags list) = protection-permits vtl flags list
+    permits-writer (Default vtl flags) =
         decides (Permitted es) w (defaultRefusal (w .state) (fits w) vtl flags) _ p
         (λ _. default-permits (stored w (vtlOf vtl) flags) (k .first .right .private-ram) (stored-permits w (vtlOf vtl) flags p) (vtlOf vtl) flags)
-    permits-act (Register vtl page source checked new) = register-permits vtl page source checked new
-    permits-act (Unregister vtl page) = unregister-permits vtl page
-    permits-act (Lock vtl list) = frame permits-framed (Lock vtl list) refl w o p
-    permits-act (Unlock vtl list) = frame permits-framed (Unlock vtl list) refl w o p
-    permits-act Enable = frame permits-framed Enable refl w o p
+    permits-writer (Register vtl page source checked new) = register-permits vtl page source checked new
+    permits-writer (Unregister vtl page) = unregister-permits vtl page
+    permits-writer (Lock vtl list) = frame permits-framed (Lock vtl list) refl w o p
+    permits-writer (Unlock vtl list) = frame permits-framed (Unlock vtl list) refl w o p
+    permits-writer Enable = frame permits-framed Enable refl w o p
 
     permits-step : (c : Call) → Permitted es (gives c w .world)
-    permits-step (Do a) = permits-act a
+    permits-step (Write a) = permits-writer a
     permits-step (Read q) = p
     permits-step (Answer g) = answer-permits g
 

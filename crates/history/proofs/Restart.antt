@@ -20,7 +20,7 @@ use Rattle.protector_state.specs.State.{phaseIn, requestOf, settingsOf, ramOf, 
 use Rattle.protector.specs.World.{World, statusOf}
 use Rattle.visibility_claims.specs.Ends.{pageEnd}
 use Rattle.change_claims.proofs.Default.{fit-end}
-use Rattle.history.specs.Seen.{Seen, isWaiting}
+use Rattle.history.specs.Seen.{underWayNumber, haltedNumber, Seen, isWaiting}
 use Rattle.history.specs.Marks.{Has, Exact, Marked, readOff, Settled}
 use Rattle.history.specs.Resting.{Rests}
 use Rattle.history.specs.Claim.{ClaimFrom}
@@ -103,8 +103,8 @@ by-idle C at.Zero e c = absurd (no-status (statusOf at.Zero) refl e)
 by-idle C at.ProtectDefault0 e c = absurd (no-status (statusOf at.ProtectDefault0) refl e)
 by-idle C at.ProtectDefault1 e c = absurd (no-status (statusOf at.ProtectDefault1) refl e)
 
-resting : (b : Bool) (p : Phase) → cond b 19 (statusOf p) ≡ 0 → statusOf p ≡ 0
-resting true p e = absurd (no-status 19 refl e)
+resting : (b : Bool) (p : Phase) → cond b underWayNumber (statusOf p) ≡ 0 → statusOf p ≡ 0
+resting true p e = absurd (no-status underWayNumber refl e)
 resting false p e = e
 
 module _ (w : World) (k : Settled w) where
@@ -150,8 +150,8 @@ module _ (w : World) (k : Settled w) where
         layout = refl;
         right = right-same (sharedIn (readOff (w .maps))) false (λ z. shared-as (bitAt 8 (w .maps .shared) z))
             (by-idle (λ (p : Phase). Right (isRam es) (w .maps .private) (w .maps .shared) p (requestOf (w .state)) (w .pages) false [] (λ z. bitAt 8 (w .maps .shared) z)) p rests right);
-        halts = sym (ap (λ (n : ℕ). eqb n 20) (k .idle));
-        waits = sym (ap (λ (n : ℕ). eqb n 19) (k .idle));
+        halts = sym (ap (λ (n : ℕ). eqb n haltedNumber) (k .idle));
+        waits = sym (ap (λ (n : ℕ). eqb n underWayNumber) (k .idle));
         names = by-idle (λ (p : Phase). Names p (requestOf (w .state)) (w .pages) (readOff (w .maps) .op)) p rests refl;
         table = by-idle (λ (p : Phase). opened p ≡ true → [] ≡ w .pages) p rests (λ e. clash false e refl);
       }

@@ -26,7 +26,7 @@ use Rattle.overlay_pages.specs.Calls.{entryIn, counting, unregisterTaken, unreg
 use Rattle.visibility_claims.specs.Whole.{Given, Succeeds, Fails}
 use Rattle.visibility_claims.specs.Calls.{answerOf}
 use Rattle.history.specs.Seen.{Seen}
-use Rattle.history.specs.Call.{Act, Visibility, Protection, Default, Register, Unregister, Lock, Unlock, Enable, Call, Do, Read, Answer, does, gives}
+use Rattle.history.specs.Call.{Writer, Visibility, Protection, Default, Register, Unregister, Lock, Unlock, Enable, Call, Write, Read, Answer, givesWriter, gives}
 use Rattle.history.proofs.Deciding.{decides, either}
 use Rattle.history.proofs.Frame.{setter-frame}
 use Rattle.history.proofs.Histories.{InWorld, KeepsWith}
@@ -60,22 +60,22 @@ module _ (K : List ℕ → Type 0) (f : Words K) where
   long-passed w vtl flags z = eqb-true _ _ (passed (eqb (length (w .state)) stateLen) 3 _ z .0)
 
   module _ (w : World) (k : S w) where
-    set-act : (a : Act) → S (does a w .world)
+    set-writer : (a : Writer) → S (givesWriter a w .world)
     unfolding visibilityOf visibilityTaken protectionOf protectionTaken defaultOf registerOf registerTaken unregisterOf unregisterTaken
-    set-act (Visibility vtl share list) = decides S w (visibilityRefusal (w .state) (fits w) (w .tables) vtl share list) _ k (λ _. stepped w _ _ k)
-    set-act (Protection vtl flags list) = decides S w (protectionRefusal (w .state) (fits w) (w .maps .shared) (w .tables) vtl flags list) _ k (λ _. carried w _ _ k)
-    set-act (Default vtl flags) =
+    set-writer (Visibility vtl share list) = decides S w (visibilityRefusal (w .state) (fits w) (w .tables) vtl share list) _ k (λ _. stepped w _ _ k)
+    set-writer (Protection vtl flags list) = decides S w (protectionRefusal (w .state) (fits w) (w .maps .shared) (w .tables) vtl flags list) _ k (λ _. carried w _ _ k)
+    set-writer (Default vtl flags) =
         decides S w (defaultRefusal (w .state) (fits w) vtl flags) _ k
         (λ z. default-set (stored w (vtlOf vtl) flags) (vtlOf vtl) flags (f .defaulted (w .state) (vtlOf vtl) flags (flags-fit w vtl flags z) (long-passed w vtl flags z) k))
-    set-act (Register vtl page source checked new) =
+    set-writer (Register vtl page source checked new) =
         decides S w (registerRefusal (w .state) (fits w) (w .maps .shared) (w .tables) (currentIn w (vtlOf vtl) page source) vtl page source checked new) _ k
         (λ _. either S (isOverlay (overlaysOf (w .tables) (vtlOf vtl)) page) (counting w (vtlOf vtl) page (entryIn (w .tables) (vtlOf vtl) page .«ref_count» + 1)) _ k (carried w (w .pages) _ k))
-    set-act (Unregister vtl page) =
+    set-writer (Unregister vtl page) =
         decides S w (unregisterRefusal (w .state) (fits w) (w .tables) vtl page) _ k
         (λ _. either S (ltb 1 (entryIn (w .tables) (vtlOf vtl) page .«ref_count»)) (counting w (vtlOf vtl) page (entryIn (w .tables) (vtlOf vtl) page .«ref_count» - 1)) _ k (carried w (w .pages) _ k))
-    set-act (Lock vtl list) = k
-    set-act (Unlock vtl list) = k
-    set-act Enable = setter-frame K (w .state) k (λ tracked long. f .enabling (w .state) tracked long k)
+    set-writer (Lock vtl list) = k
+    set-writer (Unlock vtl list) = k
+    set-writer Enable = setter-frame K (w .state) k (λ tracked long. f .enabling (w .state) tracked long k)
 
     set-answer : (g : Given) → S (answerOf g w .world)
     unfolding answerDone answerFailed
@@ -85,7 +85,7 @@ module _ (K : List ℕ → Type 0) (f : Words K) where
         decides S w (answerRefusal (w .state) (fits w) true) _ k (λ _. either S (isChanging (w .state)) (changeFailed w) (visibilityFailed w code n) (carried w (w .pages) _ k) (stepped w (w .pages) _ k))
 
     words-step : (c : Call) → S (gives c w .world)
-    words-step (Do a) = set-act a
+    words-step (Write a) = set-writer a
     words-step (Read q) = k
     words-step (Answer g) = set-answer g
 

@@ -33,22 +33,18 @@ use Rattle.overlay_pages.specs.Calls.{entryIn, counting, unregisterTaken, unreg
 use Rattle.vtl1_protections.specs.Calls.{enableOf}
 use Rattle.visibility_claims.specs.Whole.{Given, Succeeds, Fails}
 use Rattle.visibility_claims.specs.Calls.{answerOf}
-use Rattle.history.specs.Call.{Act, Visibility, Protection, Default, Register, Unregister, Lock, Unlock, Enable, Call, Do, Read, Answer, does, gives}
+use Rattle.history.specs.Call.{Writer, Visibility, Protection, Default, Register, Unregister, Lock, Unlock, Enable, Call, Write, Read, Answer, givesWriter, gives}
 use Rattle.history.specs.Tables.{Tables, TablesFit}
 use Rattle.history.proofs.World.{Stands}
 use Rattle.history.proofs.Frame.{setter-frame}
 use Rattle.history.proofs.Histories.{KeepsWith, InWorld}
 use Rattle.history.proofs.Locked.{lock-tables, unlock-tables}
-use Rattle.history.proofs.Calls.{status}
+use Rattle.history.proofs.Calls.{not-true, status}
 use Rattle.history.proofs.Deciding.{decides, either}
 use Rattle.history.proofs.Entries.{overlays-entry, overlays-counted, overlays-renewed}
 use Rattle.history.proofs.Tables.{put, pending-written, pending-request, pending-idle, pending-same, pending-set, Sound, sound-pages, sound-ram, sound-done, sound-failed, sound-new, sound-old}
 
 -- ---- what a registration that is taken has found of its page
-
-no : (b : Bool) → not b ≡ true → b ≡ false
-no true e = sym e
-no false e = refl
 
 pub record Fresh (es : List MemoryRangeWithNode) (o : List ℕ) (p source : ℕ) : Type 0 where
   pub page : isRam es p ≡ eqb source 0
@@ -83,7 +79,7 @@ module _ (es : List MemoryRangeWithNode) (shared o locks : List ℕ) (p source :
           let a = passed (not (isRam es p)) 6 _ z in
           let b = passed (not (isLocked o locks p)) 9 _ (a .1) in
           let one : source ≡ 1 = eqb-true source 1 e in
-          record { page = no (isRam es p) (a .0) ∙ sym (ne-eqb source 0 (λ d. omega (arith, one, d))); room = room-left (b .1) }
+          record { page = not-true (isRam es p) (a .0) ∙ sym (ne-eqb source 0 (λ d. omega (arith, one, d))); room = room-left (b .1) }
       go false e z =
           let a = passed (isRam es p) 6 _ z in
           let b = passed (within current (flagsOf checked)) 12 _ (a .1) in
@@ -250,20 +246,20 @@ module _ (es : List MemoryRangeWithNode) where
 -- ---- every call
 
 module _ (es : List MemoryRangeWithNode) (w : World) (layout : entriesIn (w .state) ≡ es) (k : TablesFit es w) where
-  tabled-act : (a : Act) → TablesFit es (does a w .world)
-  tabled-act (Visibility vtl share list) = visibility-tabled es w k vtl share list
-  tabled-act (Protection vtl flags list) = protection-tabled es w k vtl flags list
-  tabled-act (Default vtl flags) = default-tabled es w k vtl flags
-  tabled-act (Register vtl page source checked new) = register-tabled es w k layout vtl page source checked new
-  tabled-act (Unregister vtl page) = unregister-tabled es w k vtl page
-  tabled-act (Lock vtl list) =
+  tabled-writer : (a : Writer) → TablesFit es (givesWriter a w .world)
+  tabled-writer (Visibility vtl share list) = visibility-tabled es w k vtl share list
+  tabled-writer (Protection vtl flags list) = protection-tabled es w k vtl flags list
+  tabled-writer (Default vtl flags) = default-tabled es w k vtl flags
+  tabled-writer (Register vtl page source checked new) = register-tabled es w k layout vtl page source checked new
+  tabled-writer (Unregister vtl page) = unregister-tabled es w k vtl page
+  tabled-writer (Lock vtl list) =
       let x = lock-tables es (w .state) (w .tables) (k .tables) vtl list in record { tables = x .tables; pending = pending-same es (w .state) (w .tables) _ (x .same) (k .pending) }
-  tabled-act (Unlock vtl list) =
+  tabled-writer (Unlock vtl list) =
       let x = unlock-tables es (w .state) (w .tables) (k .tables) vtl list in record { tables = x .tables; pending = pending-same es (w .state) (w .tables) _ (x .same) (k .pending) }
-  tabled-act Enable = enable-tabled es w k
+  tabled-writer Enable = enable-tabled es w k
 
   tabled-step : (c : Call) → TablesFit es (gives c w .world)
-  tabled-step (Do a) = tabled-act a
+  tabled-step (Write a) = tabled-writer a
   tabled-step (Read q) = k
   tabled-step (Answer g) = answer-tabled es w k g
 

@@ -11,7 +11,7 @@ use Rattle.visibility_claims.specs.Whole.{Given, Succeeds}
 use Rattle.visibility_claims.specs.Calls.{answerOf, takenBy}
 use Rattle.visibility_claims.specs.Ends.{leftIn, underWay, unrefused}
 use Rattle.history.specs.Seen.{Seen, isWaiting, isTaken}
-use Rattle.history.specs.Call.{Do, Read, Answer}
+use Rattle.history.specs.Call.{Write, Read, Answer}
 use Rattle.history.specs.Made.{Made}
 use Rattle.history.specs.History.{History, none, call, stray, refusedBuild, Called, eventsIn}
 
@@ -23,10 +23,10 @@ pub data Course (w : World) (a : Seen) : World → Seen → Type 0 where
 
 unfoldable pub courseOf : {w v : World} {a o : Seen} → History w a v o → Course w a v o
 courseOf none = start
-courseOf (call h (Do a) r m) = other (courseOf h)
+courseOf (call h (Write a) r m) = other (courseOf h)
 courseOf (call h (Read q) r m) = other (courseOf h)
 courseOf (call {u} {v} {o} h (Answer g) r m) = answer (courseOf h) g (isTaken o r)
-courseOf (stray h (Do a) r m s) = other (courseOf h)
+courseOf (stray h (Write a) r m s) = other (courseOf h)
 courseOf (stray h (Read q) r m s) = other (courseOf h)
 courseOf (stray {u} {x} {y} {o} h (Answer g) r m s) = answer (courseOf h) g (isTaken o r)
 courseOf (refusedBuild h ram isolation tracked release r m f) = other (courseOf h)

@@ -8,7 +8,7 @@ use Rattle.protector_state.specs.declared.Reply.{Reply}
 use Rattle.protector_state.specs.State.{stateLen}
 use Rattle.protector.specs.World.{World, tablesLen, fits}
 use Rattle.history.specs.Seen.{Seen}
-use Rattle.history.specs.Call.{Act, Visibility, Protection, Default, Register, Unregister, Lock, Unlock, Enable, Call, Do, Read, Answer, Result, sees}
+use Rattle.history.specs.Call.{Writer, Visibility, Protection, Default, Register, Unregister, Lock, Unlock, Enable, Call, Write, Read, Answer, Result, sees}
 use Rattle.history.specs.Made.{Made, Built}
 
 -- ---- for one call alone, what is lent, x, may have another length than what was last left, u: of the state block, or of another buffer beside the state block as
@@ -23,19 +23,19 @@ pub data StrayLock (u x : World) : Type 0 where
   lockBlock : (length (x .state) ≡ stateLen → ⊥) → StrayLock u x
   lockTables : x .state ≡ u .state → (length (x .tables) ≡ tablesLen → ⊥) → StrayLock u x
 
-abbrev pub StrayAct : Act → World → World → Type 0
-StrayAct (Visibility vtl share list) u x = Stray u x
-StrayAct (Protection vtl flags list) u x = Stray u x
-StrayAct (Default vtl flags) u x = Stray u x
-StrayAct (Register vtl page source checked new) u x = Stray u x
-StrayAct (Unregister vtl page) u x = Stray u x
-StrayAct (Lock vtl list) u x = StrayLock u x
-StrayAct (Unlock vtl list) u x = StrayLock u x
-StrayAct Enable u x = length (x .state) ≡ stateLen → ⊥
+abbrev pub StrayWriter : Writer → World → World → Type 0
+StrayWriter (Visibility vtl share list) u x = Stray u x
+StrayWriter (Protection vtl flags list) u x = Stray u x
+StrayWriter (Default vtl flags) u x = Stray u x
+StrayWriter (Register vtl page source checked new) u x = Stray u x
+StrayWriter (Unregister vtl page) u x = Stray u x
+StrayWriter (Lock vtl list) u x = StrayLock u x
+StrayWriter (Unlock vtl list) u x = StrayLock u x
+StrayWriter Enable u x = length (x .state) ≡ stateLen → ⊥
 
 -- a call that only reads may be lent anything
 abbrev pub Wrong : Call → World → World → Type 0
-Wrong (Do a) u x = StrayAct a u x
+Wrong (Write a) u x = StrayWriter a u x
 Wrong (Read q) u x = Unit {0}
 Wrong (Answer g) u x = Stray u x
 
