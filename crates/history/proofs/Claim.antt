@@ -122,6 +122,9 @@ module _ (u : World) (ram : List ℕ) (i t r : ℕ) (z : buildRefusal ram i t r 
   built-long : length (builtState ram i t r) ≡ stateLen
   built-long = omega (arith, length-append ram (replicate (96 - length ram) 0), length-replicate {A = ℕ} (96 - length ram) 0, short-ram)
 
+  same-long : (s : Bool) (m : List ℕ) → length (fresh es s (length m)) ≡ length m
+  same-long s m = length-fresh es s (length m)
+
   built-whole : Whole (buildTaken u ram i t r .world)
   unfolding buildTaken
   built-whole =
@@ -129,7 +132,7 @@ module _ (u : World) (ram : List ℕ) (i t r : ℕ) (z : buildRefusal ram i t r 
         long = built-long;
         fit =
             let p : Permissions = u .maps .permissions in
-            rw (entries-built ram i t r well, length-fresh es true (length (u .maps .private)), length-fresh es false (length (u .maps .shared)), length-fresh es true (length (p .read)), length-fresh es true (length (p .write)), length-fresh es true (length (p .kernel)), length-fresh es true (length (p .user)), length-replicate {A = ℕ} (length (u .pages)) 0, length-replicate {A = ℕ} (length (u .tables)) 0)
+            rw (entries-built ram i t r well, same-long true (u .maps .private), same-long false (u .maps .shared), same-long true (p .read), same-long true (p .write), same-long true (p .kernel), same-long true (p .user), length-replicate {A = ℕ} (length (u .pages)) 0, length-replicate {A = ℕ} (length (u .tables)) 0)
             (and-true _ _ (and-true _ _ marks-fit maps-fit) (and-right (eqb (length (u .state)) stateLen) _ runs-fit));
       }
 
