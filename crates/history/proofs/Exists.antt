@@ -22,7 +22,7 @@ use Rattle.queries.specs.Queries.{queryOf}
 use Rattle.visibility_claims.specs.Whole.{Given, Succeeds, Fails}
 use Rattle.history.specs.Call.{Writer, Visibility, Protection, Default, Register, Unregister, Lock, Unlock, Enable, TellEnabled, TellDefault, IsOverlay, Query, Fault, Lower, Access, Reader, Call, Write, Read, Answer, Result, givesWriter, shown, gives}
 use Rattle.history.specs.Made.{Run, Seven, Nine, Made, visibility, done, failed, protection, default, register, unregister, lock, unlock, enable, tellEnabled, tellDefault, isOverlay, query, fault, lower, access, Built, build}
-use Rattle.history.specs.History.{block, other, lockBlock, lockTables}
+use Rattle.history.specs.History.{IsRefusal, block, other, lockBlock, lockTables}
 use Rattle.history.specs.Callable.{Callable, Strays}
 use Rattle.history.specs.Answered.{given}
 use Rattle.history.proofs.Bits.{clash}
@@ -107,7 +107,7 @@ answer-made Succeeds w = let X : Outcome = answerDone w in done lasting9 (nine w
 answer-made (Fails code n) w = let X : Outcome = answerFailed w code n in failed lasting9 (nine w (code, (n, tt))) (X .reply) (nine (X .world) (code, (n, tt))) refl
 
 -- a build with a number that names no isolation is refused, by it or by what comes before
-unfit-refused : (w : World) (ram : List ℕ) (isolation tracked release : ℕ) → fitIsolation isolation ≡ false → buildOf w ram isolation tracked release .reply .number ≡ 0 → ⊥
+unfit-refused : (w : World) (ram : List ℕ) (isolation tracked release : ℕ) → fitIsolation isolation ≡ false → IsRefusal (buildOf w ram isolation tracked release .reply)
 unfolding buildOf buildRefusal
 unfit-refused w ram isolation tracked release f e = go (eqb n 0) refl e
   where

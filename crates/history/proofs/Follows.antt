@@ -30,7 +30,7 @@ use Rattle.change_claims.proofs.Default.{default-is-whole}
 use Rattle.history.specs.Seen.{Seen, asks, isWaiting, isTaken, seesTaken, seesCall, seesAnswer}
 use Rattle.history.specs.Call.{Reader, Shown, Writer, Visibility, Protection, Default, Register, Unregister, Lock, Unlock, Enable, Write, Read, Answer, Result, Effect, givesWriter, seesWriter}
 use Rattle.history.specs.Made.{Made, Built}
-use Rattle.history.specs.History.{Wrong, History, none, call, stray, refusedBuild}
+use Rattle.history.specs.History.{Wrong, IsRefusal, History, none, call, stray, refusedBuild}
 use Rattle.history.specs.Answered.{given}
 use Rattle.history.specs.Ends.{Course, start, answer, other, courseOf, Falls, Meanwhile}
 use Rattle.history.specs.Requests.{givenIn, askedIn, toldIn, WholeOf, IsWhole, Begun, nothing, since, thenCall, thenStray, thenBuild, begunIn, AskedAt, Asked}
@@ -291,7 +291,7 @@ module _ (es : List MemoryRangeWithNode) {w : World} {a : Seen} (k : Stands es w
   astray-answer nothing f g r m s e = none-waits _ _ e f
   astray-answer (since g d s n h) f c r m t e = f
 
-  astray-build : {u x y : World} {o : Seen} (b : Begun w a u o) → Open b → isWaiting o ≡ true → (ram : List ℕ) (i t l : ℕ) (r : Reply) (m : Built ram i t l x y r) (n : r .number ≡ 0 → ⊥) → Open (thenBuild b ram i t l r m n)
+  astray-build : {u x y : World} {o : Seen} (b : Begun w a u o) → Open b → isWaiting o ≡ true → (ram : List ℕ) (i t l : ℕ) (r : Reply) (m : Built ram i t l x y r) (n : IsRefusal r) → Open (thenBuild b ram i t l r m n)
   unfolding courseOf Meanwhile
   astray-build nothing f e ram i t l r m n = clash _ e f
   astray-build (since g d s n h) f e ram i t l r m z = (f .0, (f .1, e))

@@ -26,7 +26,7 @@ use Rattle.visibility_claims.specs.Calls.{answerOf}
 use Rattle.visibility_claims.specs.Ends.{underWay}
 use Rattle.history.specs.Seen.{wrongLength, underWayNumber, haltedNumber, Seen, isTaken, seesCall}
 use Rattle.history.specs.Call.{Writer, Visibility, Protection, Default, Register, Unregister, Lock, Unlock, Enable, Call, Write, Read, Answer, Effect, replied, givesWriter, gives, seesWriter, sees}
-use Rattle.history.specs.History.{Stray, StrayWriter, Wrong}
+use Rattle.history.specs.History.{Stray, StrayWriter, Wrong, IsRefusal}
 use Rattle.history.specs.Answered.{given}
 use Rattle.history.proofs.Bits.{clash}
 use Rattle.history.proofs.Calls.{status}
@@ -136,7 +136,7 @@ busy-no-effect a x b = barred-no-effect a x (busy-barred a x b)
 
 -- ---- a build
 
-pub build-keeps : (x y : World) (ram : List ℕ) (i t l : ℕ) (r : Reply) → given y r ≡ buildOf x ram i t l → (r .number ≡ 0 → ⊥) → y ≡ x
+pub build-keeps : (x y : World) (ram : List ℕ) (i t l : ℕ) (r : Reply) → given y r ≡ buildOf x ram i t l → IsRefusal r → y ≡ x
 unfolding buildOf buildTaken
 build-keeps x y ram i t l r e f = go (eqb n 0) e
   where

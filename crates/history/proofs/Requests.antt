@@ -13,7 +13,7 @@ use Rattle.history.specs.Seen.{Seen, unseen, asks, isWaiting}
 use Rattle.history.specs.Marks.{readOff, Settled}
 use Rattle.history.specs.Call.{Writer, Visibility, Call, Write, Read, Answer, Result, seesWriter}
 use Rattle.history.specs.Made.{Made, Built}
-use Rattle.history.specs.History.{Wrong, History, none, call, stray, refusedBuild, Event, Called, BuildRefused, eventsIn}
+use Rattle.history.specs.History.{Wrong, IsRefusal, History, none, call, stray, refusedBuild, Event, Called, BuildRefused, eventsIn}
 use Rattle.history.specs.Ends.{courseOf, Meanwhile}
 use Rattle.history.specs.Requests.{IsWhole, Begun, nothing, since, thenCall, thenStray, thenBuild, begunIn, Parts}
 use Rattle.history.proofs.Restart.{settled-lent}
@@ -45,7 +45,7 @@ unfolding eventsIn
 stray-parts l nothing e c r m s = tt
 stray-parts l (since g d s n h) e c r m t = further l (eventsIn g) (eventsIn h) (Called (Write d)) (Called c) e
 
-build-parts : {w u x y : World} {a o : Seen} (l : List Event) (b : Begun w a u o) → Parts l b → (ram : List ℕ) (i t k : ℕ) (r : Reply) (m : Built ram i t k x y r) (f : r .number ≡ 0 → ⊥)
+build-parts : {w u x y : World} {a o : Seen} (l : List Event) (b : Begun w a u o) → Parts l b → (ram : List ℕ) (i t k : ℕ) (r : Reply) (m : Built ram i t k x y r) (f : IsRefusal r)
     → Parts (l ++ (BuildRefused ram i t k ∷ [])) (thenBuild b ram i t k r m f)
 unfolding eventsIn
 build-parts l nothing e ram i t k r m f = tt

@@ -77,6 +77,8 @@ claim-from es l i t r {w} {v} {a} {o} k end free h =
       answered = answered h;
       composed = composed h;
       asked = asked-from es (k .stands) end free h;
+      long = x .whole .long;
+      lent = x .whole .fit;
       holds = record { marks = stands-marked es v o (x .stands) (x .unlisted); settled = λ e. x .ages e .ages .settled };
       tables = x .tables;
       settings = x .settings;

@@ -9,13 +9,13 @@ use Rattle.protector.specs.World.{World, world}
 use Rattle.protector.specs.Calls.{buildOf}
 use Rattle.history.specs.Call.{Call, gives}
 use Rattle.history.specs.Made.{Made, Built}
-use Rattle.history.specs.History.{Stray, StrayLock}
+use Rattle.history.specs.History.{Stray, StrayLock, IsRefusal}
 
 -- every call, of a world of any lengths; and a build that is refused, as with 9 for an isolation
 pub record Callable (w : World) : Type 0 where
   pub made : (c : Call) → Made c w (gives c w .world) (gives c w .answer)
   pub built : (ram : List ℕ) (isolation tracked release : ℕ) → let X = buildOf w ram isolation tracked release in Built ram isolation tracked release w (X .world) (X .reply)
-  pub refused : (ram : List ℕ) (isolation tracked release : ℕ) → fitIsolation isolation ≡ false → buildOf w ram isolation tracked release .reply .number ≡ 0 → ⊥
+  pub refused : (ram : List ℕ) (isolation tracked release : ℕ) → fitIsolation isolation ≡ false → IsRefusal (buildOf w ram isolation tracked release .reply)
 
 -- something of another length: no state block at all; or, beside the state block as it was left, no pages run, or no tables
 pub record Strays (u : World) : Type 0 where

@@ -1,13 +1,15 @@
 -- The claim of a list of calls.
 use mathlib.Core.Path.{_≡_}
+use mathlib.Core.Bool.{true}
 use mathlib.Core.List.{List}
 use Prim.Native.Nat.{ℕ}
+use lib.ListN.{length}
 use Rattle.layout.specs.declared.MemoryRangeWithNode.{MemoryRangeWithNode}
 use Rattle.layout.specs.Layout.{entriesOf}
 use Rattle.permissions.specs.Flags.{isolationOf}
 use Rattle.protector_state.specs.declared.Reply.{Reply}
-use Rattle.protector_state.specs.State.{settingsOf}
-use Rattle.protector.specs.World.{World}
+use Rattle.protector_state.specs.State.{stateLen, settingsOf}
+use Rattle.protector.specs.World.{World, fits}
 use Rattle.protector.specs.Calls.{buildOf}
 use Rattle.history.specs.Seen.{Seen, unseen}
 use Rattle.history.specs.Marks.{Holds}
@@ -29,7 +31,10 @@ pub record ClaimFrom (es : List MemoryRangeWithNode) (isolation tracked release 
   pub composed : v ≡ leaves h
   -- each that asked for something has asked, answered and left what the whole call as 01 writes it does, under the answers taken so far
   pub asked : Asked h
-  -- where the list stops: the marks are what the hypervisor last took; the tables are tables; the settings fit; no permission is of a page outside RAM
+  -- where the list stops: all that is lent has its length; the marks are what the hypervisor last took; the tables are tables; the settings fit; no permission is of a
+  -- page outside RAM
+  pub long : length (v .state) ≡ stateLen
+  pub lent : fits v ≡ true
   pub holds : Holds es (isolationOf isolation) (v .maps) o
   pub tables : TablesFit es v
   pub settings : SettingsFit isolation tracked release (v .state)

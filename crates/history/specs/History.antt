@@ -1,4 +1,4 @@
--- Lists of calls of the protector's entries, each given what the call before left, and what is seen of them.
+-- Lists of calls of the protector's entries, and what is seen of them.
 use mathlib.Core.Path.{_≡_}
 use mathlib.Core.Bool.{false}
 use mathlib.Core.List.{List, [], _∷_, _++_}
@@ -39,15 +39,21 @@ Wrong (Write a) u x = StrayWriter a u x
 Wrong (Read q) u x = Unit {0}
 Wrong (Answer g) u x = Stray u x
 
+-- a reply that refuses
+abbrev pub IsRefusal : Reply → Type 0
+IsRefusal r = r .number ≡ 0 → ⊥
+
 -- ---- lists of calls from the world w, where a was seen before them: the world that they leave, and what is seen then
 
 pub data History (w : World) (a : Seen) : World → Seen → Type 0 where
   none : History w a w a
+  -- each call is lent what the one before left, u
   call : {u v : World} {o : Seen} → History w a u o → (c : Call) (r : Result c) → Made c u v r → History w a v (sees c r (v .pages) o)
+  -- or something of another length, x, for itself alone: the next is lent u again
   stray : {u x y : World} {o : Seen} → History w a u o → (c : Call) (r : Result c) → Made c x y r → Wrong c u x → History w a u (sees c r (y .pages) o)
-  -- a build that is refused may be lent anything, what was last left (u) too; one that is taken is no step of a list: it begins another
+  -- a build that is refused may be lent anything, u too; one that is taken is no step of a list: it begins another
   refusedBuild : {u x y : World} {o : Seen} → History w a u o → (ram : List ℕ) (isolation tracked release : ℕ) (r : Reply) → Built ram isolation tracked release x y r
-      → (r .number ≡ 0 → ⊥) → History w a u o
+      → IsRefusal r → History w a u o
 
 -- what was called, in turn
 pub data Event : Type 0 where

@@ -19,7 +19,7 @@ use Rattle.change_claims.specs.Calls.{protectionWhole, defaultWhole, registerWh
 use Rattle.history.specs.Seen.{Seen, asks, isWaiting}
 use Rattle.history.specs.Call.{Writer, Visibility, Protection, Default, Register, Unregister, Lock, Unlock, Enable, Call, Write, Read, Answer, Result, seesWriter, sees}
 use Rattle.history.specs.Made.{Made, Built}
-use Rattle.history.specs.History.{Wrong, History, none, call, stray, refusedBuild, Event, Called, eventsIn}
+use Rattle.history.specs.History.{Wrong, IsRefusal, History, none, call, stray, refusedBuild, Event, Called, eventsIn}
 use Rattle.history.specs.Answered.{given}
 use Rattle.history.specs.Ends.{Course, start, answer, other, courseOf}
 
@@ -77,7 +77,7 @@ thenStray nothing c r m s = nothing
 thenStray (since g d s n h) c r m t = since g d s n (stray h c r m t)
 
 abbrev pub thenBuild : {w u x y : World} {a o : Seen} → Begun w a u o → (ram : List ℕ) (isolation tracked release : ℕ) (r : Reply) → Built ram isolation tracked release x y r
-    → (r .number ≡ 0 → ⊥) → Begun w a u o
+    → IsRefusal r → Begun w a u o
 thenBuild nothing ram isolation tracked release r m f = nothing
 thenBuild (since g d s n h) ram isolation tracked release r m f = since g d s n (refusedBuild h ram isolation tracked release r m f)
 
