@@ -1,4 +1,4 @@
--- A build that is taken leaves a world that is settled; so THE CLAIM holds of every list of calls from it, wherever it stops. Assumes nothing.
+-- A build that is taken leaves a world at rest; so THE CLAIM holds of every list of calls from it, wherever it stops. Assumes nothing.
 use Prim.Native.Nat.{ℕ, _-_, _*_, _/_, _<_, _≤_}
 use mathlib.Core.Path.{_≡_, refl, sym, ap, _∙_, subst, fun-ext}
 use mathlib.Core.List.{List, []}

@@ -27,13 +27,9 @@ use Rattle.history.proofs.Wholes.{visibility-long, answer-long, protect
 use Rattle.history.proofs.Calls.{visibility-stands, tables-stand, set-stands}
 use Rattle.history.proofs.Aging.{Snp, answer-aged, tables-aged, set-aged, protection-aged, default-aged, unregister-aged, register-aged, visibility-aged}
 use Rattle.history.proofs.Others.{protection-stands, default-stands, unregister-stands, register-stands}
-use Rattle.history.proofs.Frame.{Framed, frame}
+use Rattle.history.proofs.Frame.{Framed, After, frame}
 
 -- ---- what every call keeps, every list of calls keeps
-
--- K of what a call leaves and of what is seen then
-abbrev pub After : (World → Seen → Type 0) → Call → World → Seen → Type 0
-After K c w o = K (gives c w .world) (sees c (gives c w .answer) (gives c w .world .pages) o)
 
 pub record Keeps (K : World → Seen → Type 0) : Type 0 where
   pub halts : (w : World) (o : Seen) → K w o → o .halted ≡ eqb (statusIn (w .state)) haltedNumber
@@ -79,13 +75,13 @@ module _ (es : List MemoryRangeWithNode) (w : World) (o : Seen) (k : Stands es w
   stands-writer (Default vtl flags) = default-stands es w o k vtl flags
   stands-writer (Register vtl page source checked new) = register-stands es w o k vtl page source checked new
   stands-writer (Unregister vtl page) = unregister-stands es w o k vtl page
-  stands-writer (Lock vtl list) = frame (stands-framed es) (Lock vtl list) refl w o k
-  stands-writer (Unlock vtl list) = frame (stands-framed es) (Unlock vtl list) refl w o k
-  stands-writer Enable = frame (stands-framed es) Enable refl w o k
+  stands-writer (Lock vtl list) = frame (stands-framed es) (Write (Lock vtl list)) refl w o k
+  stands-writer (Unlock vtl list) = frame (stands-framed es) (Write (Unlock vtl list)) refl w o k
+  stands-writer Enable = frame (stands-framed es) (Write Enable) refl w o k
 
   stands-step : (c : Call) → After (Stands es) c w o
   stands-step (Write a) = stands-writer a
-  stands-step (Read q) = k
+  stands-step (Read q) = frame (stands-framed es) (Read q) refl w o k
   stands-step (Answer g) = answer-stands es w o k g
 
 pub stands-kept : (es : List MemoryRangeWithNode) → Keeps (Stands es)
@@ -103,13 +99,13 @@ module _ (es : List MemoryRangeWithNode) (w : World) (o : Seen) (k : Stands es w
   aged-writer (Default vtl flags) = default-aged es w o k n vtl flags
   aged-writer (Register vtl page source checked new) = register-aged es w o k n vtl page source checked new
   aged-writer (Unregister vtl page) = unregister-aged es w o k n vtl page
-  aged-writer (Lock vtl list) = frame snp-framed (Lock vtl list) refl w o n
-  aged-writer (Unlock vtl list) = frame snp-framed (Unlock vtl list) refl w o n
-  aged-writer Enable = frame snp-framed Enable refl w o n
+  aged-writer (Lock vtl list) = frame snp-framed (Write (Lock vtl list)) refl w o n
+  aged-writer (Unlock vtl list) = frame snp-framed (Write (Unlock vtl list)) refl w o n
+  aged-writer Enable = frame snp-framed (Write Enable) refl w o n
 
   aged-step : (c : Call) → After Snp c w o
   aged-step (Write a) = aged-writer a
-  aged-step (Read q) = n
+  aged-step (Read q) = frame snp-framed (Read q) refl w o n
   aged-step (Answer g) = answer-aged es w o k n g
 
 abbrev pub SnpAges : IsolationType → World → Seen → Type 0
@@ -133,13 +129,13 @@ module _ (w : World) (o : Seen) (k : Whole w) where
   long-writer (Default vtl flags) = default-long w k vtl flags
   long-writer (Register vtl page source checked new) = register-long w k vtl page source checked new
   long-writer (Unregister vtl page) = unregister-long w k vtl page
-  long-writer (Lock vtl list) = frame lengths-framed (Lock vtl list) refl w o k
-  long-writer (Unlock vtl list) = frame lengths-framed (Unlock vtl list) refl w o k
-  long-writer Enable = frame lengths-framed Enable refl w o k
+  long-writer (Lock vtl list) = frame lengths-framed (Write (Lock vtl list)) refl w o k
+  long-writer (Unlock vtl list) = frame lengths-framed (Write (Unlock vtl list)) refl w o k
+  long-writer Enable = frame lengths-framed (Write Enable) refl w o k
 
   long-step : (c : Call) → Whole (gives c w .world)
   long-step (Write a) = long-writer a
-  long-step (Read q) = k
+  long-step (Read q) = frame lengths-framed (Read q) refl w o k
   long-step (Answer g) = answer-long w k g
 
 pub lengths-kept : (P : World → Seen → Type 0) → KeepsWith P Lengths

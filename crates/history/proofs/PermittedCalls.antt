@@ -313,13 +313,13 @@ module _ (es : List MemoryRangeWithNode) where
         (λ _. default-permits (stored w (vtlOf vtl) flags) (k .first .right .private-ram) (stored-permits w (vtlOf vtl) flags p) (vtlOf vtl) flags)
     permits-writer (Register vtl page source checked new) = register-permits vtl page source checked new
     permits-writer (Unregister vtl page) = unregister-permits vtl page
-    permits-writer (Lock vtl list) = frame permits-framed (Lock vtl list) refl w o p
-    permits-writer (Unlock vtl list) = frame permits-framed (Unlock vtl list) refl w o p
-    permits-writer Enable = frame permits-framed Enable refl w o p
+    permits-writer (Lock vtl list) = frame permits-framed (Write (Lock vtl list)) refl w o p
+    permits-writer (Unlock vtl list) = frame permits-framed (Write (Unlock vtl list)) refl w o p
+    permits-writer Enable = frame permits-framed (Write Enable) refl w o p
 
     permits-step : (c : Call) → Permitted es (gives c w .world)
     permits-step (Write a) = permits-writer a
-    permits-step (Read q) = p
+    permits-step (Read q) = frame permits-framed (Read q) refl w o p
     permits-step (Answer g) = answer-permits g
 
 pub permissions-kept : (es : List MemoryRangeWithNode) → KeepsWith (Both (Stands es) (InWorld (TablesFit es))) (InWorld (Permitted es))

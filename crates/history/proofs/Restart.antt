@@ -1,5 +1,4 @@
--- A list of calls may begin at any world where nothing is under way and each RAM page has one mark: THE CLAIM holds of it, what was last taken there being
--- read off the marks. Assumes nothing.
+-- A list of calls may begin at any world at rest: THE CLAIM holds of it, what was last taken there being read off the marks. Assumes nothing.
 use native.Mathlib.Omega.{arith}
 use Prim.Native.Nat.{ℕ, _/_, _^_, _≤_, _<_}
 use mathlib.Core.Path.{_≡_, refl, sym, ap, _∙_}

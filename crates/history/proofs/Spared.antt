@@ -7,7 +7,6 @@ use lib.Dec.{eqb, ltb}
 use Rattle.permissions.specs.declared.GuestVtl.{GuestVtl}
 use Rattle.permissions.specs.Flags.{vtlOf, boolOf, bitsOf}
 use Rattle.overlays.specs.Overlays.{isOverlay}
-use Rattle.changes.specs.declared.Entry.{Entry}
 use Rattle.changes.specs.declared.Change.{Change}
 use Rattle.changes.specs.declared.ChangeStep.{ChangeStep}
 use Rattle.changes.specs.Changes.{protect, startNew, startOld}

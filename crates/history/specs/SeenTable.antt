@@ -67,11 +67,11 @@ returned = seesAnswer (Fails 77 1) (onRun acceptOperation (run 9 1)) two returni
 abbrev pub validated : Seen
 validated = seesAnswer Succeeds (onRun zeroOperation (run 9 1)) two returned
 
-abbrev pub zeroed : Seen
-zeroed = seesAnswer Succeeds (protects Snp Vtl0 allFlags (run 9 1)) two validated
+abbrev pub cleared : Seen
+cleared = seesAnswer Succeeds (protects Snp Vtl0 allFlags (run 9 1)) two validated
 
 abbrev pub ended : Seen
-ended = seesAnswer Succeeds (finished 16 77 1 6) two zeroed
+ended = seesAnswer Succeeds (finished 16 77 1 6) two cleared
 
 -- Zero asked for and done before Accept
 abbrev pub unordered : Seen
@@ -111,9 +111,9 @@ pub record SeenTable : Type 0 where
   pub returned-unsettled : isSettled (returned .age 9) ≡ false
   pub validated-age : validated .age 9 ≡ Validated
   pub validated-unsettled : isSettled (validated .age 9) ≡ false
-  pub zeroed-age : zeroed .age 9 ≡ Zeroed
-  pub zeroed-settled : isSettled (zeroed .age 9) ≡ true
-  pub zeroed-other : zeroed .age 10 ≡ Never
+  pub cleared-age : cleared .age 9 ≡ Zeroed
+  pub cleared-settled : isSettled (cleared .age 9) ≡ true
+  pub cleared-other : cleared .age 10 ≡ Never
   pub ended-listed : among (ended .listed) 10 ≡ false
   pub ended-waits : isWaiting ended ≡ false
   -- a Zero before its Accept settles nothing
