@@ -1,12 +1,17 @@
 -- What is seen of P2 and P3, reply by reply, computed. Assumes nothing.
-use mathlib.Core.Path.{refl}
+use mathlib.Core.Path.{refl, ap}
+use mathlib.Core.List.{map}
+use Rattle.permissions.specs.declared.IsolationType.the-variants.{Snp}
 use Rattle.pages.specs.Pages.{among}
+use Rattle.protector_state.specs.Reply.{askedOf}
+use Rattle.visibility_claims.specs.Table.{visibility}
 use Rattle.history.specs.SeenTable.{done, SeenTable}
 
 pub seen-table : SeenTable
-unfolding among done
+unfolding among askedOf done
 seen-table =
     record {
+      sharing-asks = ap (map (askedOf Snp)) (visibility .P2-asked);
       sharing-waits = refl;
       sharing-last = refl;
       sharing-listed = refl;

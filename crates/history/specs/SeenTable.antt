@@ -3,7 +3,7 @@
 use Prim.Native.Nat.{ℕ}
 use mathlib.Core.Path.{_≡_}
 use mathlib.Core.Bool.{true, false}
-use mathlib.Core.List.{List, [], _∷_}
+use mathlib.Core.List.{List, [], _∷_, map}
 use Rattle.permissions.specs.declared.GuestVtl.the-variants.{Vtl0, Vtl1}
 use Rattle.permissions.specs.declared.IsolationType.the-variants.{Snp}
 use Rattle.permissions.specs.Flags.{noFlags, allFlags}
@@ -11,8 +11,9 @@ use Rattle.pages.specs.declared.PageRun.{PageRun}
 use Rattle.pages.specs.Pages.{among}
 use Rattle.pages.specs.Runs.{run}
 use Rattle.protector_state.specs.declared.Reply.{Reply}
-use Rattle.protector_state.specs.Reply.{finished, plain, modifies, onRun, protects}
+use Rattle.protector_state.specs.Reply.{finished, plain, modifies, onRun, protects, askedOf}
 use Rattle.visibility_claims.specs.Whole.{Succeeds, Fails}
+use Rattle.visibility_claims.specs.Table.{P2}
 use Rattle.history.specs.Seen.{acceptOperation, zeroOperation, wrongLength, haltedNumber, nothingAsked, Seen, unseen, Private, Shared, Never, Returned, Validated, Zeroed, isWaiting, isTaken, seesCall, seesAnswer}
 use Rattle.history.specs.Marks.{isSettled}
 
@@ -47,10 +48,12 @@ abbrev one : List ℕ
 one = 9 ∷ []
 
 -- P2, until Modify is asked for, and to its end
+abbrev sharingReplies : List Reply
+sharingReplies =
+    flushes ∷ none0 (run 3 1) ∷ none1 (run 3 1) ∷ invalidates (run 3 1) ∷ none0 (run 9 2) ∷ none1 (run 9 2) ∷ invalidates (run 9 2) ∷ modifies true 3 ∷ []
+
 abbrev pub sharing : Seen
-sharing =
-    done three (flushes ∷ none0 (run 3 1) ∷ none1 (run 3 1) ∷ invalidates (run 3 1) ∷ none0 (run 9 2) ∷ none1 (run 9 2) ∷ invalidates (run 9 2) ∷ modifies true 3 ∷ [])
-    (seesCall three waits three unseen)
+sharing = done three sharingReplies (seesCall three waits three unseen)
 
 abbrev pub shared : Seen
 shared = seesAnswer Succeeds (finished 0 0 0 9) three sharing
@@ -89,6 +92,8 @@ abbrev pub late : Seen
 late = seesAnswer Succeeds (finished haltedNumber 0 0 0) three halted
 
 pub record SeenTable : Type 0 where
+  -- these are what the whole call asks for
+  pub sharing-asks : map (askedOf Snp) (P2 .asked) ≡ waits ∷ sharingReplies
   -- until Modify is answered nothing is taken, and the pages are listed
   pub sharing-waits : isWaiting sharing ≡ true
   pub sharing-last : sharing .last 9 ≡ Private
