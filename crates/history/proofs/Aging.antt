@@ -8,14 +8,11 @@ use lib.ListN.{length, getD, take, drop, set, length-take}
 use lib.Seq.{getD-drop, getD-set-other}
 use lib.Dec.{eqb, ltb}
 use borrow.Author.Tests.{eqb-true}
-use Rattle.laws.specs.Bools.{false≢true, and-left, and-right}
+use Rattle.laws.specs.Bools.{false≢true}
 use Rattle.layout.specs.declared.MemoryRangeWithNode.{MemoryRangeWithNode}
-use Rattle.layout.specs.Layout.{mapLen}
 use Rattle.permissions.specs.declared.GuestVtl.{GuestVtl}
 use Rattle.permissions.specs.declared.GuestVtl.the-variants.{Vtl0, Vtl1}
 use Rattle.permissions.specs.Flags.{vtlOf, vtlNumber, isolationOf, boolOf, bitsOf}
-use Rattle.permissions.specs.HvError.{codeOf}
-use Rattle.mapping.specs.Maps.{marksFit, permissionLen, permissionsFit}
 use Rattle.pages.specs.Pages.{pagesOf}
 use Rattle.overlays.specs.Overlays.{isOverlay}
 use Rattle.request.specs.Request.{wanted, put}
@@ -30,20 +27,20 @@ use Rattle.acceptor.specs.Steps.{isSnp, runOf, asked, cleared, startOf}
 use Rattle.changes.specs.declared.ChangeStep.{ChangeStep}
 use Rattle.changes.specs.Changes.{startNew, startOld}
 use Rattle.protector_state.specs.declared.Reply.{Reply}
-use Rattle.protector_state.specs.State.{phaseIn, requestOf, withRequest, settingsOf, entriesIn}
-use Rattle.protector_state.specs.Reply.{modifies, onRun, finished, flatOf, askedOf}
+use Rattle.protector_state.specs.State.{phaseIn, requestOf, withRequest, settingsOf}
+use Rattle.protector_state.specs.Reply.{modifies, onRun, flatOf, askedOf}
 use Rattle.change_state.specs.State.{stageIn, isChanging, changeIn}
 use Rattle.protector.specs.World.{World, world, Outcome, overlaysOf, fits, applied}
 use Rattle.protector.specs.Calls.{refusedBy, carriedOut, carriedChange, visibilityRefusal, stopOf, askedFor, tableFor, visibilityTaken, visibilityOf, afterDone, afterFailed, visibilityDone, visibilityFailed, changeDone, changeFailed, answerDone, answerFailed}
 use Rattle.vtl_protections.specs.Calls.{defaultRefusal, storedDefault, stored, barred, renewedTables, renewedIn, defaultStep, defaultStarted, defaultTaken, defaultOf, protectionRefusal, allListed, protectionStep, protectionTaken, protectionOf}
 use Rattle.overlay_tests.specs.Refusals.{unregisterRefusal, registerRefusal}
 use Rattle.overlay_pages.specs.Calls.{entryIn, counting, unregisterTaken, unregisterOf, currentIn, registerTaken, registerOf}
-use Rattle.vtl1_protections.specs.Calls.{enableRefusal, enabled, enableOf}
 use Rattle.visibility_claims.specs.Whole.{Given, Succeeds, Fails}
 use Rattle.visibility_claims.specs.Calls.{answerOf}
 use Rattle.visibility_claims.proofs.Calls.{phase-read, request-read, few-done, few-failed}
 use Rattle.history.specs.Seen.{Seen, Age, asks, ageAfter, seesTaken, seesAnswer, seesCall}
 use Rattle.history.specs.Marks.{isSettled}
+use Rattle.history.proofs.Fits.{pages-long}
 use Rattle.history.proofs.Bits.{Has, clash, clear-kept}
 use Rattle.history.proofs.Right.{opened, isQuiet, Names, Fits}
 use Rattle.history.proofs.Steps.{done-fits, failed-fits}
@@ -224,7 +221,7 @@ module _ (es : List MemoryRangeWithNode) (w : World) (o : Seen) (k : Stands es w
 
 -- ---- every call
 
-module _ (es : List MemoryRangeWithNode) (w : World) (o : Seen) (k : Stands es w o) (a : Snp w o) where
+module _ (w : World) (o : Seen) (a : Snp w o) where
   pub tables-aged : (tables : List ℕ) → Snp (world (w .maps) (w .state) (w .pages) tables) o
   tables-aged tables = record { snp = a .snp; ages = a .ages }
 
@@ -235,6 +232,7 @@ module _ (es : List MemoryRangeWithNode) (w : World) (o : Seen) (k : Stands es w
       rw (word 1 (omega arith), word 2 (omega arith), word 3 (omega arith), word 4 (omega arith), word 5 (omega arith), word 6 (omega arith), word 7 (omega arith), word 8 (omega arith), word 9 (omega arith)) in
       record { snp = ap isSnp (set-snp (w .state) i x l) ∙ a .snp; ages = rw (word 0 (omega arith), b) (a .ages) }
 
+module _ (es : List MemoryRangeWithNode) (w : World) (o : Seen) (k : Stands es w o) (a : Snp w o) where
   -- whatever the reply, a call moves no age
   call-ages : (ps : List ℕ) (r : Reply) (t : List ℕ) (z : ℕ) → seesCall ps r t o .age z ≡ o .age z
   call-ages ps r t z = go (asks r)
@@ -272,7 +270,7 @@ module _ (es : List MemoryRangeWithNode) (w : World) (o : Seen) (k : Stands es w
         S = defaultStarted (renewedIn (stored w v flags) v flags) v flags
 
         go : (b : Bool) → let T = cond b (refusedBy (stored w v flags) 10) S in Snp (T .world) (seesCall [] (T .reply) (T .world .pages) o)
-        go true = set-aged (20 + vtlNumber v) flags (place v)
+        go true = set-aged w o a (20 + vtlNumber v) flags (place v)
         go false =
             let tables : List ℕ = renewedTables (w .maps .private) s′ (w .tables) v flags in
             starts s′ tables (w .pages) (defaultStep (w .maps .private) s′ tables v flags) (set-snp (w .state) (20 + vtlNumber v) flags (place v))
@@ -300,7 +298,7 @@ module _ (es : List MemoryRangeWithNode) (w : World) (o : Seen) (k : Stands es w
       B = carriedChange w (w .pages) x
 
       go : (b : Bool) → Snp (cond b A B .world) (seesCall [] (cond b A B .reply) (cond b A B .world .pages) o)
-      go true = tables-aged (A .world .tables)
+      go true = tables-aged w o a (A .world .tables)
       go false = starts (w .state) (w .tables) (w .pages) x refl
 
   pub register-aged : (vtl p source checked new : ℕ) → let X = registerOf w vtl p source checked new in Snp (X .world) (seesCall [] (X .reply) (X .world .pages) o)
@@ -322,16 +320,8 @@ module _ (es : List MemoryRangeWithNode) (w : World) (o : Seen) (k : Stands es w
       B = carriedChange w (w .pages) x
 
       go : (b : Bool) → Snp (cond b A B .world) (seesCall [] (cond b A B .reply) (cond b A B .world .pages) o)
-      go true = tables-aged (A .world .tables)
+      go true = tables-aged w o a (A .world .tables)
       go false = starts (w .state) (w .tables) (w .pages) x refl
-
-  pub enable-aged : Snp (world (w .maps) (enableOf (w .state) .state) (w .pages) (w .tables)) o
-  unfolding enableOf
-  enable-aged = go (eqb (enableRefusal (w .state)) 0)
-    where
-      go : (b : Bool) → Snp (world (w .maps) (cond b (enabled (set (w .state) 19 1) (finished 0 0 0 0)) (enabled (w .state) (finished (enableRefusal (w .state)) (codeOf (enableRefusal (w .state))) 0 0)) .state) (w .pages) (w .tables)) o
-      go true = set-aged 19 1 (omega arith)
-      go false = a
 
   -- a visibility change that is taken
   module _ (v : GuestVtl) (b : Bool) (l : List ℕ) (x : Taken w v b l) where
@@ -341,11 +331,8 @@ module _ (es : List MemoryRangeWithNode) (w : World) (o : Seen) (k : Stands es w
     abbrev n : ℕ
     n = length (askedFor w v b l)
 
-    pages-long : length (w .pages) ≡ 1024
-    pages-long = eqb-true _ _ (and-left _ _ (and-right (marksFit (mapLen (entriesIn (w .state))) (length (w .maps .private)) (length (w .maps .shared)) && permissionsFit (permissionLen (mapLen (entriesIn (w .state))) (settingsOf (w .state) .tracked)) (length (w .maps .permissions .read)) (length (w .maps .permissions .write)) (length (w .maps .permissions .kernel)) (length (w .maps .permissions .user))) _ (x .fit)))
-
     table-long : length t ≡ 1024
-    table-long = length-table (wanted (w .maps .shared) b) (take (stopOf w v b l) (pagesOf l)) (w .pages) pages-long (omega (arith, length-take (stopOf w v b l) (pagesOf l), pages-few l (x .short)))
+    table-long = length-table (wanted (w .maps .shared) b) (take (stopOf w v b l) (pagesOf l)) (w .pages) (pages-long w (x .fit)) (omega (arith, length-take (stopOf w v b l) (pagesOf l), pages-few l (x .short)))
 
     few-asked : n ≤ 512
     few-asked = few es w o k v b l x

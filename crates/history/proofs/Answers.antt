@@ -33,7 +33,7 @@ use Rattle.protector.specs.Calls.{refusedBy, decided, carriedOut, carriedChange
 use Rattle.visibility_claims.specs.Whole.{Given, Succeeds, Fails}
 use Rattle.visibility_claims.specs.Calls.{answerOf, takenBy}
 use Rattle.visibility_claims.proofs.Calls.{few-done, few-failed}
-use Rattle.history.specs.Seen.{Seen, asks, lastAfter, isTaken, goesOn, seesTaken, seesAnswer}
+use Rattle.history.specs.Seen.{wrongLength, haltedNumber, nothingAsked, Seen, asks, lastAfter, isTaken, goesOn, seesTaken, seesAnswer}
 use Rattle.history.proofs.Took.{isShared, sharedIn}
 use Rattle.history.proofs.Right.{opened, isHalted, isQuiet, Right, Fits, Moves, made-right}
 use Rattle.history.proofs.Steps.{after, done-fits, failed-fits, done-moves, failed-moves}
@@ -42,9 +42,9 @@ use Rattle.history.proofs.World.{Stands, settled, right-same, quiet-las
 -- ---- what a step of another change tells: nothing that Modify, Accept or Zero would
 
 pub record Told (i : IsolationType) (x : ChangeStep) : Type 0 where
-  pub not4 : eqb (flatOf i (x .answer) .number) 4 ≡ false
-  pub not21 : eqb (flatOf i (x .answer) .number) 21 ≡ false
-  pub halts : eqb (flatOf i (x .answer) .number) 20 ≡ stops (x .stage)
+  pub not4 : eqb (flatOf i (x .answer) .number) wrongLength ≡ false
+  pub not21 : eqb (flatOf i (x .answer) .number) nothingAsked ≡ false
+  pub halts : eqb (flatOf i (x .answer) .number) haltedNumber ≡ stops (x .stage)
   pub waits : asks (flatOf i (x .answer)) ≡ goes (x .stage)
   pub quiet : isQuiet (flatOf i (x .answer)) ≡ true
 
@@ -110,10 +110,10 @@ module _ (i : IsolationType) where
 -- ---- the refusals of an answer: a: the state block is whole, h: halted, c: what is lent fits, d: an answer is waited for
 
 abbrev pub chain : Bool → Bool → Bool → Bool → ℕ
-chain a h c d = unless a 4 (unless (not h) 20 (unless c 4 (unless d 21 0)))
+chain a h c d = unless a wrongLength (unless (not h) haltedNumber (unless c wrongLength (unless d nothingAsked 0)))
 
 abbrev pub counts : Bool → ℕ → Bool
-counts h n = not h && (not (eqb n 4) && not (eqb n 21))
+counts h n = not h && (not (eqb n wrongLength) && not (eqb n nothingAsked))
 
 pub chain-untaken : (a h c d : Bool) → eqb (chain a h c d) 0 ≡ false → counts h (chain a h c d) ≡ false
 chain-untaken false true c d e = refl
@@ -132,18 +132,18 @@ chain-taken true false true true e = (refl, refl)
 
 -- a taken answer that leads to T, which keeps K
 pub record Leads (K : World → Seen → Type 0) (o : Seen) (g : Given) (T : Outcome) : Type 0 where
-  pub not4 : eqb (T .reply .number) 4 ≡ false
-  pub not21 : eqb (T .reply .number) 21 ≡ false
+  pub not4 : eqb (T .reply .number) wrongLength ≡ false
+  pub not21 : eqb (T .reply .number) nothingAsked ≡ false
   pub stands : K (T .world) (seesTaken g (T .reply) (T .world .pages) o)
 
-module _ (K : World → Seen → Type 0) (w : World) (o : Seen) (halts : o .halted ≡ eqb (statusIn (w .state)) 20) (k : K w o) where
+module _ (K : World → Seen → Type 0) (w : World) (o : Seen) (halts : o .halted ≡ eqb (statusIn (w .state)) haltedNumber) (k : K w o) where
   pub answered : (g : Given) (failed : Bool) (T : Outcome) → (o .halted ≡ false → takesIn (w .state) failed ≡ true → Leads K o g T)
       → let X = decided w (answerRefusal (w .state) (fits w) failed) T in K (X .world) (seesAnswer g (X .reply) (X .world .pages) o)
   unfolding answerRefusal
   answered g failed T f = go (eqb n 0) refl
     where
       h : Bool
-      h = eqb (statusIn (w .state)) 20
+      h = eqb (statusIn (w .state)) haltedNumber
 
       n : ℕ
       n = chain (eqb (length (w .state)) stateLen) h (fits w) (takesIn (w .state) failed)
@@ -166,7 +166,7 @@ module _ (K : World → Seen → Type 0) (w : World) (o : Seen) (halts : o .halt
   told g failed T f = go (eqb n 0) refl
     where
       h : Bool
-      h = eqb (statusIn (w .state)) 20
+      h = eqb (statusIn (w .state)) haltedNumber
 
       n : ℕ
       n = chain (eqb (length (w .state)) stateLen) h (fits w) (takesIn (w .state) failed)

@@ -28,7 +28,7 @@ use Rattle.change_state.specs.State.{isChanging}
 use Rattle.protector.specs.World.{World, world, Outcome, overlaysOf, locksOf, fits, statusIn, applied}
 use Rattle.protector.specs.Calls.{refusedBy, decided, carriedOut, carriedChange, pageRefusal, firstRefusal, visibilityRefusal, stopOf, askedFor, tableFor, visibilityTaken, visibilityOf}
 use Rattle.visibility_claims.proofs.Calls.{modify-pages}
-use Rattle.history.specs.Seen.{Seen, asks, seesCall}
+use Rattle.history.specs.Seen.{underWayNumber, haltedNumber, Seen, asks, seesCall}
 use Rattle.history.proofs.Took.{sharedIn}
 use Rattle.history.proofs.Bits.{among-own}
 use Rattle.history.proofs.Right.{opened, Right}
@@ -43,7 +43,7 @@ status n rest h = go (eqb n 0) refl h
     go true e h = (eqb-true n 0 e, h)
     go false e h = absurd (eqb-false n 0 e h)
 
-not-true : (b : Bool) → not b ≡ true → b ≡ false
+pub not-true : (b : Bool) → not b ≡ true → b ≡ false
 not-true true h = false≢true h
 not-true false h = refl
 
@@ -97,7 +97,7 @@ module _ (es : List MemoryRangeWithNode) (w : World) (o : Seen) (k : Stands es w
     shut = idle-shut (isChanging (w .state)) (phaseIn (w .state)) idle
 
     free : o .halted ≡ false
-    free = k .halts ∙ ap (λ (n : ℕ). eqb n 20) idle
+    free = k .halts ∙ ap (λ (n : ℕ). eqb n haltedNumber) idle
 
     settled-right : Right (isRam es) (w .maps .private) (w .maps .shared) (phaseIn (w .state)) (requestOf (w .state)) (w .pages) false (o .listed) (sharedIn o)
     settled-right = subst (λ (h : Bool). Right (isRam es) (w .maps .private) (w .maps .shared) (phaseIn (w .state)) (requestOf (w .state)) (w .pages) h (o .listed) (sharedIn o)) free (k .right)
@@ -124,7 +124,7 @@ module _ (es : List MemoryRangeWithNode) (w : World) (o : Seen) (k : Stands es w
         go false d =
             stands-change es (T .world .maps) s t (T .world .tables) o (x .stage) (x .change) (e ∙ k .layout)
             (λ p q h. settled (sharedIn o) p q t (o .listed) (o .halted) shut h (λ z. refl) settled-right) (free ∙ sym on)
-            (k .waits ∙ ap (λ (n : ℕ). eqb n 19) idle ∙ sym d ∙ told .waits) (quiet-names (phaseIn (w .state)) (requestOf (w .state)) (w .pages) (o .op) shut (k .names))
+            (k .waits ∙ ap (λ (n : ℕ). eqb n underWayNumber) idle ∙ sym d ∙ told .waits) (quiet-names (phaseIn (w .state)) (requestOf (w .state)) (w .pages) (o .op) shut (k .names))
 
 -- ---- a visibility change
 

@@ -1,7 +1,7 @@
--- A build that is taken leaves a world that is settled; so THE CLAIM holds of every list of calls from it, wherever it stops. Assumes nothing.
+-- A build that is taken leaves a world at rest; so THE CLAIM holds of every list of calls from it, wherever it stops. Assumes nothing.
 use Prim.Native.Nat.{ℕ, _-_, _*_, _/_, _<_, _≤_}
 use mathlib.Core.Path.{_≡_, refl, sym, ap, _∙_, subst, fun-ext}
-use mathlib.Core.List.{List}
+use mathlib.Core.List.{List, []}
 use mathlib.Core.Bool.{Bool, true, false, cond, _&&_}
 use native.Mathlib.Omega.{arith}
 use lib.ListN.{length, replicate, length-replicate, length-append}
@@ -15,19 +15,28 @@ use Rattle.bitmap.proofs.Map.{length-written}
 use Rattle.layout.specs.declared.MemoryRangeWithNode.{MemoryRangeWithNode}
 use Rattle.layout.specs.Layout.{entriesOf, refusalOf, isRam, mapLen}
 use Rattle.layout.proofs.Laws.{Fit, fit, entries-count, page-in-map}
-use Rattle.permissions.specs.declared.IsolationType.{IsolationType}
-use Rattle.permissions.specs.Flags.{fitIsolation, isolationOf, fitBool, boolOf}
-use Rattle.mapping.specs.Maps.{fresh, marksFit, permissionLen, permissionsFit}
+use Rattle.permissions.specs.declared.GuestVtl.{GuestVtl}
+use Rattle.permissions.specs.declared.GuestVtl.the-variants.{Vtl0, Vtl1}
+use Rattle.permissions.specs.Flags.{fitIsolation, fitBool, boolOf}
+use Rattle.mapping.specs.Maps.{Permissions, fresh, marksFit, permissionLen, permissionsFit}
 use Rattle.mapping.proofs.Marks.{fresh-page}
+use Rattle.overlays.specs.Overlays as overlays
+use Rattle.overlays.specs.Overlays.{flat}
+use Rattle.locked_pages.proofs.Limits.{none-locked}
 use Rattle.protector_state.specs.declared.Reply.{Reply}
 use Rattle.protector_state.specs.State.{stateLen, firstPhases, phaseOf, builtState, settingsOf, ramOf, entriesIn}
-use Rattle.protector.specs.World.{World, Outcome, pagesLen, tablesLen}
+use Rattle.protector.specs.World.{World, Outcome, pagesLen, tablesLen, overlaysOf, locksOf}
 use Rattle.protector.specs.Calls.{refusedBy, buildFits, buildRefusal, buildTaken, buildOf}
 use Rattle.history.specs.Seen.{Seen, Took, tookAs, unseen}
 use Rattle.history.specs.Marks.{Has, readOff, Settled}
+use Rattle.history.specs.Tables.{EachFits, Overlays, EachShort, Locked, Tables}
+use Rattle.history.specs.Settings.{firstSettings, SettingsFit}
+use Rattle.history.specs.Permitted.{Inside}
+use Rattle.history.specs.Resting.{Rests}
 use Rattle.history.specs.Made.{Built}
 use Rattle.history.specs.History.{History}
 use Rattle.history.proofs.Bits.{clash}
+use Rattle.history.proofs.Fits.{tables-long}
 use Rattle.history.specs.Answered.{given}
 use Rattle.history.specs.Claim.{ClaimFrom, Claim}
 use Rattle.history.proofs.Calls.{status}
@@ -51,7 +60,7 @@ length-fresh es s n = length-written 8 (isRam es) s (replicate n 0) ∙ length-r
 fresh-has : (es : List MemoryRangeWithNode) (n z : ℕ) → isRam es z ≡ true → z / 8 < n → Has (fresh es true n) z
 fresh-has es n z r h = fresh-page es true n z ∙ ap (λ (b : Bool). cond b true false) (and-true (isRam es z) (ltb (z / 8) n) r (lt-ltb _ _ h))
 
-pub fresh-ram : (es : List MemoryRangeWithNode) (n z : ℕ) → Has (fresh es true n) z → isRam es z ≡ true
+fresh-ram : (es : List MemoryRangeWithNode) (n z : ℕ) → Has (fresh es true n) z → isRam es z ≡ true
 fresh-ram es n z h = go (isRam es z) (ltb (z / 8) n) (sym (fresh-page es true n z) ∙ h)
   where
     go : (a b : Bool) → cond (a && b) true false ≡ true → a ≡ true
@@ -113,13 +122,17 @@ module _ (u : World) (ram : List ℕ) (i t r : ℕ) (z : buildRefusal ram i t r 
   built-long : length (builtState ram i t r) ≡ stateLen
   built-long = omega (arith, length-append ram (replicate (96 - length ram) 0), length-replicate {A = ℕ} (96 - length ram) 0, short-ram)
 
+  same-long : (s : Bool) (m : List ℕ) → length (fresh es s (length m)) ≡ length m
+  same-long s m = length-fresh es s (length m)
+
   built-whole : Whole (buildTaken u ram i t r .world)
   unfolding buildTaken
   built-whole =
       record {
         long = built-long;
         fit =
-            rw (entries-built ram i t r well, length-fresh es true (length (u .maps .private)), length-fresh es false (length (u .maps .shared)), length-fresh es true (length (u .maps .permissions .read)), length-fresh es true (length (u .maps .permissions .write)), length-fresh es true (length (u .maps .permissions .kernel)), length-fresh es true (length (u .maps .permissions .user)), length-replicate {A = ℕ} (length (u .pages)) 0, length-replicate {A = ℕ} (length (u .tables)) 0)
+            let p : Permissions = u .maps .permissions in
+            rw (entries-built ram i t r well, same-long true (u .maps .private), same-long false (u .maps .shared), same-long true (p .read), same-long true (p .write), same-long true (p .kernel), same-long true (p .user), length-replicate {A = ℕ} (length (u .pages)) 0, length-replicate {A = ℕ} (length (u .tables)) 0)
             (and-true _ _ (and-true _ _ marks-fit maps-fit) (and-right (eqb (length (u .state)) stateLen) _ runs-fit));
       }
 
@@ -143,16 +156,12 @@ module _ (u : World) (ram : List ℕ) (i t r : ℕ) (z : buildRefusal ram i t r 
   unfolding buildTaken
   taken-entries = entries-built ram i t r well
 
-  taken-isolation : settingsOf (buildTaken u ram i t r .world .state) .isolation ≡ isolationOf i
-  unfolding buildTaken
-  taken-isolation = refl
-
   taken-unseen : readOff (buildTaken u ram i t r .world .maps) ≡ unseen
   unfolding buildTaken
   taken-unseen = ap (λ (f : ℕ → Took). record { op = unseen .op; table = unseen .table; halted = false; listed = unseen .listed; last = f; age = unseen .age }) (fun-ext (λ z. ap tookAs (fresh-bare es (length (u .maps .shared)) z)))
 
 -- a build whose reply has no number of a refusal was taken
-pub build-taken : (u w : World) (ram : List ℕ) (i t r : ℕ) (reply : Reply) → given w reply ≡ buildOf u ram i t r → reply .number ≡ 0
+build-taken : (u w : World) (ram : List ℕ) (i t r : ℕ) (reply : Reply) → given w reply ≡ buildOf u ram i t r → reply .number ≡ 0
     → (buildRefusal ram i t r (buildFits (mapLen (entriesOf ram)) t u) ≡ 0) × (buildTaken u ram i t r .world ≡ w)
 unfolding buildOf
 build-taken u w ram i t r reply e d = go (eqb n 0) refl e
@@ -163,6 +172,21 @@ build-taken u w ram i t r reply e d = go (eqb n 0) refl e
     go : (b : Bool) → eqb n 0 ≡ b → given w reply ≡ cond b (buildTaken u ram i t r) (refusedBy u n) → (n ≡ 0) × (buildTaken u ram i t r .world ≡ w)
     go true h e = (eqb-true n 0 h, ap (λ (X : Outcome). X .world) (sym e))
     go false h e = absurd (eqb-false n 0 h (sym (ap (λ (X : Outcome). X .reply .number) e) ∙ d))
+
+-- ---- its tables: nothing is entered, nothing is locked
+
+none-entered : (es : List MemoryRangeWithNode) (v : GuestVtl) → Overlays es (overlaysOf (replicate tablesLen 0) v)
+unfolding overlays.tableOf flat EachFits
+none-entered es Vtl0 = record { entries = []; few = omega arith; fit = tt; words = refl }
+none-entered es Vtl1 = record { entries = []; few = omega arith; fit = tt; words = refl }
+
+none-kept : (v : GuestVtl) → Locked (locksOf (replicate tablesLen 0) v)
+unfolding EachShort
+none-kept Vtl0 = record { lists = []; fit = none-locked .fit Vtl0; short = tt; words = none-locked .words Vtl0 }
+none-kept Vtl1 = record { lists = []; fit = none-locked .fit Vtl1; short = tt; words = none-locked .words Vtl1 }
+
+pub empty-tables : (es : List MemoryRangeWithNode) → Tables es (replicate tablesLen 0)
+empty-tables es = record { long = none-locked .long; overlays = none-entered es; locks = none-kept }
 
 -- ---- a build that was taken
 
@@ -180,21 +204,65 @@ module _ {ram : List ℕ} {i t r : ℕ} {u w : World} {reply : Reply} (b : Built
   same-entries : entriesIn (w .state) ≡ entriesOf ram
   same-entries = subst (λ (w : World). entriesIn (w .state) ≡ entriesOf ram) (was .1) (taken-entries u ram i t r (was .0))
 
-  same-isolation : settingsOf (w .state) .isolation ≡ isolationOf i
-  same-isolation = subst (λ (w : World). settingsOf (w .state) .isolation ≡ isolationOf i) (was .1) (taken-isolation u ram i t r (was .0))
+  first-settings : settingsOf (buildTaken u ram i t r .world .state) ≡ firstSettings i t r
+  unfolding buildTaken
+  first-settings = refl
 
--- THE CLAIM, of every list of calls of the protector's entries from a build that was taken, refused calls among them, wherever it stops: each call gave what
--- its definition gives of what it was lent; the marks are what the hypervisor last took; and on SNP a page is marked private only if it was never returned,
--- or validated and then zeroed since its return
+  zeros : w .tables ≡ replicate (length (u .tables)) 0
+  unfolding buildTaken
+  zeros = ap (λ (w : World). w .tables) (sym (was .1))
+
+  no-words : w .tables ≡ replicate tablesLen 0
+  no-words =
+      zeros ∙ ap (λ (n : ℕ). replicate n 0) (sym (length-replicate {A = ℕ} (length (u .tables)) 0) ∙ ap (length {A = ℕ}) (sym zeros) ∙ tables-long w (built-settled .lent))
+
+  fresh-settings : SettingsFit i t r (buildTaken u ram i t r .world .state)
+  unfolding buildTaken buildRefusal
+  fresh-settings =
+      let a = status (refusalOf ram) _ (was .0) in
+      let c = passed (fitIsolation i) 2 _ (a .1) in
+      let e = passed (buildFits (mapLen (entriesOf ram)) t u) 3 _ (c .1) in
+      let f = passed (fitBool t) 7 _ (e .1) in
+      record {
+        same-isolation = refl;
+        same-tracked = refl;
+        same-release = refl;
+        fit-isolation = c .0;
+        fit-tracked = f .0;
+        fit-release = passed (fitBool r) 7 _ (f .1) .0;
+        enabled = omega arith;
+        only-tracked = λ e. absurd (omega (arith, e));
+        default0 = omega arith;
+        default1 = omega arith;
+      }
+
+  fresh-inside : Inside (entriesOf ram) (buildTaken u ram i t r .world .maps .permissions)
+  unfolding buildTaken
+  fresh-inside =
+      let es : List MemoryRangeWithNode = entriesOf ram in
+      let m : Permissions = u .maps .permissions in
+      record { read = fresh-ram es (length (m .read)); write = fresh-ram es (length (m .write)); kernel = fresh-ram es (length (m .kernel)); user = fresh-ram es (length (m .user)) }
+
+  -- all else is as it should be
+  pub built-starts : Rests i t r w
+  built-starts =
+      record {
+        settled = built-settled;
+        tables = subst (λ (x : List ℕ). Tables (entriesIn (w .state)) x) (sym no-words) (empty-tables (entriesIn (w .state)));
+        settings = subst (λ (w : World). SettingsFit i t r (w .state)) (was .1) fresh-settings;
+        inside = subst (λ (es : List MemoryRangeWithNode). Inside es (w .maps .permissions)) (sym same-entries) (subst (λ (w : World). Inside (entriesOf ram) (w .maps .permissions)) (was .1) fresh-inside);
+      }
+
+-- THE CLAIM, of every list of calls of the protector's entries from a build that was taken, refused calls and refused builds among them, wherever it stops
 module _ {ram : List ℕ} {i t r : ℕ} {u w v : World} {reply : Reply} {o : Seen} (b : Built ram i t r u w reply) (d : reply .number ≡ 0) (h : History w unseen v o) where
   pub calls-hold : Claim ram i t r u reply h
   calls-hold =
       record {
         built = build-is b;
+        first = subst (λ (w : World). settingsOf (w .state) ≡ firstSettings i t r) (was b d .1) (first-settings b d);
         calls =
-            subst (λ (a : Seen). (h : History w a v o) → ClaimFrom (entriesOf ram) (isolationOf i) h) (built-unseen b d)
-            (subst (λ (es : List MemoryRangeWithNode). (h : History w (readOff (w .maps)) v o) → ClaimFrom es (isolationOf i) h) (same-entries b d)
-            (subst (λ (i : IsolationType). (h : History w (readOff (w .maps)) v o) → ClaimFrom (entriesIn (w .state)) i h) (same-isolation b d) (λ h. settled-hold w (built-settled b d) h)))
+            subst (λ (a : Seen). (h : History w a v o) → ClaimFrom (entriesOf ram) i t r h) (built-unseen b d)
+            (subst (λ (es : List MemoryRangeWithNode). (h : History w (readOff (w .maps)) v o) → ClaimFrom es i t r h) (same-entries b d) (λ h. settled-hold w (built-starts b d) h))
             h;
       }
 
@@ -203,6 +271,3 @@ module _ {ram : List ℕ} {i t r : ℕ} {u w v : World} {reply : Reply} {o : See
   lent-holds =
       subst (λ (a : Seen). History w a v o → Lent (entriesOf ram) v o) (built-unseen b d)
       (λ h. subst (λ (es : List MemoryRangeWithNode). Lent es v o) (same-entries b d) (settled-lent w (built-settled b d) h)) h
-
-  pub lengths-hold : Whole v
-  lengths-hold = lent-holds .whole

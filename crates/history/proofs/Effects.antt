@@ -1,5 +1,5 @@
 -- What each call does to the entries and the lists of a world whose tables are such, as those of every stop are: what leaves the tables alone, what an answer and a
--- default change do, and the laws of `overlay_pages` and `locked_pages`, which ask for no more than `Kept` has. Assumes nothing.
+-- default change do, and the laws of `overlay_pages` and `locked_pages`, which ask for no more than `TablesFit` has. Assumes nothing.
 use native.Mathlib.Omega.{arith}
 use mathlib.Core.Path.{_≡_, refl, sym, ap, _∙_, subst}
 use mathlib.Core.Bool.{Bool, true, false, cond}
@@ -40,7 +40,7 @@ use Rattle.overlay_pages.proofs.Steps.{entered-last, taken-out, register-enters
 use Rattle.locked_pages.specs.Calls.{lockRefusal, lockOf, unlockOf}
 use Rattle.locked_pages.specs.Lists.{Lists, lists, listsAt, withLists, Makes}
 use Rattle.locked_pages.proofs.Lists.{lock-room, unlock-found}
-use Rattle.history.specs.Tables.{Tables, Pending, entryFor, Kept}
+use Rattle.history.specs.Tables.{Tables, Pending, entryFor, TablesFit}
 use Rattle.history.proofs.Bits.{clash}
 use Rattle.history.proofs.Lengths.{renewed-long}
 use Rattle.history.proofs.Locked.{locks-held}
@@ -129,7 +129,7 @@ module _ (w : World) where
 
 -- ---- an answer that is done, while one does
 
-module _ (es : List MemoryRangeWithNode) (w : World) (k : Kept es w) (z : answerRefusal (w .state) (fits w) false ≡ 0) (c : isChanging (w .state) ≡ true) where
+module _ (es : List MemoryRangeWithNode) (w : World) (k : TablesFit es w) (z : answerRefusal (w .state) (fits w) false ≡ 0) (c : isChanging (w .state) ≡ true) where
   abbrev q : Change
   q = changeIn (w .state)
 
@@ -180,7 +180,7 @@ module _ (es : List MemoryRangeWithNode) (w : World) (k : Tables es (w .tables))
       ∙ overlays-written (w .tables) o v (k .long) (renewed-long m (entriesIn (w .state)) flags (overlaysOf (w .tables) v) (used (overlaysOf (w .tables) v)) 1 ∙ overlays-long es (overlaysOf (w .tables) v) x)
       ∙ ap (renewed m (entriesIn (w .state)) flags) (x .words) ∙ table-renewed m (entriesIn (w .state)) flags (x .entries) (x .few)
 
-module _ (es : List MemoryRangeWithNode) (w : World) (k : Kept es w) (vtl flags : ℕ) (z : defaultRefusal (w .state) (fits w) vtl flags ≡ 0)
+module _ (es : List MemoryRangeWithNode) (w : World) (k : TablesFit es w) (vtl flags : ℕ) (z : defaultRefusal (w .state) (fits w) vtl flags ≡ 0)
     (free : barred (w .maps .private) (stored w (vtlOf vtl) flags .state) (w .tables) (vtlOf vtl) ≡ false) where
   pub default-renews : overlaysOf (defaultOf w vtl flags .world .tables) (vtlOf vtl)
       ≡ tableOf (renewedEntries (w .maps .private) (entriesIn (stored w (vtlOf vtl) flags .state)) flags (k .tables .overlays (vtlOf vtl) .entries))
@@ -191,7 +191,7 @@ module _ (es : List MemoryRangeWithNode) (w : World) (k : Kept es w) (vtl flags 
 
 -- ---- the calls on overlay pages that are taken: the laws of `overlay_pages`, of the entries here
 
-module _ (es : List MemoryRangeWithNode) (w : World) (k : Kept es w) (vtl p : ℕ) where
+module _ (es : List MemoryRangeWithNode) (w : World) (k : TablesFit es w) (vtl p : ℕ) where
   abbrev v : GuestVtl
   v = vtlOf vtl
 
@@ -227,7 +227,7 @@ module _ (es : List MemoryRangeWithNode) (w : World) (k : Kept es w) (vtl p : �
 
 -- ---- the calls on locks that are taken: those of `locked_pages`
 
-module _ (es : List MemoryRangeWithNode) (w : World) (k : Kept es w) (vtl : ℕ) (l : List ℕ) (z : lockRefusal (w .state) (length (w .tables)) vtl l ≡ 0) where
+module _ (es : List MemoryRangeWithNode) (w : World) (k : TablesFit es w) (vtl : ℕ) (l : List ℕ) (z : lockRefusal (w .state) (length (w .tables)) vtl l ≡ 0) where
   abbrev x : Lists
   x = lists (k .tables .locks Vtl0 .lists) (k .tables .locks Vtl1 .lists)
 

@@ -29,12 +29,11 @@ use Rattle.overlay_pages.specs.Calls.{registerTaken, registerOf, unregisterTake
 use Rattle.visibility_claims.specs.Ends.{afterAll}
 use Rattle.visibility_claims.specs.Table.{page, dones}
 use Rattle.history.specs.Seen.{Seen, unseen, asks}
-use Rattle.history.specs.Marks.{Settled}
-use Rattle.history.specs.Call.{Call, Visibility, Do}
+use Rattle.history.specs.Call.{Call, Visibility, Write, sees}
 use Rattle.history.specs.Made.{Made, Built}
-use Rattle.history.specs.History.{History}
+use Rattle.history.specs.History.{History, none, call, refusedBuild}
 use Rattle.history.specs.Claim.{Claim}
-use Rattle.history.proofs.Claim.{built-settled, calls-hold}
+use Rattle.history.proofs.Claim.{calls-hold}
 use Rattle.history.proofs.Exists.{any-call}
 
 abbrev ram8 : List ℕ
@@ -56,9 +55,6 @@ pub build8-taken : building8 .reply .number ≡ 0
 unfolding buildOf buildRefusal refusalOf entriesOf ordered aligned buildTaken
 build8-taken = refl
 
-pub built8-settled : Settled built8
-built8-settled = built-settled build8 build8-taken
-
 -- so the claim holds of every list of calls from it
 pub claim8 : {v : World} {o : Seen} (h : History built8 unseen v o) → Claim ram8 2 1 0 before8 (building8 .reply) h
 claim8 h = calls-hold build8 build8-taken h
@@ -66,7 +62,7 @@ claim8 h = calls-hold build8 build8-taken h
 -- ---- and there its page 3 may be shared: a call that asks for an operation
 
 abbrev pub sharing8 : Call
-sharing8 = Do (Visibility 0 1 (page 3 []))
+sharing8 = Write (Visibility 0 1 (page 3 []))
 
 abbrev pub asking8 : Outcome
 asking8 = visibilityOf built8 0 1 (page 3 [])
@@ -78,6 +74,18 @@ pub share8-asks : asks (asking8 .reply) ≡ true
 unfolding visibilityOf visibilityRefusal buildOf buildRefusal refusalOf entriesOf ordered aligned buildTaken word writtenFrom ramByte numberOf numberAt numbersFrom among repeats pick tableOf stopAt put placeFrom listsFrom held ask operationOf cleared startOf firstPhases phaseOf askedOf flatOf applied carriedOut firstRefusal visibilityTaken
 share8-asks = refl
 
+-- ---- and while it waits a build with isolation 9, lent what stands, is refused (3): a step of the list
+
+abbrev seen8 : Seen
+seen8 = sees sharing8 (asking8 .reply) (asking8 .world .pages) unseen
+
+pub refused8 : History built8 unseen (asking8 .world) seen8
+refused8 = refusedBuild (call none sharing8 (asking8 .reply) share8) ram8 9 1 0 (buildOf (asking8 .world) ram8 9 1 0 .reply) (any-call (asking8 .world) .built ram8 9 1 0) (any-call (asking8 .world) .refused ram8 9 1 0 refl)
+
+pub refused8-number : buildOf (asking8 .world) ram8 9 1 0 .reply .number ≡ 3
+unfolding buildOf buildRefusal refusalOf entriesOf ordered aligned
+refused8-number = refl
+
 -- ---- so do the other calls that may ask: a protection change, a default change, and an overlay page registered and, with that over, unregistered
 
 pub record Others8 : Type 0 where
@@ -87,5 +95,7 @@ pub record Others8 : Type 0 where
   pub unregisters : asks (unregisterOf (afterAll (registerOf built8 0 5 0 15 1 .world) (dones 4)) 0 5 .reply) ≡ true
 
 pub others8 : Others8
-unfolding buildOf buildRefusal refusalOf entriesOf ordered aligned buildTaken word writtenFrom ramByte numberOf numberAt numbersFrom neighbours runAt pick tableOf placeFrom listsFrom held span nextOf anyOf anyIn renewedFrom changes.protect changes.ask changes.wait changes.finish changes.protectPages changes.protectRam changes.doneOf changes.startNew changes.startOld firstPhases phaseOf flatOf askedOf stageOf entered carriedChange firstRefusal answerRefusal afterDone answerDone protectionRefusal protectionTaken protectionOf defaultRefusal defaultStarted defaultTaken defaultOf callRefusal within knownRefusal guestRefusal dmaRefusal pageRefusal registerRefusal currentOf registerTaken registerOf unregisterRefusal unregisterTaken unregisterOf closed closedTo afterAll
+unfolding buildOf buildRefusal refusalOf entriesOf ordered aligned buildTaken word writtenFrom ramByte numberOf numberAt numbersFrom neighbours runAt pick tableOf placeFrom listsFrom held span nextOf anyOf anyIn
+    renewedFrom changes.protect changes.ask changes.wait changes.finish changes.protectPages changes.protectRam changes.doneOf changes.startNew changes.startOld firstPhases phaseOf flatOf askedOf stageOf entered carriedChange firstRefusal answerRefusal afterDone answerDone protectionRefusal protectionTaken protectionOf
+    defaultRefusal defaultStarted defaultTaken defaultOf callRefusal within knownRefusal guestRefusal dmaRefusal pageRefusal registerRefusal currentOf registerTaken registerOf unregisterRefusal unregisterTaken unregisterOf closed closedTo afterAll
 others8 = record { protects = refl; defaults = refl; registers = refl; unregisters = refl }

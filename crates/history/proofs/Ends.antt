@@ -19,7 +19,7 @@ use Rattle.history.specs.Seen.{Seen, unseen, asks, isWaiting, isTaken, s
 use Rattle.history.specs.Marks.{readOff, Settled}
 use Rattle.history.specs.Call.{Call, Answer, sees}
 use Rattle.history.specs.Made.{Made, Built}
-use Rattle.history.specs.History.{History, none, call, callsIn}
+use Rattle.history.specs.History.{History, none, call, Event, Called, eventsIn}
 use Rattle.history.specs.Answered.{given}
 use Rattle.history.specs.Ends.{Course, start, answer, other, courseOf, takenIn, heardIn, Falls, Meanwhile, Answers, Ends, Heard, insisting, Told, RequestEnds}
 use Rattle.history.proofs.Bits.{clash}
@@ -30,9 +30,9 @@ use Rattle.history.proofs.Wholes.{answer-long}
 use Rattle.history.proofs.Histories.{Lent, lent-kept, history-keeps}
 use Rattle.history.proofs.Falls.{taken-waits, answer-is, at-stop, steps-fall}
 use Rattle.history.proofs.Claim.{lent-holds}
-use Rattle.history.proofs.Restart.{settled-stands, settled-lent}
+use Rattle.history.proofs.Restart.{settled-lent}
 use Rattle.history.proofs.Exists.{any-call}
-use Rattle.history.proofs.Eight.{build8, build8-taken, sharing8, asking8, share8, share8-asks}
+use Rattle.history.proofs.Eight.{sharing8, asking8, share8, share8-asks}
 
 -- ---- and the whole of it
 
@@ -95,19 +95,22 @@ module _ (es : List MemoryRangeWithNode) {w v : World} {a o : Seen} (k : Stands 
 
 -- ---- lists of answers alone
 
+abbrev answered : Given → Event
+answered g = Called (Answer g)
+
 -- from where h stops, gs in turn
-record Further (v : World) (o : Seen) (l : List Call) (w : World) (gs : List Given) : Type 0 where
+record Further (v : World) (o : Seen) (l : List Event) (w : World) (gs : List Given) : Type 0 where
   seen : Seen
   calls : History v o (afterAll w gs) seen
-  alone : callsIn calls ≡ l ++ map Answer gs
+  alone : eventsIn calls ≡ l ++ map answered gs
   meanwhile : Meanwhile (courseOf calls)
 
-further : {v w : World} {o p : Seen} (h : History v o w p) → Meanwhile (courseOf h) → (gs : List Given) → Further v o (callsIn h) w gs
-unfolding afterAll courseOf callsIn Meanwhile
-further {p = p} h m [] = record { seen = p; calls = h; alone = sym (append-nil (callsIn h)); meanwhile = m }
+further : {v w : World} {o p : Seen} (h : History v o w p) → Meanwhile (courseOf h) → (gs : List Given) → Further v o (eventsIn h) w gs
+unfolding afterAll courseOf eventsIn Meanwhile
+further {p = p} h m [] = record { seen = p; calls = h; alone = sym (append-nil (eventsIn h)); meanwhile = m }
 further {w = w} h m (g ∷ gs) =
     let x = further (call h (Answer g) (answerOf g w .reply) (any-call w .made (Answer g))) m gs in
-    record { seen = x .seen; calls = x .calls; alone = x .alone ∙ append-assoc (callsIn h) (Answer g ∷ []) (map Answer gs); meanwhile = x .meanwhile }
+    record { seen = x .seen; calls = x .calls; alone = x .alone ∙ append-assoc (eventsIn h) (answered g ∷ []) (map answered gs); meanwhile = x .meanwhile }
 
 -- done after each that isn't taken
 insisting-over : (w : World) → Whole w → (gs : List Given) → (underWay w ≡ true → leftIn w ≤ length gs) → underWay (afterAll w (insisting w gs)) ≡ false
@@ -150,18 +153,18 @@ stands-told es v o k = record { waits = k .waits; takes = taken-seen es v o k }
 
 -- while a request is under way done is taken
 done-answers : (es : List MemoryRangeWithNode) (v : World) (o : Seen) → Lent es v o → {x : World} {r : Reply} → Made (Answer Succeeds) v x r → isWaiting o ≡ true → isTaken o r ≡ true
-done-answers es v o k m b = ap (λ (X : Outcome). isTaken o (X .reply)) (answer-is m) ∙ taken-seen es v o (k .stands) Succeeds ∙ claims.done-taken v (k .whole .long) (k .whole .fit) (sym (k .stands .waits) ∙ b)
+done-answers es v o k m b = ap (λ (X : Outcome). isTaken o (X .reply)) (answer-is m) ∙ taken-seen es v o (k .first) Succeeds ∙ claims.done-taken v (k .second .long) (k .second .fit) (sym (k .first .waits) ∙ b)
 
 module _ (es : List MemoryRangeWithNode) (v : World) (o : Seen) (k : Lent es v o) where
   giving : (gs : List Given) → Answers v o gs
-  unfolding courseOf callsIn Meanwhile
+  unfolding courseOf eventsIn Meanwhile
   giving gs =
       let x = further none tt gs in
-      record { world = afterAll v gs; seen = x .seen; calls = x .calls; alone = x .alone; enough = request-ends es (k .stands) (x .calls) (x .meanwhile) }
+      record { world = afterAll v gs; seen = x .seen; calls = x .calls; alone = x .alone; enough = request-ends es (k .first) (x .calls) (x .meanwhile) }
 
   ending : (gs : List Given) → underWay (afterAll v gs) ≡ false → Ends v o gs
   unfolding giving
-  ending gs e = record { answers = giving gs; over = at-stop es (k .stands) (giving gs .calls) .waits ∙ e }
+  ending gs e = record { answers = giving gs; over = at-stop es (k .first) (giving gs .calls) .waits ∙ e }
 
   -- done so many times
   done-heard : {x y : World} {p : Seen} {r : Reply} → Lent es x p → Made (Answer Succeeds) x y r → (isTaken p r || not (isWaiting p)) ≡ true
@@ -196,17 +199,17 @@ module _ (es : List MemoryRangeWithNode) (v : World) (o : Seen) (k : Lent es v o
   pub lent-ends : RequestEnds v o
   lent-ends =
       record {
-        told = stands-told es v o (k .stands);
-        falls = λ h. steps-fall es (k .stands) h;
-        few = λ h m. sum-falls (courseOf h) (steps-fall es (k .stands) h) m;
-        still = λ h m. still-fewer es (k .stands) h m;
-        ends = λ h m. request-ends es (k .stands) h m;
+        told = stands-told es v o (k .first);
+        falls = λ h. steps-fall es (k .first) h;
+        few = λ h m. sum-falls (courseOf h) (steps-fall es (k .first) h) m;
+        still = λ h m. still-fewer es (k .first) h m;
+        ends = λ h m. request-ends es (k .first) h m;
         heard = hearing;
         done-taken = λ m b. done-answers es v o k m b;
         given = giving;
-        insisted = λ gs e. ending (insisting v gs) (insisting-over v (k .whole) gs (λ _. e));
+        insisted = λ gs e. ending (insisting v gs) (insisting-over v (k .second) gs (λ _. e));
         unrefused-end = λ gs r e. ending gs (claims.every-request-ends v gs r e);
-        done-ends = ending (replicate (leftIn v) Succeeds) (claims.every-request-ends v (replicate (leftIn v) Succeeds) (dones-unrefused (leftIn v) v (k .whole)) (omega (arith, length-replicate {A = Given} (leftIn v) Succeeds)));
+        done-ends = ending (replicate (leftIn v) Succeeds) (claims.every-request-ends v (replicate (leftIn v) Succeeds) (dones-unrefused (leftIn v) v (k .second)) (omega (arith, length-replicate {A = Given} (leftIn v) Succeeds)));
       }
 
 -- THE CLAIM, wherever a list of calls from a build stops
@@ -214,9 +217,6 @@ pub every-request-ends : {ram : List ℕ} {i t r : ℕ} {u w v : World} {reply :
 every-request-ends {ram} {v = v} {o = o} b d h = lent-ends (entriesOf ram) v o (lent-holds b d h)
 
 -- and wherever one stops from a world that is settled
-pub settled-told : {w v : World} {o : Seen} → Settled w → History w (readOff (w .maps)) v o → Told v o
-settled-told {w} {v} {o} k h = stands-told (entriesIn (w .state)) v o (at-stop (entriesIn (w .state)) (settled-stands w k) h)
-
 pub settled-requests-end : {w v : World} {o : Seen} → Settled w → History w (readOff (w .maps)) v o → RequestEnds v o
 settled-requests-end {w} {v} {o} k h = lent-ends (entriesIn (w .state)) v o (settled-lent w k h)
 
@@ -230,6 +230,3 @@ seen8 = sees sharing8 (asking8 .reply) (asking8 .world .pages) unseen
 
 pub share8-waits : isWaiting seen8 ≡ true
 share8-waits = asked-waits _ (asking8 .reply) (asking8 .world .pages) unseen share8-asks
-
-pub share8-ends : RequestEnds (asking8 .world) seen8
-share8-ends = every-request-ends build8 build8-taken (call none sharing8 (asking8 .reply) share8)

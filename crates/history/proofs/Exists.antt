@@ -2,17 +2,17 @@
 -- something of another length may be lent to it, whatever was last left. Assumes nothing.
 use native.Mathlib.Omega.{arith}
 use mathlib.Core.Path.{_≡_, refl, ap, subst}
-use mathlib.Core.Bool.{Bool, true, false, _&&_}
+use mathlib.Core.Bool.{Bool, true, false, cond, _&&_}
 use mathlib.Core.List.{List, []}
 use Prim.Native.Nat.{ℕ}
-use lib.ListN.{length}
+use lib.Dec.{eqb}
+use borrow.Author.Tests.{eqb-true, eqb-false}
 use contract.Lifetimes.{Lfts}
-use Rattle.layout.specs.declared.MemoryRangeWithNode.{MemoryRangeWithNode}
-use Rattle.layout.specs.Layout.{mapLen}
-use Rattle.mapping.specs.Maps.{marksFit, permissionLen, permissionsFit}
-use Rattle.protector_state.specs.State.{settingsOf, entriesIn}
+use Rattle.laws.specs.Refusal.{passed}
+use Rattle.layout.specs.Layout.{entriesOf, refusalOf, mapLen}
+use Rattle.permissions.specs.Flags.{fitIsolation}
 use Rattle.protector.specs.World.{World, Outcome}
-use Rattle.protector.specs.Calls.{visibilityOf, answerDone, answerFailed, buildOf}
+use Rattle.protector.specs.Calls.{refusedBy, visibilityOf, answerDone, answerFailed, buildFits, buildRefusal, buildTaken, buildOf}
 use Rattle.vtl_protections.specs.Calls.{protectionOf, defaultOf}
 use Rattle.overlay_pages.specs.Calls.{registerOf, unregisterOf}
 use Rattle.locked_pages.specs.Calls.{Kept, lockOf, unlockOf}
@@ -20,11 +20,14 @@ use Rattle.vtl1_protections.specs.Calls.{Enabled, enableOf}
 use Rattle.queries.specs.Queries as queries
 use Rattle.queries.specs.Queries.{queryOf}
 use Rattle.visibility_claims.specs.Whole.{Given, Succeeds, Fails}
-use Rattle.history.specs.Call.{Act, Visibility, Protection, Default, Register, Unregister, Lock, Unlock, Enable, TellEnabled, TellDefault, IsOverlay, Query, Fault, Lower, Access, Reader, Call, Do, Read, Answer, Result, does, tells, gives}
+use Rattle.history.specs.Call.{Writer, Visibility, Protection, Default, Register, Unregister, Lock, Unlock, Enable, TellEnabled, TellDefault, IsOverlay, Query, Fault, Lower, Access, Reader, Call, Write, Read, Answer, Result, givesWriter, shown, gives}
 use Rattle.history.specs.Made.{Run, Seven, Nine, Made, visibility, done, failed, protection, default, register, unregister, lock, unlock, enable, tellEnabled, tellDefault, isOverlay, query, fault, lower, access, Built, build}
-use Rattle.history.specs.History.{block, other, lockBlock, lockTables}
+use Rattle.history.specs.History.{IsRefusal, block, other, lockBlock, lockTables}
 use Rattle.history.specs.Callable.{Callable, Strays}
 use Rattle.history.specs.Answered.{given}
+use Rattle.history.proofs.Bits.{clash}
+use Rattle.history.proofs.Fits.{mapsLong}
+use Rattle.history.proofs.Calls.{status}
 use Rattle.history.proofs.Spared.{visibility-same, protection-same, default-same, register-same, unregister-same}
 
 -- ---- a world as it is lent
@@ -53,61 +56,73 @@ left-same c r w e m = subst (λ (v : World). Made c w v r) e m
 
 -- ---- every call
 
-act-made : (a : Act) (w : World) → Made (Do a) w (does a w .world) (does a w .answer)
-act-made (Visibility vtl share list) w =
+writer-made : (a : Writer) (w : World) → Made (Write a) w (givesWriter a w .world) (givesWriter a w .answer)
+writer-made (Visibility vtl share list) w =
     let X : Outcome = visibilityOf w vtl share list in
     let e = visibility-same w vtl share list in
-    left-same (Do (Visibility vtl share list)) (X .reply) w e (visibility lasting10 (nine w (vtl, (share, (lend list, tt)))) (X .reply) (nine (X .world) (vtl, (share, (lend list, tt)))) (ap (λ (v : World). given v (X .reply)) e))
-act-made (Protection vtl flags list) w =
+    left-same (Write (Visibility vtl share list)) (X .reply) w e (visibility lasting10 (nine w (vtl, (share, (lend list, tt)))) (X .reply) (nine (X .world) (vtl, (share, (lend list, tt)))) (ap (λ (v : World). given v (X .reply)) e))
+writer-made (Protection vtl flags list) w =
     let X : Outcome = protectionOf w vtl flags list in
     let e = protection-same w vtl flags list in
-    left-same (Do (Protection vtl flags list)) (X .reply) w e (protection lasting10 (nine w (vtl, (flags, (lend list, tt)))) (X .reply) (nine (X .world) (vtl, (flags, (lend list, tt)))) (ap (λ (v : World). given v (X .reply)) e))
-act-made (Default vtl flags) w =
+    left-same (Write (Protection vtl flags list)) (X .reply) w e (protection lasting10 (nine w (vtl, (flags, (lend list, tt)))) (X .reply) (nine (X .world) (vtl, (flags, (lend list, tt)))) (ap (λ (v : World). given v (X .reply)) e))
+writer-made (Default vtl flags) w =
     let X : Outcome = defaultOf w vtl flags in
     let e = default-same w vtl flags in
-    left-same (Do (Default vtl flags)) (X .reply) w e (default lasting9 (nine w (vtl, (flags, tt))) (X .reply) (nine (X .world) (vtl, (flags, tt))) (ap (λ (v : World). given v (X .reply)) e))
-act-made (Register vtl page source checked new) w =
+    left-same (Write (Default vtl flags)) (X .reply) w e (default lasting9 (nine w (vtl, (flags, tt))) (X .reply) (nine (X .world) (vtl, (flags, tt))) (ap (λ (v : World). given v (X .reply)) e))
+writer-made (Register vtl page source checked new) w =
     let X : Outcome = registerOf w vtl page source checked new in
     let e = register-same w vtl page source checked new in
-    left-same (Do (Register vtl page source checked new)) (X .reply) w e
+    left-same (Write (Register vtl page source checked new)) (X .reply) w e
     (register lasting9 (nine w (vtl, (page, (source, (checked, (new, tt)))))) (X .reply) (nine (X .world) (vtl, (page, (source, (checked, (new, tt)))))) (ap (λ (v : World). given v (X .reply)) e))
-act-made (Unregister vtl page) w =
+writer-made (Unregister vtl page) w =
     let X : Outcome = unregisterOf w vtl page in
     let e = unregister-same w vtl page in
-    left-same (Do (Unregister vtl page)) (X .reply) w e (unregister lasting9 (nine w (vtl, (page, tt))) (X .reply) (nine (X .world) (vtl, (page, tt))) (ap (λ (v : World). given v (X .reply)) e))
-act-made (Lock vtl list) w =
+    left-same (Write (Unregister vtl page)) (X .reply) w e (unregister lasting9 (nine w (vtl, (page, tt))) (X .reply) (nine (X .world) (vtl, (page, tt))) (ap (λ (v : World). given v (X .reply)) e))
+writer-made (Lock vtl list) w =
     let k : Kept = lockOf (w .state) (w .tables) vtl list in
     lock (w .maps) (w .pages) ([], ([], ([], tt))) (lend (w .state), (lend (w .tables), (vtl, (lend list, tt)))) (k .reply) (lend (w .state), (lend (k .tables), (vtl, (lend list, tt)))) refl
-act-made (Unlock vtl list) w =
+writer-made (Unlock vtl list) w =
     let k : Kept = unlockOf (w .state) (w .tables) vtl list in
     unlock (w .maps) (w .pages) ([], ([], ([], tt))) (lend (w .state), (lend (w .tables), (vtl, (lend list, tt)))) (k .reply) (lend (w .state), (lend (k .tables), (vtl, (lend list, tt)))) refl
-act-made Enable w =
+writer-made Enable w =
     let k : Enabled = enableOf (w .state) in
     enable (w .maps) (w .pages) (w .tables) ([], tt) (lend (w .state), tt) (k .reply) (lend (k .state), tt) refl
 
-read-made : (q : Reader) (w : World) → Made (Read q) w w (tells q w)
-read-made TellEnabled w = tellEnabled (w .maps) (w .pages) (w .tables) ([], tt) (lend (w .state), tt) (tells TellEnabled w) (lend (w .state), tt) refl
-read-made TellDefault w = tellDefault (w .maps) (w .pages) (w .tables) ([], tt) (lend (w .state), tt) (tells TellDefault w) (lend (w .state), tt) refl
+read-made : (q : Reader) (w : World) → Made (Read q) w w (shown q w)
+read-made TellEnabled w = tellEnabled (w .maps) (w .pages) (w .tables) ([], tt) (lend (w .state), tt) (shown TellEnabled w) (lend (w .state), tt) refl
+read-made TellDefault w = tellDefault (w .maps) (w .pages) (w .tables) ([], tt) (lend (w .state), tt) (shown TellDefault w) (lend (w .state), tt) refl
 read-made (IsOverlay vtl page) w =
-    isOverlay (w .maps) (w .pages) ([], ([], tt)) (lend (w .state), (lend (w .tables), (vtl, (page, tt)))) (tells (IsOverlay vtl page) w) (lend (w .state), (lend (w .tables), (vtl, (page, tt)))) refl
+    isOverlay (w .maps) (w .pages) ([], ([], tt)) (lend (w .state), (lend (w .tables), (vtl, (page, tt)))) (shown (IsOverlay vtl page) w) (lend (w .state), (lend (w .tables), (vtl, (page, tt)))) refl
 read-made (Query list out) w =
     let q : queries.Query = queryOf (w .state) (w .maps .shared) list out in
     query (w .maps .private) (w .maps .permissions) (w .pages) (w .tables) ([], ([], ([], ([], tt)))) (lend (w .state), (lend (w .maps .shared), (lend list, (lend out, tt)))) (q .reply)
     (lend (w .state), (lend (w .maps .shared), (lend list, (lend (q .out), tt)))) refl
 read-made (Fault mapping view address writes failure) w =
-    fault (w .pages) (w .tables) lasting7 (seven w (mapping, (view, (address, (writes, (failure, tt)))))) (tells (Fault mapping view address writes failure) w) (seven w (mapping, (view, (address, (writes, (failure, tt)))))) refl
-read-made (Lower vtl page) w = lower (w .pages) (w .tables) lasting7 (seven w (vtl, (page, tt))) (tells (Lower vtl page) w) (seven w (vtl, (page, tt))) refl
-read-made (Access page) w = access (w .pages) (w .tables) lasting7 (seven w (page, tt)) (tells (Access page) w) (seven w (page, tt)) refl
+    fault (w .pages) (w .tables) lasting7 (seven w (mapping, (view, (address, (writes, (failure, tt)))))) (shown (Fault mapping view address writes failure) w) (seven w (mapping, (view, (address, (writes, (failure, tt)))))) refl
+read-made (Lower vtl page) w = lower (w .pages) (w .tables) lasting7 (seven w (vtl, (page, tt))) (shown (Lower vtl page) w) (seven w (vtl, (page, tt))) refl
+read-made (Access page) w = access (w .pages) (w .tables) lasting7 (seven w (page, tt)) (shown (Access page) w) (seven w (page, tt)) refl
 
 answer-made : (g : Given) (w : World) → Made (Answer g) w (gives (Answer g) w .world) (gives (Answer g) w .answer)
 answer-made Succeeds w = let X : Outcome = answerDone w in done lasting9 (nine w tt) (X .reply) (nine (X .world) tt) refl
 answer-made (Fails code n) w = let X : Outcome = answerFailed w code n in failed lasting9 (nine w (code, (n, tt))) (X .reply) (nine (X .world) (code, (n, tt))) refl
 
+-- a build with a number that names no isolation is refused, by it or by what comes before
+unfit-refused : (w : World) (ram : List ℕ) (isolation tracked release : ℕ) → fitIsolation isolation ≡ false → IsRefusal (buildOf w ram isolation tracked release .reply)
+unfolding buildOf buildRefusal
+unfit-refused w ram isolation tracked release f e = go (eqb n 0) refl e
+  where
+    n : ℕ
+    n = buildRefusal ram isolation tracked release (buildFits (mapLen (entriesOf ram)) tracked w)
+
+    go : (b : Bool) → eqb n 0 ≡ b → cond b (buildTaken w ram isolation tracked release) (refusedBy w n) .reply .number ≡ 0 → ⊥
+    go true h _ = clash _ (passed (fitIsolation isolation) 2 _ (status (refusalOf ram) _ (eqb-true n 0 h) .1) .0) f
+    go false h z = eqb-false n 0 h z
+
 pub any-call : (w : World) → Callable w
-any-call w = record { made = made; built = built }
+any-call w = record { made = made; built = built; refused = λ ram isolation tracked release f. unfit-refused w ram isolation tracked release f }
   where
     made : (c : Call) → Made c w (gives c w .world) (gives c w .answer)
-    made (Do a) = act-made a w
+    made (Write a) = writer-made a w
     made (Read q) = read-made q w
     made (Answer g) = answer-made g w
 
@@ -122,14 +137,11 @@ pub any-stray : (u : World) → Strays u
 any-stray u =
     record {
       no-block = block (λ e. absurd (omega (arith, e)));
-      no-pages = other refl (none (marksFit (mapLen es) (length (u .maps .private)) (length (u .maps .shared)) && permissionsFit (permissionLen (mapLen es) (settingsOf (u .state) .tracked)) (length (u .maps .permissions .read)) (length (u .maps .permissions .write)) (length (u .maps .permissions .kernel)) (length (u .maps .permissions .user))));
+      no-pages = other refl (none (mapsLong u));
       no-lock-block = lockBlock (λ e. absurd (omega (arith, e)));
       no-lock-tables = lockTables refl (λ e. absurd (omega (arith, e)));
     }
   where
-    es : List MemoryRangeWithNode
-    es = entriesIn (u .state)
-
     none : (b : Bool) → (b && false) ≡ false
     none true = refl
     none false = refl

@@ -18,41 +18,25 @@ use Rattle.visibility_claims.specs.Calls.{answerOf, takenBy}
 use Rattle.visibility_claims.specs.Ends.{leftIn, underWay}
 use Rattle.visibility_claims.proofs.Ends as claims
 use Rattle.visibility_claims.proofs.Refusals.{answer-takes}
-use Rattle.history.specs.Seen.{Seen, isWaiting, isTaken}
-use Rattle.history.specs.Call.{Do, Read, Answer, Result, Gave}
+use Rattle.history.specs.Seen.{underWayNumber, Seen, isWaiting, isTaken}
+use Rattle.history.specs.Call.{Write, Read, Answer, Result, Effect}
 use Rattle.history.specs.Made.{Made}
-use Rattle.history.specs.History.{History, none, call, stray, Stray}
+use Rattle.history.specs.History.{History, none, call, stray, refusedBuild, Stray}
 use Rattle.history.specs.Answered.{given}
 use Rattle.history.specs.Ends.{courseOf, Falls}
 use Rattle.history.proofs.Bits.{clash}
-use Rattle.history.proofs.World.{Stands}
+use Rattle.history.proofs.World.{Stands, phase-waits}
 use Rattle.history.proofs.Answers.{taken-seen}
 use Rattle.history.proofs.Is.{is}
-use Rattle.history.proofs.Refused.{stray-untaken, busy-quiet}
+use Rattle.history.proofs.Refused.{stray-untaken, busy-no-effect}
 use Rattle.history.proofs.Histories.{stands-kept, history-keeps}
 
 -- ---- answers
 
--- what an answer is taken for is under way
-phase-waits : (p : Phase) (b : Bool) → takes p b ≡ true → eqb (statusOf p) 19 ≡ true
-phase-waits phase.Idle b e = e
-phase-waits phase.Halted b e = e
-phase-waits phase.Wait b e = refl
-phase-waits phase.FlushAll b e = refl
-phase-waits phase.ProtectNone0 b e = refl
-phase-waits phase.ProtectNone1 b e = refl
-phase-waits phase.Invalidate b e = refl
-phase-waits phase.Release b e = refl
-phase-waits phase.Modify b e = refl
-phase-waits phase.Accept b e = refl
-phase-waits phase.Zero b e = refl
-phase-waits phase.ProtectDefault0 b e = refl
-phase-waits phase.ProtectDefault1 b e = refl
-
 pub taken-waits : (w : World) (g : Given) → takenBy g w ≡ true → underWay w ≡ true
 taken-waits w g t = by g t
   where
-    go : (b f : Bool) → cond b (takesAt (stageIn (w .state)) f) (takes (phaseIn (w .state)) f) ≡ true → eqb (cond b 19 (statusOf (phaseIn (w .state)))) 19 ≡ true
+    go : (b f : Bool) → cond b (takesAt (stageIn (w .state)) f) (takes (phaseIn (w .state)) f) ≡ true → eqb (cond b underWayNumber (statusOf (phaseIn (w .state)))) underWayNumber ≡ true
     go true f e = refl
     go false f e = phase-waits (phaseIn (w .state)) f e
 
@@ -89,7 +73,7 @@ module _ (es : List MemoryRangeWithNode) (u : World) (o : Seen) (k : Stands es u
 
 -- what an answer gave, as its outcome
 pub answer-is : {g : Given} {u v : World} {r : Reply} → Made (Answer g) u v r → given v r ≡ answerOf g u
-answer-is m = ap (λ (X : Gave Reply). given (X .world) (X .answer)) (is m)
+answer-is m = ap (λ (X : Effect Reply). given (X .world) (X .answer)) (is m)
 
 module _ (es : List MemoryRangeWithNode) {w : World} {a : Seen} (k : Stands es w a) where
   pub at-stop : {v : World} {o : Seen} → History w a v o → Stands es v o
@@ -101,11 +85,12 @@ module _ (es : List MemoryRangeWithNode) {w : World} {a : Seen} (k : Stands es w
   pub steps-fall : {v : World} {o : Seen} (h : History w a v o) → Falls (courseOf h)
   unfolding courseOf Falls
   steps-fall none = tt
-  steps-fall (call {u} h (Do d) r m) = (steps-fall h, λ b. ap (λ (X : Gave Reply). X .world) (is m) ∙ busy-quiet d u (waiting h b) .keeps)
-  steps-fall (call h (Read q) r m) = (steps-fall h, λ b. ap (λ (X : Gave (Result (Read q))). X .world) (is m))
+  steps-fall (call {u} h (Write d) r m) = (steps-fall h, λ b. ap (λ (X : Effect Reply). X .world) (is m) ∙ busy-no-effect d u (waiting h b) .keeps)
+  steps-fall (call h (Read q) r m) = (steps-fall h, λ b. ap (λ (X : Effect (Result (Read q))). X .world) (is m))
   steps-fall (call {u} {v} {o} h (Answer g) r m) =
       let f = answer-falls es u o (at-stop h) g v r (answer-is m) in (steps-fall h, f .0, f .1, answer-begins es u o (at-stop h) g v r _ (answer-is m) (at-stop (call h (Answer g) r m)))
-  steps-fall (stray h (Do d) r m s) = (steps-fall h, λ b. refl)
+  steps-fall (stray h (Write d) r m s) = (steps-fall h, λ b. refl)
   steps-fall (stray h (Read q) r m s) = (steps-fall h, λ b. refl)
   steps-fall (stray {u} {x} {y} {o} h (Answer g) r m s) =
       let f = stray-falls es u o (at-stop h) x y g r s (answer-is m) in (steps-fall h, f .0, f .1, stray-begins es u o (at-stop h) _ (at-stop (stray h (Answer g) r m s)))
+  steps-fall (refusedBuild h ram i t l r m f) = (steps-fall h, λ b. refl)

@@ -28,17 +28,17 @@ use Rattle.visibility_claims.proofs.Calls.{visibility-is-whole}
 use Rattle.change_claims.proofs.Calls.{protection-is-whole, register-is-whole, unregister-is-whole}
 use Rattle.change_claims.proofs.Default.{default-is-whole}
 use Rattle.history.specs.Seen.{Seen, asks, isWaiting, isTaken, seesTaken, seesCall, seesAnswer}
-use Rattle.history.specs.Call.{Reader, Tells, Act, Visibility, Protection, Default, Register, Unregister, Lock, Unlock, Enable, Do, Read, Answer, Result, Gave, does, seesAct}
-use Rattle.history.specs.Made.{Made}
-use Rattle.history.specs.History.{Wrong, History, none, call, stray}
+use Rattle.history.specs.Call.{Reader, Shown, Writer, Visibility, Protection, Default, Register, Unregister, Lock, Unlock, Enable, Write, Read, Answer, Result, Effect, givesWriter, seesWriter}
+use Rattle.history.specs.Made.{Made, Built}
+use Rattle.history.specs.History.{Wrong, IsRefusal, History, none, call, stray, refusedBuild}
 use Rattle.history.specs.Answered.{given}
 use Rattle.history.specs.Ends.{Course, start, answer, other, courseOf, Falls, Meanwhile}
-use Rattle.history.specs.Requests.{givenIn, askedIn, toldIn, WholeOf, IsWhole, Begun, nothing, since, thenCall, thenStray, begunIn, AskedAt, Asked}
+use Rattle.history.specs.Requests.{givenIn, askedIn, toldIn, WholeOf, IsWhole, Begun, nothing, since, thenCall, thenStray, thenBuild, begunIn, AskedAt, Asked}
 use Rattle.history.proofs.Bits.{clash}
 use Rattle.history.proofs.World.{Stands}
 use Rattle.history.proofs.Answers.{taken-seen}
 use Rattle.history.proofs.Is.{is}
-use Rattle.history.proofs.Refused.{stray-unseen, stray-untaken, busy-quiet}
+use Rattle.history.proofs.Refused.{stray-unseen, stray-untaken, busy-no-effect}
 use Rattle.history.proofs.Falls.{answer-is, at-stop, waiting, steps-fall}
 
 -- ---- what the answers lead to, with one more that is taken
@@ -113,22 +113,23 @@ module _ (es : List MemoryRangeWithNode) {w : World} {a : Seen} (k : Stands es w
   steps-go : {v : World} {o : Seen} (h : History w a v o) → Goes (courseOf h)
   unfolding courseOf Goes
   steps-go none = tt
-  steps-go (call {u} {v} {o} h (Do d) r m) = (
+  steps-go (call {u} {v} {o} h (Write d) r m) = (
     steps-go h,
     λ b. (
-      ap (λ (X : Gave Reply). X .world) (is m) ∙ busy-quiet d u (waiting es k h b) .keeps,
-      ap (λ (X : Gave Reply). seesAct d (X .answer) (X .world .pages) o .op) (is m) ∙ ap (λ (p : Seen). p .op) (busy-quiet d u (waiting es k h b) .unseen o),
+      ap (λ (X : Effect Reply). X .world) (is m) ∙ busy-no-effect d u (waiting es k h b) .keeps,
+      ap (λ (X : Effect Reply). seesWriter d (X .answer) (X .world .pages) o .op) (is m) ∙ ap (λ (p : Seen). p .op) (busy-no-effect d u (waiting es k h b) .unseen o),
     ),
   )
-  steps-go (call h (Read q) r m) = (steps-go h, λ b. (ap (λ (X : Gave (Result (Read q))). X .world) (is m), refl))
+  steps-go (call h (Read q) r m) = (steps-go h, λ b. (ap (λ (X : Effect (Result (Read q))). X .world) (is m), refl))
   steps-go (call {u} {v} {o} h (Answer g) r m) = let f = answer-goes es u o (at-stop es k h) g v r (answer-is m) in (steps-go h, f .0, f .1)
-  steps-go (stray {u} {x} {y} {o} h (Do d) r m s) = (
+  steps-go (stray {u} {x} {y} {o} h (Write d) r m s) = (
     steps-go h,
-    λ b. (refl, ap (λ (X : Gave Reply). seesAct d (X .answer) (X .world .pages) o .op) (is m) ∙ ap (λ (p : Seen). p .op) (stray-unseen (Do d) u x o (at-stop es k h .halts) s)),
+    λ b. (refl, ap (λ (X : Effect Reply). seesWriter d (X .answer) (X .world .pages) o .op) (is m) ∙ ap (λ (p : Seen). p .op) (stray-unseen (Write d) u x o (at-stop es k h .halts) s)),
   )
   steps-go (stray h (Read q) r m s) = (steps-go h, λ b. (refl, refl))
   steps-go (stray {u} {x} {y} {o} h (Answer g) r m s) =
       let f = untaken-goes es u o (at-stop es k h) g r (y .pages) (ap (λ (X : Outcome). isTaken o (X .reply)) (answer-is m) ∙ stray-untaken u x s o (at-stop es k h .halts) g) in (steps-go h, f .0, f .1)
+  steps-go (refusedBuild h ram i t l r m f) = (steps-go h, λ b. (refl, refl))
 
 -- ---- a call that asks for something is taken, and with its answers in turn is the whole call
 
@@ -184,10 +185,10 @@ enable-silent s = go (eqb (enableRefusal s) 0)
     go true = refl
     go false = refl
 
-abbrev outcomeOf : Act → World → Outcome
-outcomeOf d u = given (does d u .world) (does d u .answer)
+abbrev outcomeOf : Writer → World → Outcome
+outcomeOf d u = given (givesWriter d u .world) (givesWriter d u .answer)
 
-follows-whole : (d : Act) (u : World) → pageEnd (entriesIn (u .state)) ≤ 2 ^ 52 → asks (does d u .answer) ≡ true → (gs : List Given) → WholeOf d u gs (follow (outcomeOf d u) gs)
+follows-whole : (d : Writer) (u : World) → pageEnd (entriesIn (u .state)) ≤ 2 ^ 52 → asks (givesWriter d u .answer) ≡ true → (gs : List Given) → WholeOf d u gs (follow (outcomeOf d u) gs)
 unfolding visibilityOf protectionOf registerOf unregisterOf
 follows-whole (Visibility vtl share list) u e a gs = visibility-is-whole u vtl share list gs (decided-taken u _ (visibilityTaken u (vtlOf vtl) (boolOf share) list) a)
 follows-whole (Protection vtl flags list) u e a gs = protection-is-whole u vtl flags list (decided-taken u _ (protectionTaken u (vtlOf vtl) flags list) a) gs
@@ -199,13 +200,13 @@ follows-whole (Unlock vtl list) u e a gs = clash _ a (unlock-silent (u .state) (
 follows-whole Enable u e a gs = clash _ a (enable-silent (u .state))
 
 -- what is seen of such a call is its reply
-asks-seen : (d : Act) (u : World) (r : Reply) → r ≡ does d u .answer → asks r ≡ true → (t : List ℕ) (o : Seen) → seesAct d r t o .op ≡ r
+asks-seen : (d : Writer) (u : World) (r : Reply) → r ≡ givesWriter d u .answer → asks r ≡ true → (t : List ℕ) (o : Seen) → seesWriter d r t o .op ≡ r
 asks-seen d u r e a t o = by d e
   where
     seen : (ps : List ℕ) → seesCall ps r t o .op ≡ r
     seen ps = ap (λ (b : Bool). cond b (record { op = r; table = t; halted = o .halted; listed = ps; last = o .last; age = o .age }) o .op) a
 
-    by : (d : Act) → r ≡ does d u .answer → seesAct d r t o .op ≡ r
+    by : (d : Writer) → r ≡ givesWriter d u .answer → seesWriter d r t o .op ≡ r
     by (Visibility vtl share list) e = seen (pagesOf list)
     by (Protection vtl flags list) e = seen []
     by (Default vtl flags) e = seen []
@@ -217,16 +218,16 @@ asks-seen d u r e a t o = by d e
 
 -- ---- a call of a list
 
-module _ {u v : World} {d : Act} {r : Reply} (m : Made (Do d) u v r) (a : asks r ≡ true) (o : Seen) where
+module _ {u v : World} {d : Writer} {r : Reply} (m : Made (Write d) u v r) (a : asks r ≡ true) (o : Seen) where
   made : given v r ≡ outcomeOf d u
-  made = ap (λ (X : Gave Reply). given (X .world) (X .answer)) (is m)
+  made = ap (λ (X : Effect Reply). given (X .world) (X .answer)) (is m)
 
   -- from any world that meets the invariant, whatever other calls come meanwhile
   pub whole-from : (es : List MemoryRangeWithNode) → Stands es u o → pageEnd es ≤ 2 ^ 52
-      → {x : World} {p : Seen} (h : History v (seesAct d r (v .pages) o) x p) → Meanwhile (courseOf h) → IsWhole d u (courseOf h)
+      → {x : World} {p : Seen} (h : History v (seesWriter d r (v .pages) o) x p) → Meanwhile (courseOf h) → IsWhole d u (courseOf h)
   whole-from es k e h b =
       subst (λ (t : Told). WholeOf d u (givenIn (courseOf h)) t)
-      (sym (told-follows (outcomeOf d u) (courseOf h) (steps-go es (at-stop es k (call none (Do d) r m)) h) b
+      (sym (told-follows (outcomeOf d u) (courseOf h) (steps-go es (at-stop es k (call none (Write d) r m)) h) b
       (ap (λ (r : Reply). given v r) (asks-seen d u r (ap (λ (X : Outcome). X .reply) made) a (v .pages) o) ∙ made)))
       (follows-whole d u (subst (λ (es : List MemoryRangeWithNode). pageEnd es ≤ 2 ^ 52) (sym (k .layout)) e) (sym (ap (λ (X : Outcome). asks (X .reply)) made) ∙ a) (givenIn (courseOf h)))
 
@@ -236,13 +237,13 @@ none-waits : (b c : Bool) → (b ≡ true → c ≡ true) → c ≡ false → b 
 none-waits true c f e = clash c (f refl) e
 none-waits false c f e = refl
 
-silent-seen : (d : Act) (r : Reply) → asks r ≡ false → (t : List ℕ) (o : Seen) → seesAct d r t o ≡ o
+silent-seen : (d : Writer) (r : Reply) → asks r ≡ false → (t : List ℕ) (o : Seen) → seesWriter d r t o ≡ o
 silent-seen d r e t o = by d
   where
     seen : (ps : List ℕ) → seesCall ps r t o ≡ o
     seen ps = ap (λ (b : Bool). cond b (record { op = r; table = t; halted = o .halted; listed = ps; last = o .last; age = o .age }) o) e
 
-    by : (d : Act) → seesAct d r t o ≡ o
+    by : (d : Writer) → seesWriter d r t o ≡ o
     by (Visibility vtl share list) = seen (pagesOf list)
     by (Protection vtl flags list) = seen []
     by (Default vtl flags) = seen []
@@ -258,12 +259,12 @@ module _ (es : List MemoryRangeWithNode) {w : World} {a : Seen} (k : Stands es w
   Open {x} {p} nothing = isWaiting p ≡ false
   Open (since g d r m h) = (asks r ≡ true) × Meanwhile (courseOf h)
 
-  open-do : {u v : World} {o : Seen} (b : Begun w a u o) → Open b → isWaiting o ≡ true → (d : Act) (r : Reply) (m : Made (Do d) u v r) → Open (thenCall b (Do d) r m)
+  open-do : {u v : World} {o : Seen} (b : Begun w a u o) → Open b → isWaiting o ≡ true → (d : Writer) (r : Reply) (m : Made (Write d) u v r) → Open (thenCall b (Write d) r m)
   unfolding courseOf Meanwhile
   open-do nothing f e d r m = clash _ e f
   open-do (since g d s n h) f e c r m = (f .0, (f .1, e))
 
-  open-read : {u v : World} {o : Seen} (b : Begun w a u o) → Open b → isWaiting o ≡ true → (q : Reader) (r : Tells q) (m : Made (Read q) u v r) → Open (thenCall b (Read q) r m)
+  open-read : {u v : World} {o : Seen} (b : Begun w a u o) → Open b → isWaiting o ≡ true → (q : Reader) (r : Shown q) (m : Made (Read q) u v r) → Open (thenCall b (Read q) r m)
   unfolding courseOf Meanwhile
   open-read nothing f e q r m = clash _ e f
   open-read (since g d s n h) f e q r m = (f .0, (f .1, e))
@@ -274,12 +275,12 @@ module _ (es : List MemoryRangeWithNode) {w : World} {a : Seen} (k : Stands es w
   open-answer nothing f g r m e = none-waits _ _ e f
   open-answer (since g d s n h) f c r m e = f
 
-  astray-do : {u x y : World} {o : Seen} (b : Begun w a u o) → Open b → isWaiting o ≡ true → (d : Act) (r : Reply) (m : Made (Do d) x y r) (s : Wrong (Do d) u x) → Open (thenStray b (Do d) r m s)
+  astray-do : {u x y : World} {o : Seen} (b : Begun w a u o) → Open b → isWaiting o ≡ true → (d : Writer) (r : Reply) (m : Made (Write d) x y r) (s : Wrong (Write d) u x) → Open (thenStray b (Write d) r m s)
   unfolding courseOf Meanwhile
   astray-do nothing f e d r m s = clash _ e f
   astray-do (since g d s n h) f e c r m t = (f .0, (f .1, e))
 
-  astray-read : {u x y : World} {o : Seen} (b : Begun w a u o) → Open b → isWaiting o ≡ true → (q : Reader) (r : Tells q) (m : Made (Read q) x y r) (s : Wrong (Read q) u x) → Open (thenStray b (Read q) r m s)
+  astray-read : {u x y : World} {o : Seen} (b : Begun w a u o) → Open b → isWaiting o ≡ true → (q : Reader) (r : Shown q) (m : Made (Read q) x y r) (s : Wrong (Read q) u x) → Open (thenStray b (Read q) r m s)
   unfolding courseOf Meanwhile
   astray-read nothing f e q r m s = clash _ e f
   astray-read (since g d s n h) f e q r m t = (f .0, (f .1, e))
@@ -290,12 +291,17 @@ module _ (es : List MemoryRangeWithNode) {w : World} {a : Seen} (k : Stands es w
   astray-answer nothing f g r m s e = none-waits _ _ e f
   astray-answer (since g d s n h) f c r m t e = f
 
+  astray-build : {u x y : World} {o : Seen} (b : Begun w a u o) → Open b → isWaiting o ≡ true → (ram : List ℕ) (i t l : ℕ) (r : Reply) (m : Built ram i t l x y r) (n : IsRefusal r) → Open (thenBuild b ram i t l r m n)
+  unfolding courseOf Meanwhile
+  astray-build nothing f e ram i t l r m n = clash _ e f
+  astray-build (since g d s n h) f e ram i t l r m z = (f .0, (f .1, e))
+
   begun-open : {x : World} {p : Seen} (h : History w a x p) → Open (begunIn h)
   unfolding begunIn courseOf Meanwhile Falls
   begun-open none = free
-  begun-open (call {u} {v} {o} h (Do d) r m) = go (begun-open h) (asks r) refl (isWaiting o) refl
+  begun-open (call {u} {v} {o} h (Write d) r m) = go (begun-open h) (asks r) refl (isWaiting o) refl
     where
-      go : Open (begunIn h) → (b : Bool) → asks r ≡ b → (c : Bool) → isWaiting o ≡ c → Open (cond b (since h d r m none) (cond c (thenCall (begunIn h) (Do d) r m) nothing))
+      go : Open (begunIn h) → (b : Bool) → asks r ≡ b → (c : Bool) → isWaiting o ≡ c → Open (cond b (since h d r m none) (cond c (thenCall (begunIn h) (Write d) r m) nothing))
       go f true e c i = (e, tt)
       go f false e true i = open-do (begunIn h) f i d r m
       go f false e false i = ap isWaiting (silent-seen d r e (v .pages) o) ∙ i
@@ -305,17 +311,22 @@ module _ (es : List MemoryRangeWithNode) {w : World} {a : Seen} (k : Stands es w
       go f true i = open-read (begunIn h) f i q r m
       go f false i = i
   begun-open (call h (Answer g) r m) = open-answer (begunIn h) (begun-open h) g r m (steps-fall es k (call h (Answer g) r m) .3)
-  begun-open (stray {u} {x} {y} {o} h (Do d) r m s) = go (begun-open h) (isWaiting o) refl
+  begun-open (stray {u} {x} {y} {o} h (Write d) r m s) = go (begun-open h) (isWaiting o) refl
     where
-      go : Open (begunIn h) → (c : Bool) → isWaiting o ≡ c → Open (cond c (thenStray (begunIn h) (Do d) r m s) nothing)
+      go : Open (begunIn h) → (c : Bool) → isWaiting o ≡ c → Open (cond c (thenStray (begunIn h) (Write d) r m s) nothing)
       go f true i = astray-do (begunIn h) f i d r m s
-      go f false i = at-stop es k (stray h (Do d) r m s) .waits ∙ sym (at-stop es k h .waits) ∙ i
+      go f false i = at-stop es k (stray h (Write d) r m s) .waits ∙ sym (at-stop es k h .waits) ∙ i
   begun-open (stray {u} {x} {y} {o} h (Read q) r m s) = go (begun-open h) (isWaiting o) refl
     where
       go : Open (begunIn h) → (c : Bool) → isWaiting o ≡ c → Open (cond c (thenStray (begunIn h) (Read q) r m s) nothing)
       go f true i = astray-read (begunIn h) f i q r m s
       go f false i = i
   begun-open (stray h (Answer g) r m s) = astray-answer (begunIn h) (begun-open h) g r m s (steps-fall es k (stray h (Answer g) r m s) .3)
+  begun-open (refusedBuild {u} {x} {y} {o} h ram i t l r m n) = go (begun-open h) (isWaiting o) refl
+    where
+      go : Open (begunIn h) → (c : Bool) → isWaiting o ≡ c → Open (cond c (thenBuild (begunIn h) ram i t l r m n) nothing)
+      go f true e = astray-build (begunIn h) f e ram i t l r m n
+      go f false e = e
 
   open-asked : {x : World} {p : Seen} (b : Begun w a x p) → Open b → AskedAt b
   open-asked nothing f = f
@@ -326,3 +337,4 @@ module _ (es : List MemoryRangeWithNode) {w : World} {a : Seen} (k : Stands es w
   asked-from none = tt
   asked-from (call h c r m) = (asked-from h, open-asked (begunIn (call h c r m)) (begun-open (call h c r m)))
   asked-from (stray h c r m s) = (asked-from h, open-asked (begunIn (stray h c r m s)) (begun-open (stray h c r m s)))
+  asked-from (refusedBuild h ram i t l r m n) = (asked-from h, open-asked (begunIn (refusedBuild h ram i t l r m n)) (begun-open (refusedBuild h ram i t l r m n)))

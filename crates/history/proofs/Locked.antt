@@ -21,7 +21,7 @@ use Rattle.locked_pages.specs.Calls.{Kept, ended, lockRefusal, lockOf, unlockOf
 use Rattle.locked_pages.specs.Lists.{Lists, lists, listsAt, withLists, Holds, Makes}
 use Rattle.locked_pages.proofs.Lists.{lock-room, lock-full, unlock-found, unlock-none, lock-refused, unlock-refused}
 use Rattle.history.specs.Tables.{EachShort, Overlays, Tables}
-use Rattle.history.proofs.Calls.{status}
+use Rattle.history.proofs.Calls.{status, not-true}
 
 -- ---- each list short
 
@@ -112,11 +112,7 @@ module _ (es : List MemoryRangeWithNode) (s t : List ℕ) (k : Tables es t) wher
         let b = status (statusIn s) _ (a .1) in
         let c = passed (eqb (length t) tablesLen) 3 _ (b .1) in
         let d = passed (not (isLong l)) 4 _ (c .1) in
-        pages-few l (ltb-false 4096 (length l) (no (isLong l) (d .0)))
-      where
-        no : (b : Bool) → not b ≡ true → b ≡ false
-        no true e = sym e
-        no false e = refl
+        pages-few l (ltb-false 4096 (length l) (not-true (isLong l) (d .0)))
 
     gave : (y : Kept) (n : ℕ) → y ≡ ended t n → Relocked es t (y .tables)
     gave y n e = subst (λ (y : Kept). Relocked es t (y .tables)) (sym e) same-tables

@@ -17,15 +17,12 @@ use Rattle.overlays.specs.Overlays.{isOverlay}
 use Rattle.changes.specs.declared.ChangeStep.{ChangeStep}
 use Rattle.changes.specs.declared.Change.{Change}
 use Rattle.changes.specs.Changes.{protect, ask, wait, protectPages, protectRam, startNew, startOld}
-use Rattle.permissions.specs.HvError.{codeOf}
-use Rattle.protector_state.specs.Reply.{finished}
 use Rattle.protector_state.specs.State.{stateLen, settingsOf}
 use Rattle.protector.specs.World.{World, world, Outcome, overlaysOf, fits, statusIn}
 use Rattle.protector.specs.Calls.{refusedBy, carriedChange}
 use Rattle.vtl_protections.specs.Calls.{defaultRefusal, storedDefault, stored, barred, renewedTables, renewedIn, defaultStep, defaultStarted, defaultTaken, defaultOf, protectionRefusal, allListed, protectionStep, protectionTaken, protectionOf}
 use Rattle.overlay_tests.specs.Refusals.{callRefusal, unregisterRefusal, registerRefusal}
 use Rattle.overlay_pages.specs.Calls.{entryIn, counting, unregisterTaken, unregisterOf, currentIn, registerTaken, registerOf}
-use Rattle.vtl1_protections.specs.Calls.{enableRefusal, enabled, enableOf}
 use Rattle.history.specs.Seen.{Seen, seesCall}
 use Rattle.history.proofs.World.{Stands, stops}
 use Rattle.history.proofs.Answers.{new-told, old-told, start-pages-told, start-ram-told}
@@ -145,11 +142,3 @@ module _ (es : List MemoryRangeWithNode) (w : World) (o : Seen) (k : Stands es w
       go : statusIn (w .state) ≡ 0 → (b : Bool) → Stands es (cond b A B .world) (seesCall [] (cond b A B .reply) (cond b A B .world .pages) o)
       go idle true = tables-stand es w o k (A .world .tables)
       go idle false = change-starts es w o k idle (w .state) (w .tables) (w .pages) x refl (new-told _ _ _ _ _ _ _) (new-goes _ _ _ _ _ _)
-
-  pub enable-stands : Stands es (world (w .maps) (enableOf (w .state) .state) (w .pages) (w .tables)) o
-  unfolding enableOf
-  enable-stands = go (eqb (enableRefusal (w .state)) 0)
-    where
-      go : (b : Bool) → Stands es (world (w .maps) (cond b (enabled (set (w .state) 19 1) (finished 0 0 0 0)) (enabled (w .state) (finished (enableRefusal (w .state)) (codeOf (enableRefusal (w .state))) 0 0)) .state) (w .pages) (w .tables)) o
-      go true = set-stands es w o k 19 1 (omega arith) (omega arith)
-      go false = k

@@ -1,5 +1,5 @@
--- A call that is refused writes nothing, and nothing is seen to change: one that is lent something of another length, and one that is no answer while a request is
--- under way. Assumes nothing.
+-- A call that is refused writes nothing, and nothing is seen to change: one that is lent something of another length, one that is no answer while a request is under
+-- way, and a build. Assumes nothing.
 use Prim.Native.Nat.{ℕ}
 use mathlib.Core.Path.{_≡_, refl, ap}
 use mathlib.Core.List.{List, []}
@@ -8,13 +8,14 @@ use lib.ListN.{length}
 use lib.Dec.{eqb}
 use borrow.Author.Tests.{ne-eqb}
 use Rattle.laws.specs.Refusal.{unless, passed}
+use Rattle.layout.specs.Layout.{entriesOf, mapLen}
 use Rattle.permissions.specs.Flags.{vtlOf, boolOf}
 use Rattle.pages.specs.Pages.{pagesOf}
 use Rattle.protector_state.specs.declared.Reply.{Reply}
 use Rattle.protector_state.specs.State.{stateLen}
 use Rattle.change_state.specs.State.{isChanging}
 use Rattle.protector.specs.World.{World, world, Outcome, fits, statusIn}
-use Rattle.protector.specs.Calls.{refusedBy, decided, visibilityRefusal, visibilityTaken, visibilityOf, answerRefusal, visibilityDone, visibilityFailed, changeDone, changeFailed, answerDone, answerFailed}
+use Rattle.protector.specs.Calls.{refusedBy, decided, buildFits, buildRefusal, buildTaken, buildOf, visibilityRefusal, visibilityTaken, visibilityOf, answerRefusal, visibilityDone, visibilityFailed, changeDone, changeFailed, answerDone, answerFailed}
 use Rattle.vtl_protections.specs.Calls.{protectionRefusal, protectionTaken, protectionOf, defaultRefusal, stored, defaultTaken, defaultOf}
 use Rattle.overlay_tests.specs.Refusals.{registerRefusal, unregisterRefusal}
 use Rattle.overlay_pages.specs.Calls.{currentIn, registerTaken, registerOf, unregisterTaken, unregisterOf}
@@ -23,9 +24,10 @@ use Rattle.vtl1_protections.specs.Calls.{stateRefusal, enableRefusal, enableOf}
 use Rattle.visibility_claims.specs.Whole.{Given, Succeeds, Fails}
 use Rattle.visibility_claims.specs.Calls.{answerOf}
 use Rattle.visibility_claims.specs.Ends.{underWay}
-use Rattle.history.specs.Seen.{Seen, isTaken, seesCall}
-use Rattle.history.specs.Call.{Act, Visibility, Protection, Default, Register, Unregister, Lock, Unlock, Enable, Call, Do, Read, Answer, Gave, replied, does, gives, seesAct, sees}
-use Rattle.history.specs.History.{Stray, StrayAct, Wrong}
+use Rattle.history.specs.Seen.{wrongLength, underWayNumber, haltedNumber, Seen, isTaken, seesCall}
+use Rattle.history.specs.Call.{Writer, Visibility, Protection, Default, Register, Unregister, Lock, Unlock, Enable, Call, Write, Read, Answer, Effect, replied, givesWriter, gives, seesWriter, sees}
+use Rattle.history.specs.History.{Stray, StrayWriter, Wrong, IsRefusal}
+use Rattle.history.specs.Answered.{given}
 use Rattle.history.proofs.Bits.{clash}
 use Rattle.history.proofs.Calls.{status}
 use Rattle.history.proofs.Others.{protection-idle, default-idle, call-idle}
@@ -33,7 +35,7 @@ use Rattle.history.proofs.Strays.{not-whole, visibility-whole, protecti
 
 -- ---- the number that a call is refused by
 
-abbrev pub refusalIn : Act → World → ℕ
+abbrev pub refusalIn : Writer → World → ℕ
 refusalIn (Visibility vtl share list) x = visibilityRefusal (x .state) (fits x) (x .tables) vtl share list
 refusalIn (Protection vtl flags list) x = protectionRefusal (x .state) (fits x) (x .maps .shared) (x .tables) vtl flags list
 refusalIn (Default vtl flags) x = defaultRefusal (x .state) (fits x) vtl flags
@@ -44,35 +46,35 @@ refusalIn (Unlock vtl list) x = lockRefusal (x .state) (length (x .tables)) vtl 
 refusalIn Enable x = enableRefusal (x .state)
 
 -- nothing comes of it: it leaves what it was lent, and nothing is seen
-pub record Quiet (x : World) (X : Gave Reply) (view : Reply → List ℕ → Seen → Seen) : Type 0 where
+pub record NoEffect (x : World) (X : Effect Reply) (view : Reply → List ℕ → Seen → Seen) : Type 0 where
   pub keeps : X .world ≡ x
   pub unseen : (o : Seen) → view (X .answer) (X .world .pages) o ≡ o
 
 refused : (x : World) (n : ℕ) (T : Outcome) → (n ≡ 0 → ⊥) → decided x n T ≡ refusedBy x n
 refused x n T f = ap (λ (b : Bool). cond b T (refusedBy x n)) (ne-eqb n 0 f)
 
-call-quiet : (ps : List ℕ) (x : World) (n : ℕ) (T : Outcome) → (n ≡ 0 → ⊥) → Quiet x (replied (decided x n T)) (seesCall ps)
-call-quiet ps x n T f =
+call-no-effect : (ps : List ℕ) (x : World) (n : ℕ) (T : Outcome) → (n ≡ 0 → ⊥) → NoEffect x (replied (decided x n T)) (seesCall ps)
+call-no-effect ps x n T f =
     record { keeps = ap (λ (X : Outcome). X .world) (refused x n T f); unseen = λ o. ap (λ (X : Outcome). seesCall ps (X .reply) (X .world .pages) o) (refused x n T f) }
 
-pub barred-quiet : (a : Act) (x : World) → (refusalIn a x ≡ 0 → ⊥) → Quiet x (does a x) (seesAct a)
+pub barred-no-effect : (a : Writer) (x : World) → (refusalIn a x ≡ 0 → ⊥) → NoEffect x (givesWriter a x) (seesWriter a)
 unfolding visibilityOf protectionOf defaultOf registerOf unregisterOf lockOf unlockOf enableOf
-barred-quiet (Visibility vtl share list) x f = call-quiet (pagesOf list) x _ (visibilityTaken x (vtlOf vtl) (boolOf share) list) f
-barred-quiet (Protection vtl flags list) x f = call-quiet [] x _ (protectionTaken x (vtlOf vtl) flags list) f
-barred-quiet (Default vtl flags) x f = call-quiet [] x _ (defaultTaken (stored x (vtlOf vtl) flags) (vtlOf vtl) flags) f
-barred-quiet (Register vtl page source checked new) x f = call-quiet [] x _ (registerTaken x (vtlOf vtl) page source new) f
-barred-quiet (Unregister vtl page) x f = call-quiet [] x _ (unregisterTaken x (vtlOf vtl) page) f
-barred-quiet (Lock vtl list) x f =
+barred-no-effect (Visibility vtl share list) x f = call-no-effect (pagesOf list) x _ (visibilityTaken x (vtlOf vtl) (boolOf share) list) f
+barred-no-effect (Protection vtl flags list) x f = call-no-effect [] x _ (protectionTaken x (vtlOf vtl) flags list) f
+barred-no-effect (Default vtl flags) x f = call-no-effect [] x _ (defaultTaken (stored x (vtlOf vtl) flags) (vtlOf vtl) flags) f
+barred-no-effect (Register vtl page source checked new) x f = call-no-effect [] x _ (registerTaken x (vtlOf vtl) page source new) f
+barred-no-effect (Unregister vtl page) x f = call-no-effect [] x _ (unregisterTaken x (vtlOf vtl) page) f
+barred-no-effect (Lock vtl list) x f =
     let n : ℕ = lockRefusal (x .state) (length (x .tables)) vtl list in
     record { keeps = ap (λ (b : Bool). world (x .maps) (x .state) (x .pages) (cond b (lockTaken (x .tables) (vtlOf vtl) (pagesOf list)) (ended (x .tables) n) .tables)) (ne-eqb n 0 f); unseen = λ o. refl }
-barred-quiet (Unlock vtl list) x f =
+barred-no-effect (Unlock vtl list) x f =
     let n : ℕ = lockRefusal (x .state) (length (x .tables)) vtl list in
     record { keeps = ap (λ (b : Bool). world (x .maps) (x .state) (x .pages) (cond b (unlockTaken (x .tables) (vtlOf vtl) (pagesOf list)) (ended (x .tables) n) .tables)) (ne-eqb n 0 f); unseen = λ o. refl }
-barred-quiet Enable x f = record { keeps = rw (ne-eqb (enableRefusal (x .state)) 0 f); unseen = λ o. refl }
+barred-no-effect Enable x f = record { keeps = rw (ne-eqb (enableRefusal (x .state)) 0 f); unseen = λ o. refl }
 
 -- ---- something of another length bars it
 
-stray-barred : (a : Act) (u x : World) → StrayAct a u x → refusalIn a x ≡ 0 → ⊥
+stray-barred : (a : Writer) (u x : World) → StrayWriter a u x → refusalIn a x ≡ 0 → ⊥
 stray-barred (Visibility vtl share list) u x s z = not-whole u x s (visibility-whole x vtl share list z)
 stray-barred (Protection vtl flags list) u x s z = not-whole u x s (protection-whole x vtl flags list z)
 stray-barred (Default vtl flags) u x s z = not-whole u x s (default-whole x vtl flags z)
@@ -89,7 +91,7 @@ module _ (u x : World) (s : Stray u x) where
   answer-keeps Succeeds = ap (λ (X : Outcome). X .world) (refused x (answerRefusal (x .state) (fits x) false) (cond (isChanging (x .state)) (changeDone x) (visibilityDone x)) (λ z. not-whole u x s (answer-whole x false z)))
   answer-keeps (Fails code n) = ap (λ (X : Outcome). X .world) (refused x (answerRefusal (x .state) (fits x) true) (cond (isChanging (x .state)) (changeFailed x) (visibilityFailed x code n)) (λ z. not-whole u x s (answer-whole x true z)))
 
-  module _ (o : Seen) (halts : o .halted ≡ eqb (statusIn (u .state)) 20) where
+  module _ (o : Seen) (halts : o .halted ≡ eqb (statusIn (u .state)) haltedNumber) where
     pub stray-untaken : (g : Given) → isTaken o (answerOf g x .reply) ≡ false
     unfolding answerDone answerFailed
     stray-untaken Succeeds = untaken-seen u x o halts false (cond (isChanging (x .state)) (changeDone x) (visibilityDone x)) s
@@ -101,24 +103,24 @@ module _ (u x : World) (s : Stray u x) where
     answer-unseen (Fails code n) = answer-stray u x o halts true (cond (isChanging (x .state)) (changeFailed x) (visibilityFailed x code n)) s (λ (p : Seen). p ≡ o) (Fails code n) refl
 
 pub stray-keeps : (c : Call) (u x : World) → Wrong c u x → gives c x .world ≡ x
-stray-keeps (Do a) u x s = barred-quiet a x (stray-barred a u x s) .keeps
+stray-keeps (Write a) u x s = barred-no-effect a x (stray-barred a u x s) .keeps
 stray-keeps (Read q) u x s = refl
 stray-keeps (Answer g) u x s = answer-keeps u x s g
 
-pub stray-unseen : (c : Call) (u x : World) (o : Seen) → o .halted ≡ eqb (statusIn (u .state)) 20 → Wrong c u x → sees c (gives c x .answer) (gives c x .world .pages) o ≡ o
-stray-unseen (Do a) u x o halts s = barred-quiet a x (stray-barred a u x s) .unseen o
+pub stray-unseen : (c : Call) (u x : World) (o : Seen) → o .halted ≡ eqb (statusIn (u .state)) haltedNumber → Wrong c u x → sees c (gives c x .answer) (gives c x .world .pages) o ≡ o
+stray-unseen (Write a) u x o halts s = barred-no-effect a x (stray-barred a u x s) .unseen o
 stray-unseen (Read q) u x o halts s = refl
 stray-unseen (Answer g) u x o halts s = answer-unseen u x s o halts g
 
 -- ---- so does a request under way
 
-busy : (n : ℕ) → eqb n 19 ≡ true → n ≡ 0 → ⊥
-busy n e z = clash (eqb n 19) e (ap (λ n. eqb n 19) z)
+busy : (n : ℕ) → eqb n underWayNumber ≡ true → n ≡ 0 → ⊥
+busy n e z = clash (eqb n underWayNumber) e (ap (λ n. eqb n underWayNumber) z)
 
-idle : (s : List ℕ) (rest : ℕ) → unless (eqb (length s) stateLen) 4 (unless (eqb (statusIn s) 0) (statusIn s) rest) ≡ 0 → statusIn s ≡ 0
+idle : (s : List ℕ) (rest : ℕ) → unless (eqb (length s) stateLen) wrongLength (unless (eqb (statusIn s) 0) (statusIn s) rest) ≡ 0 → statusIn s ≡ 0
 idle s rest z = status (statusIn s) _ (passed (eqb (length s) stateLen) 3 _ z .1) .0
 
-busy-barred : (a : Act) (x : World) → underWay x ≡ true → refusalIn a x ≡ 0 → ⊥
+busy-barred : (a : Writer) (x : World) → underWay x ≡ true → refusalIn a x ≡ 0 → ⊥
 unfolding visibilityRefusal registerRefusal unregisterRefusal lockRefusal enableRefusal stateRefusal
 busy-barred (Visibility vtl share list) x b z = busy _ b (idle (x .state) _ z)
 busy-barred (Protection vtl flags list) x b z = busy _ b (protection-idle x vtl flags list z)
@@ -129,5 +131,18 @@ busy-barred (Lock vtl list) x b z = busy _ b (idle (x .state) _ z)
 busy-barred (Unlock vtl list) x b z = busy _ b (idle (x .state) _ z)
 busy-barred Enable x b z = busy _ b (passed (eqb (length (x .state)) stateLen) 3 _ (status _ _ z .0) .1)
 
-pub busy-quiet : (a : Act) (x : World) → underWay x ≡ true → Quiet x (does a x) (seesAct a)
-busy-quiet a x b = barred-quiet a x (busy-barred a x b)
+pub busy-no-effect : (a : Writer) (x : World) → underWay x ≡ true → NoEffect x (givesWriter a x) (seesWriter a)
+busy-no-effect a x b = barred-no-effect a x (busy-barred a x b)
+
+-- ---- a build
+
+pub build-keeps : (x y : World) (ram : List ℕ) (i t l : ℕ) (r : Reply) → given y r ≡ buildOf x ram i t l → IsRefusal r → y ≡ x
+unfolding buildOf buildTaken
+build-keeps x y ram i t l r e f = go (eqb n 0) e
+  where
+    n : ℕ
+    n = buildRefusal ram i t l (buildFits (mapLen (entriesOf ram)) t x)
+
+    go : (b : Bool) → given y r ≡ cond b (buildTaken x ram i t l) (refusedBy x n) → y ≡ x
+    go true e = absurd (f (ap (λ (X : Outcome). X .reply .number) e))
+    go false e = ap (λ (X : Outcome). X .world) e

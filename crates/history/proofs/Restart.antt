@@ -1,20 +1,16 @@
--- A list of calls may begin at any world where nothing is under way and each RAM page has one mark: THE CLAIM holds of it, what was last taken there being
--- read off the marks. Assumes nothing.
+-- A list of calls may begin at any world at rest: THE CLAIM holds of it, what was last taken there being read off the marks. Assumes nothing.
 use native.Mathlib.Omega.{arith}
 use Prim.Native.Nat.{ℕ, _/_, _^_, _≤_, _<_}
 use mathlib.Core.Path.{_≡_, refl, sym, ap, _∙_}
 use mathlib.Core.List.{List, []}
 use mathlib.Core.Bool.{Bool, true, false, cond}
 use lib.Dec.{eqb}
-use lib.ListN.{length}
-use borrow.Author.Tests.{eqb-true}
-use Rattle.laws.specs.Bools.{and-left, and-right}
 use Rattle.bitmap.specs.Pages.{bitAt}
 use Rattle.layout.specs.declared.MemoryRangeWithNode.{MemoryRangeWithNode}
 use Rattle.layout.specs.Layout.{isRam, mapLen}
 use Rattle.layout.proofs.Laws.{fit, page-in-map}
 use Rattle.pages.specs.Pages.{among}
-use Rattle.permissions.specs.declared.IsolationType.{IsolationType}
+use Rattle.permissions.specs.Flags.{isolationOf}
 use Rattle.acceptor.specs.declared.Phase.{Phase}
 use Rattle.acceptor.specs.declared.Phase.the-variants as at
 use Rattle.acceptor.specs.Steps.{isSnp}
@@ -23,8 +19,9 @@ use Rattle.protector_state.specs.State.{phaseIn, requestOf, settingsOf, ramOf, 
 use Rattle.protector.specs.World.{World, statusOf}
 use Rattle.visibility_claims.specs.Ends.{pageEnd}
 use Rattle.change_claims.proofs.Default.{fit-end}
-use Rattle.history.specs.Seen.{Seen, isWaiting}
-use Rattle.history.specs.Marks.{Has, Marked, Holds, readOff, Settled}
+use Rattle.history.specs.Seen.{underWayNumber, haltedNumber, Seen, isWaiting}
+use Rattle.history.specs.Marks.{Has, Exact, Marked, readOff, Settled}
+use Rattle.history.specs.Resting.{Rests}
 use Rattle.history.specs.Claim.{ClaimFrom}
 use Rattle.history.specs.History.{History}
 use Rattle.history.proofs.Bits.{clash}
@@ -35,16 +32,33 @@ use Rattle.history.proofs.Ages.{Aged}
 use Rattle.history.proofs.Aging.{Snp}
 use Rattle.history.proofs.Answered.{answered, composed}
 use Rattle.history.proofs.Follows.{asked-from}
-use Rattle.history.proofs.Histories.{Lent, lent-kept, history-keeps, stands-kept, Both, both-kept}
+use Rattle.history.proofs.Fits.{private-long, shared-long}
+use Rattle.history.proofs.Histories.{Unlisted, Lent, lent-kept, history-keeps}
+use Rattle.history.proofs.Tables.{pending-idle}
+use Rattle.history.proofs.PermittedCalls.{not-listing}
+use Rattle.history.proofs.Invariant.{Invariant, invariant-kept}
+use Rattle.history.proofs.Unasked.{unasked}
 
--- what stands says of the marks
-stands-marked : (es : List MemoryRangeWithNode) (w : World) (o : Seen) → Stands es w o → Marked es (w .maps) o
-stands-marked es w o k =
+-- ---- what the invariant says of the marks
+
+stands-exact : (es : List MemoryRangeWithNode) (w : World) (o : Seen) → Stands es w o → (z : ℕ) → isRam es z ≡ true → among (o .listed) z ≡ false → Exact (w .maps) o z
+stands-exact es w o k z r off =
+    let g = k .right in
+    let f = g .full z r (λ j a b d y. clash (among (o .listed) z) (ap (among (o .listed)) (sym y) ∙ g .named a j b d) off) (λ _. off) in
+    record {
+      private = λ e. f .0 (ap isShared e);
+      private-only = λ h. is-private (o .last z) (g .only-private z h);
+      shared = λ e. f .1 (ap isShared e);
+      shared-only = λ h. is-shared (o .last z) (g .only-shared z h);
+    }
+
+stands-marked : (es : List MemoryRangeWithNode) (w : World) (o : Seen) → Stands es w o → Unlisted w o → Marked es (w .maps) o
+unfolding among
+stands-marked es w o k n =
     let g = k .right in
     record {
-      exact = λ z r off.
-          let f = g .full z r (λ j a b d y. clash (among (o .listed) z) (ap (among (o .listed)) (sym y) ∙ g .named a j b d) off) (λ _. off) in
-          (λ e. f .0 (ap isShared e), λ e. f .1 (ap isShared e));
+      exact = stands-exact es w o k;
+      at-rest = λ f h z r. stands-exact es w o k z r (ap (λ (l : List ℕ). among l z) (n f h));
       private-right = λ z h. is-private (o .last z) (g .only-private z h);
       shared-right = λ z h. is-shared (o .last z) (g .only-shared z h);
       never-both = λ z a b. clash (sharedIn o z) (g .only-shared z b) (g .only-private z a);
@@ -53,16 +67,22 @@ stands-marked es w o k =
     }
 
 -- of every list of calls from any world that meets the invariant, whatever was seen before
-holds-from : (es : List MemoryRangeWithNode) (i : IsolationType) {w v : World} {a o : Seen} → Stands es w a → (isSnp i ≡ true → Snp w a) → History w a v o → Holds es i (v .maps) o
-holds-from es i {w} {v} {a} {o} k f h =
+claim-from : (es : List MemoryRangeWithNode) (l : List ℕ) (i t r : ℕ) {w v : World} {a o : Seen} → Invariant es l i t r w a → pageEnd es ≤ 2 ^ 52 → isWaiting a ≡ false
+    → (h : History w a v o) → ClaimFrom es i t r h
+claim-from es l i t r {w} {v} {a} {o} k end free h =
+    let x : Invariant es l i t r v o = invariant-kept es l i t r h k in
     record {
-      marks = stands-marked es v o (history-keeps (Stands es) (stands-kept es) h k);
-      settled = λ e. history-keeps (Both es) (both-kept es) h (record { stands = k; ages = f e }) .ages .ages .settled;
+      unasked = unasked;
+      answered = answered h;
+      composed = composed h;
+      asked = asked-from es (k .stands) end free h;
+      long = x .whole .long;
+      lent = x .whole .fit;
+      holds = record { marks = stands-marked es v o (x .stands) (x .unlisted); settled = λ e. x .ages e .ages .settled };
+      tables = x .tables;
+      settings = x .settings;
+      permitted = x .permitted;
     }
-
-claim-from : (es : List MemoryRangeWithNode) (i : IsolationType) {w v : World} {a o : Seen} → Stands es w a → pageEnd es ≤ 2 ^ 52 → isWaiting a ≡ false → (isSnp i ≡ true → Snp w a)
-    → (h : History w a v o) → ClaimFrom es i h
-claim-from es i k end free f h = record { answered = answered h; asked = asked-from es k end free h; composed = composed h; holds = holds-from es i k f h }
 
 -- ---- where nothing is under way
 
@@ -84,8 +104,8 @@ by-idle C at.Zero e c = absurd (no-status (statusOf at.Zero) refl e)
 by-idle C at.ProtectDefault0 e c = absurd (no-status (statusOf at.ProtectDefault0) refl e)
 by-idle C at.ProtectDefault1 e c = absurd (no-status (statusOf at.ProtectDefault1) refl e)
 
-resting : (b : Bool) (p : Phase) → cond b 19 (statusOf p) ≡ 0 → statusOf p ≡ 0
-resting true p e = absurd (no-status 19 refl e)
+resting : (b : Bool) (p : Phase) → cond b underWayNumber (statusOf p) ≡ 0 → statusOf p ≡ 0
+resting true p e = absurd (no-status underWayNumber refl e)
 resting false p e = e
 
 module _ (w : World) (k : Settled w) where
@@ -101,12 +121,6 @@ module _ (w : World) (k : Settled w) where
   rests : statusOf p ≡ 0
   rests = resting (isChanging (w .state)) p (k .idle)
 
-  long-private : length (w .maps .private) ≡ mapLen es
-  long-private = eqb-true _ _ (and-left _ _ (and-left _ _ (and-left _ _ (k .lent))))
-
-  long-shared : length (w .maps .shared) ≡ mapLen es
-  long-shared = eqb-true _ _ (and-right (eqb (length (w .maps .private)) (mapLen es)) (eqb (length (w .maps .shared)) (mapLen es)) (and-left _ _ (and-left _ _ (k .lent))))
-
   unshared : (z : ℕ) → Has (w .maps .private) z → bitAt 8 (w .maps .shared) z ≡ false
   unshared z h = go (bitAt 8 (w .maps .shared) z) refl
     where
@@ -117,8 +131,8 @@ module _ (w : World) (k : Settled w) where
   right : Right (isRam es) (w .maps .private) (w .maps .shared) at.Idle (requestOf (w .state)) (w .pages) false [] (λ z. bitAt 8 (w .maps .shared) z)
   right =
       record {
-        room-private = λ z r. omega (arith, long-private, room z r);
-        room-shared = λ z r. omega (arith, long-shared, room z r);
+        room-private = λ z r. omega (arith, private-long w (k .lent), room z r);
+        room-shared = λ z r. omega (arith, shared-long w (k .lent), room z r);
         private-ram = k .private-ram;
         shared-ram = k .shared-ram;
         only-private = unshared;
@@ -137,8 +151,8 @@ module _ (w : World) (k : Settled w) where
         layout = refl;
         right = right-same (sharedIn (readOff (w .maps))) false (λ z. shared-as (bitAt 8 (w .maps .shared) z))
             (by-idle (λ (p : Phase). Right (isRam es) (w .maps .private) (w .maps .shared) p (requestOf (w .state)) (w .pages) false [] (λ z. bitAt 8 (w .maps .shared) z)) p rests right);
-        halts = sym (ap (λ (n : ℕ). eqb n 20) (k .idle));
-        waits = sym (ap (λ (n : ℕ). eqb n 19) (k .idle));
+        halts = sym (ap (λ (n : ℕ). eqb n haltedNumber) (k .idle));
+        waits = sym (ap (λ (n : ℕ). eqb n underWayNumber) (k .idle));
         names = by-idle (λ (p : Phase). Names p (requestOf (w .state)) (w .pages) (readOff (w .maps) .op)) p rests refl;
         table = by-idle (λ (p : Phase). opened p ≡ true → [] ≡ w .pages) p rests (λ e. clash false e refl);
       }
@@ -151,10 +165,29 @@ module _ (w : World) (k : Settled w) where
             (record { settled = λ z h. refl; long = λ o. clash false o refl; came = λ o. clash false o refl; past = λ o. clash false o refl; valid = λ o. clash false o refl });
       }
 
-  -- THE CLAIM
-  pub settled-hold : {v : World} {o : Seen} (h : History w (readOff (w .maps)) v o) → ClaimFrom es (settingsOf (w .state) .isolation) h
-  settled-hold h = claim-from es (settingsOf (w .state) .isolation) settled-stands (fit-end (ramOf (w .state)) (k .layout)) refl settled-aged h
-
   -- the invariant stands, and what was last left has its lengths
   pub settled-lent : {v : World} {o : Seen} → History w (readOff (w .maps)) v o → Lent es v o
-  settled-lent h = history-keeps (Lent es) (lent-kept es) h (record { stands = settled-stands; whole = record { long = k .long; fit = k .lent } })
+  settled-lent h = history-keeps (Lent es) (lent-kept es) h (record { first = settled-stands; second = record { long = k .long; fit = k .lent } })
+
+-- ---- and all else is as it should be
+
+module _ {i t r : ℕ} (w : World) (k : Rests i t r w) where
+  rests-invariant : Invariant (entriesIn (w .state)) (ramOf (w .state)) i t r w (readOff (w .maps))
+  rests-invariant =
+      record {
+        stands = settled-stands w (k .settled);
+        tables = record { tables = k .tables; pending = pending-idle (entriesIn (w .state)) (w .state) (w .tables) (k .settled .idle) };
+        permitted = record { inside = k .inside; listed = λ e. absurd (not-listing (w .state) (k .settled .idle) e) };
+        ages = λ e. settled-aged w (k .settled) (ap (λ (n : ℕ). isSnp (isolationOf n)) (k .settings .same-isolation) ∙ e);
+        whole = record { long = k .settled .long; fit = k .settled .lent };
+        unlisted = λ _ _. refl;
+        settings = k .settings;
+        ram = refl;
+      }
+
+  -- THE CLAIM
+  pub settled-hold : {v : World} {o : Seen} (h : History w (readOff (w .maps)) v o) → ClaimFrom (entriesIn (w .state)) i t r h
+  settled-hold h = claim-from (entriesIn (w .state)) (ramOf (w .state)) i t r rests-invariant (fit-end (ramOf (w .state)) (k .settled .layout)) refl h
+
+  pub settled-invariant : {v : World} {o : Seen} → History w (readOff (w .maps)) v o → Invariant (entriesIn (w .state)) (ramOf (w .state)) i t r v o
+  settled-invariant h = invariant-kept (entriesIn (w .state)) (ramOf (w .state)) i t r h rests-invariant

@@ -22,7 +22,7 @@ use Rattle.acceptor.specs.Steps.{runOf}
 use Rattle.protector_state.specs.declared.Reply.{Reply}
 use Rattle.protector_state.specs.Reply.{modifies, onRun, flatOf}
 use Rattle.protector.specs.World.{statusOf, putPlaces}
-use Rattle.history.specs.Seen.{asks, goesOn}
+use Rattle.history.specs.Seen.{wrongLength, underWayNumber, haltedNumber, nothingAsked, asks, goesOn}
 use Rattle.history.proofs.Bits.{Has, clash, of-part, inside, set-cases, set-has, set-keeps}
 
 -- the pages under way bear neither mark while one of these operations is outstanding
@@ -113,10 +113,10 @@ pub record Right (ram : ℕ → Bool) (P S : List ℕ) (p : Phase) (q : Request)
 
 -- what it tells: a taken answer, halted or waiting as its phase is, and the operation that its phase names
 pub record Tells (i : IsolationType) (t : List ℕ) (x : Step) : Type 0 where
-  pub not4 : eqb (flatOf i (x .answer) .number) 4 ≡ false
-  pub not21 : eqb (flatOf i (x .answer) .number) 21 ≡ false
-  pub halts : eqb (flatOf i (x .answer) .number) 20 ≡ isHalted (x .phase)
-  pub waits : asks (flatOf i (x .answer)) ≡ eqb (statusOf (x .phase)) 19
+  pub not4 : eqb (flatOf i (x .answer) .number) wrongLength ≡ false
+  pub not21 : eqb (flatOf i (x .answer) .number) nothingAsked ≡ false
+  pub halts : eqb (flatOf i (x .answer) .number) haltedNumber ≡ isHalted (x .phase)
+  pub waits : asks (flatOf i (x .answer)) ≡ eqb (statusOf (x .phase)) underWayNumber
   pub stays : opened (x .phase) ≡ true → goesOn (flatOf i (x .answer)) ≡ true
   pub names : Names (x .phase) (x .request) t (flatOf i (x .answer))
 

@@ -4,23 +4,20 @@ use mathlib.Core.Path.{_≡_, refl, ap}
 use mathlib.Core.List.{List}
 use mathlib.Core.Bool.{Bool, true, false, cond}
 use lib.Dec.{eqb, ltb}
-use lib.ListN.{length}
 use Rattle.permissions.specs.declared.GuestVtl.{GuestVtl}
 use Rattle.permissions.specs.Flags.{vtlOf, boolOf, bitsOf}
-use Rattle.pages.specs.Pages.{pagesOf}
 use Rattle.overlays.specs.Overlays.{isOverlay}
-use Rattle.changes.specs.declared.Entry.{Entry}
-use Rattle.changes.specs.declared.Entry.the-variants.{Keep}
 use Rattle.changes.specs.declared.Change.{Change}
 use Rattle.changes.specs.declared.ChangeStep.{ChangeStep}
-use Rattle.changes.specs.Changes.{protect, ask, wait, protectPages, changeOf, startNew, startOld}
+use Rattle.changes.specs.Changes.{protect, startNew, startOld}
 use Rattle.protector_state.specs.State.{settingsOf}
-use Rattle.protector.specs.World.{World, world, Outcome, overlaysOf, fits, entered}
+use Rattle.protector.specs.World.{World, world, Outcome, overlaysOf, fits}
 use Rattle.protector.specs.Calls.{refusedBy, carriedOut, carriedChange, visibilityRefusal, visibilityTaken, visibilityOf}
-use Rattle.vtl_protections.specs.Calls.{protectionRefusal, allListed, protectionStep, protectionTaken, protectionOf, defaultRefusal, storedDefault, stored, barred, renewedIn, defaultStarted, defaultTaken, defaultOf}
+use Rattle.vtl_protections.specs.Calls.{protectionRefusal, protectionTaken, protectionOf, defaultRefusal, storedDefault, stored, barred, renewedIn, defaultStarted, defaultTaken, defaultOf}
 use Rattle.overlay_tests.specs.Refusals.{registerRefusal, unregisterRefusal}
 use Rattle.overlay_pages.specs.Calls.{currentIn, entryIn, counting, registerTaken, registerOf, unregisterTaken, unregisterOf}
 use Rattle.history.specs.Made.{butTables, butMarksTables, butMarksPages}
+use Rattle.history.proofs.Effects.{protection-alone}
 
 -- a visibility change spares the tables
 visibility-tables : (w : World) (vtl share : ℕ) (l : List ℕ) → visibilityOf w vtl share l .world .tables ≡ w .tables
@@ -53,25 +50,10 @@ kept-by false X Y f l a c = c
 refused : (w : World) (n : ℕ) → Spares w (refusedBy w n)
 refused w n = record { private = refl; shared = refl }
 
-enters-none : (tracked : Bool) (q : Change) (t : List ℕ) (a : ℕ) → protectPages tracked q t a .entry ≡ Keep
-unfolding protectPages protect wait ask
-enters-none tracked q t a = go (ltb a (q .n)) _ _ refl refl
-  where
-    go : (b : Bool) (x y : ChangeStep) → x .entry ≡ Keep → y .entry ≡ Keep → cond b x y .entry ≡ Keep
-    go true x y e f = e
-    go false x y e f = f
-
 module _ (w : World) where
   protection-spares : (vtl flags : ℕ) (l : List ℕ) → Spares w (protectionOf w vtl flags l)
   unfolding protectionOf protectionTaken
   protection-spares vtl flags l = choose w (eqb (protectionRefusal (w .state) (fits w) (w .maps .shared) (w .tables) vtl flags l) 0) _ _ (spared w (w .state) (w .tables) _ _) (refused w _)
-
-  protection-tables : (vtl flags : ℕ) (l : List ℕ) → protectionOf w vtl flags l .world .tables ≡ w .tables
-  unfolding protectionOf protectionTaken carriedChange entered
-  protection-tables vtl flags l =
-      let t : List ℕ = allListed l (w .pages) in
-      kept-by (eqb (protectionRefusal (w .state) (fits w) (w .maps .shared) (w .tables) vtl flags l) 0) (protectionTaken w (vtlOf vtl) flags l) _ (λ (w : World). w .tables) (w .tables)
-      (ap (λ (e : Entry). entered e (protectionStep (w .state) t (vtlOf vtl) flags (length (pagesOf l)) .change) (w .tables)) (enters-none (settingsOf (w .state) .tracked) (changeOf (vtlOf vtl) flags (length (pagesOf l))) t 0)) refl
 
   default-spares : (vtl flags : ℕ) → Spares w (defaultOf w vtl flags)
   unfolding defaultOf defaultTaken defaultStarted
@@ -126,7 +108,7 @@ module _ (w : World) where
   visibility-same vtl share l = same (visibilityOf w vtl share l .world) _ _ _ _ refl refl refl (visibility-tables w vtl share l)
 
   pub protection-same : (vtl flags : ℕ) (l : List ℕ) → let v = protectionOf w vtl flags l .world in butMarksTables w v ≡ v
-  protection-same vtl flags l = let s = protection-spares w vtl flags l in same (protectionOf w vtl flags l .world) _ _ _ _ (s .private) (s .shared) refl (protection-tables w vtl flags l)
+  protection-same vtl flags l = let s = protection-spares w vtl flags l in same (protectionOf w vtl flags l .world) _ _ _ _ (s .private) (s .shared) refl (protection-alone w vtl flags l)
 
   pub default-same : (vtl flags : ℕ) → let v = defaultOf w vtl flags .world in butMarksPages w v ≡ v
   default-same vtl flags = let s = default-spares w vtl flags in same (defaultOf w vtl flags .world) _ _ _ _ (s .private) (s .shared) (default-pages w vtl flags) refl

@@ -1,6 +1,6 @@
 -- What every call keeps of the state block, where it keeps it as a request or a change is written, a default stored, and protections enabled. Assumes nothing.
-use mathlib.Core.Path.{_≡_, refl}
-use mathlib.Core.Bool.{Bool, true, false, cond}
+use mathlib.Core.Path.{_≡_}
+use mathlib.Core.Bool.{true, false}
 use mathlib.Core.List.{List}
 use Prim.Native.Nat.{ℕ, _+_, _-_, _<_}
 use lib.Dec.{eqb, ltb}
@@ -9,7 +9,6 @@ use borrow.Author.Tests.{eqb-true}
 use Rattle.laws.specs.Refusal.{passed}
 use Rattle.permissions.specs.declared.GuestVtl.{GuestVtl}
 use Rattle.permissions.specs.Flags.{vtlOf}
-use Rattle.permissions.specs.HvError.{codeOf}
 use Rattle.overlays.specs.Overlays.{isOverlay}
 use Rattle.acceptor.specs.declared.Phase.{Phase}
 use Rattle.acceptor.specs.declared.Request.{Request}
@@ -17,7 +16,6 @@ use Rattle.acceptor.specs.declared.Step.{Step}
 use Rattle.changes.specs.declared.Stage.{Stage}
 use Rattle.changes.specs.declared.Change.{Change}
 use Rattle.changes.specs.declared.ChangeStep.{ChangeStep}
-use Rattle.protector_state.specs.Reply.{finished}
 use Rattle.protector_state.specs.State.{stateLen, withRequest, settingsOf}
 use Rattle.change_state.specs.State.{isChanging, withChange}
 use Rattle.protector.specs.World.{World, overlaysOf, fits}
@@ -25,12 +23,13 @@ use Rattle.protector.specs.Calls.{refusedBy, carriedOut, carriedChange, visibil
 use Rattle.vtl_protections.specs.Calls.{storedDefault, protectionRefusal, protectionTaken, protectionOf, defaultRefusal, stored, barred, renewedIn, defaultStarted, defaultTaken, defaultOf}
 use Rattle.overlay_tests.specs.Refusals.{unregisterRefusal, registerRefusal}
 use Rattle.overlay_pages.specs.Calls.{entryIn, counting, unregisterTaken, unregisterOf, currentIn, registerTaken, registerOf}
-use Rattle.vtl1_protections.specs.Calls.{stateRefusal, enableRefusal, enabled, enableOf}
 use Rattle.visibility_claims.specs.Whole.{Given, Succeeds, Fails}
 use Rattle.visibility_claims.specs.Calls.{answerOf}
-use Rattle.history.specs.Call.{Act, Visibility, Protection, Default, Register, Unregister, Lock, Unlock, Enable, Call, Do, Read, Answer, does, gives}
-use Rattle.history.proofs.Calls.{status}
+use Rattle.history.specs.Seen.{Seen}
+use Rattle.history.specs.Call.{Writer, Visibility, Protection, Default, Register, Unregister, Lock, Unlock, Enable, Call, Write, Read, Answer, givesWriter, gives}
 use Rattle.history.proofs.Deciding.{decides, either}
+use Rattle.history.proofs.Frame.{setter-frame}
+use Rattle.history.proofs.Histories.{InWorld, KeepsWith}
 use Rattle.history.proofs.Tabled.{flags-fit}
 
 pub record Words (K : List ℕ → Type 0) : Type 0 where
@@ -51,16 +50,6 @@ module _ (K : List ℕ → Type 0) (f : Words K) where
   unfolding carriedOut
   stepped w p x k = f .requested (x .phase) (x .request) (w .state) k
 
-  enable-set : (s : List ℕ) → K s → K (enableOf s .state)
-  unfolding enableOf enableRefusal stateRefusal
-  enable-set s k = go (eqb (enableRefusal s) 0) refl
-    where
-      go : (b : Bool) → eqb (enableRefusal s) 0 ≡ b → K (cond b (enabled (set s 19 1) (finished 0 0 0 0)) (enabled s (finished (enableRefusal s) (codeOf (enableRefusal s)) 0 0)) .state)
-      go true e =
-          let a = status (stateRefusal s) _ (eqb-true (enableRefusal s) 0 e) in
-          f .enabling s (passed (settingsOf s .tracked) 23 _ (a .1) .0) (eqb-true _ _ (passed (eqb (length s) stateLen) 3 _ (a .0) .0)) k
-      go false e = k
-
   default-set : (w : World) (v : GuestVtl) (flags : ℕ) → S w → S (defaultTaken w v flags .world)
   unfolding defaultTaken defaultStarted
   default-set w v flags k =
@@ -71,22 +60,22 @@ module _ (K : List ℕ → Type 0) (f : Words K) where
   long-passed w vtl flags z = eqb-true _ _ (passed (eqb (length (w .state)) stateLen) 3 _ z .0)
 
   module _ (w : World) (k : S w) where
-    set-act : (a : Act) → S (does a w .world)
+    set-writer : (a : Writer) → S (givesWriter a w .world)
     unfolding visibilityOf visibilityTaken protectionOf protectionTaken defaultOf registerOf registerTaken unregisterOf unregisterTaken
-    set-act (Visibility vtl share list) = decides S w (visibilityRefusal (w .state) (fits w) (w .tables) vtl share list) _ k (λ _. stepped w _ _ k)
-    set-act (Protection vtl flags list) = decides S w (protectionRefusal (w .state) (fits w) (w .maps .shared) (w .tables) vtl flags list) _ k (λ _. carried w _ _ k)
-    set-act (Default vtl flags) =
+    set-writer (Visibility vtl share list) = decides S w (visibilityRefusal (w .state) (fits w) (w .tables) vtl share list) _ k (λ _. stepped w _ _ k)
+    set-writer (Protection vtl flags list) = decides S w (protectionRefusal (w .state) (fits w) (w .maps .shared) (w .tables) vtl flags list) _ k (λ _. carried w _ _ k)
+    set-writer (Default vtl flags) =
         decides S w (defaultRefusal (w .state) (fits w) vtl flags) _ k
         (λ z. default-set (stored w (vtlOf vtl) flags) (vtlOf vtl) flags (f .defaulted (w .state) (vtlOf vtl) flags (flags-fit w vtl flags z) (long-passed w vtl flags z) k))
-    set-act (Register vtl page source checked new) =
+    set-writer (Register vtl page source checked new) =
         decides S w (registerRefusal (w .state) (fits w) (w .maps .shared) (w .tables) (currentIn w (vtlOf vtl) page source) vtl page source checked new) _ k
         (λ _. either S (isOverlay (overlaysOf (w .tables) (vtlOf vtl)) page) (counting w (vtlOf vtl) page (entryIn (w .tables) (vtlOf vtl) page .«ref_count» + 1)) _ k (carried w (w .pages) _ k))
-    set-act (Unregister vtl page) =
+    set-writer (Unregister vtl page) =
         decides S w (unregisterRefusal (w .state) (fits w) (w .tables) vtl page) _ k
         (λ _. either S (ltb 1 (entryIn (w .tables) (vtlOf vtl) page .«ref_count»)) (counting w (vtlOf vtl) page (entryIn (w .tables) (vtlOf vtl) page .«ref_count» - 1)) _ k (carried w (w .pages) _ k))
-    set-act (Lock vtl list) = k
-    set-act (Unlock vtl list) = k
-    set-act Enable = enable-set (w .state) k
+    set-writer (Lock vtl list) = k
+    set-writer (Unlock vtl list) = k
+    set-writer Enable = setter-frame K (w .state) k (λ tracked long. f .enabling (w .state) tracked long k)
 
     set-answer : (g : Given) → S (answerOf g w .world)
     unfolding answerDone answerFailed
@@ -95,7 +84,10 @@ module _ (K : List ℕ → Type 0) (f : Words K) where
     set-answer (Fails code n) =
         decides S w (answerRefusal (w .state) (fits w) true) _ k (λ _. either S (isChanging (w .state)) (changeFailed w) (visibilityFailed w code n) (carried w (w .pages) _ k) (stepped w (w .pages) _ k))
 
-    pub words-step : (c : Call) → S (gives c w .world)
-    words-step (Do a) = set-act a
+    words-step : (c : Call) → S (gives c w .world)
+    words-step (Write a) = set-writer a
     words-step (Read q) = k
     words-step (Answer g) = set-answer g
+
+  pub words-kept : (P : World → Seen → Type 0) → KeepsWith P (InWorld S)
+  words-kept P c w o _ k = words-step w k c

@@ -17,7 +17,7 @@ use Rattle.overlay_pages.specs.Calls.{currentIn}
 use Rattle.locked_pages.specs.Calls.{lockRefusal}
 use Rattle.vtl1_protections.specs.Calls.{stateRefusal, enableRefusal}
 use Rattle.visibility_claims.specs.Whole.{Given}
-use Rattle.history.specs.Seen.{Seen, isTaken, seesTaken, seesAnswer}
+use Rattle.history.specs.Seen.{wrongLength, haltedNumber, Seen, isTaken, seesTaken, seesAnswer}
 use Rattle.history.specs.History.{Stray, block, other, StrayLock, lockBlock, lockTables}
 use Rattle.history.proofs.Bits.{clash}
 use Rattle.history.proofs.Answers.{chain, counts, chain-untaken}
@@ -32,7 +32,7 @@ pub not-whole : (u x : World) → Stray u x → Whole x → ⊥
 not-whole u x (block f) k = f (k .long)
 not-whole u x (other e f) k = clash (fits x) (k .fit) f
 
-begins : (x : World) (rest : ℕ) → unless (eqb (length (x .state)) stateLen) 4 (unless (eqb (statusIn (x .state)) 0) (statusIn (x .state)) (unless (fits x) 4 rest)) ≡ 0 → Whole x
+begins : (x : World) (rest : ℕ) → unless (eqb (length (x .state)) stateLen) wrongLength (unless (eqb (statusIn (x .state)) 0) (statusIn (x .state)) (unless (fits x) wrongLength rest)) ≡ 0 → Whole x
 begins x rest z =
     let a = passed (eqb (length (x .state)) stateLen) 3 _ z in
     let b = status (statusIn (x .state)) _ (a .1) in
@@ -67,16 +67,16 @@ pub answer-whole : (x : World) (failed : Bool) → answerRefusal (x .state) (fit
 unfolding answerRefusal
 answer-whole x failed z =
     let a = passed (eqb (length (x .state)) stateLen) 3 _ z in
-    let b = passed (not (eqb (statusIn (x .state)) 20)) 19 _ (a .1) in
+    let b = passed (not (eqb (statusIn (x .state)) haltedNumber)) 19 _ (a .1) in
     record { long = eqb-true _ _ (a .0); fit = passed (fits x) 3 _ (b .1) .0 }
 
 -- an answer refused so
-module _ (u x : World) (o : Seen) (halts : o .halted ≡ eqb (statusIn (u .state)) 20) (failed : Bool) (T : Outcome) (s : Stray u x) where
+module _ (u x : World) (o : Seen) (halts : o .halted ≡ eqb (statusIn (u .state)) haltedNumber) (failed : Bool) (T : Outcome) (s : Stray u x) where
   abbrev A : Bool
   A = eqb (length (x .state)) stateLen
 
   abbrev H : Bool
-  H = eqb (statusIn (x .state)) 20
+  H = eqb (statusIn (x .state)) haltedNumber
 
   abbrev D : Bool
   D = takesIn (x .state) failed
@@ -91,11 +91,11 @@ module _ (u x : World) (o : Seen) (halts : o .halted ≡ eqb (statusIn (u .state
   untaken : Stray u x → counts (o .halted) (chain A H (fits x) D) ≡ false
   untaken (block f) = ap (λ (a : Bool). counts (o .halted) (chain a H (fits x) D)) (ne-eqb (length (x .state)) stateLen f) ∙ shut (o .halted)
     where
-      shut : (h : Bool) → counts h 4 ≡ false
+      shut : (h : Bool) → counts h wrongLength ≡ false
       shut true = refl
       shut false = refl
   untaken (other e f) =
-      ap (λ (h : Bool). counts h (chain A H (fits x) D)) (halts ∙ ap (λ (s : List ℕ). eqb (statusIn s) 20) (sym e))
+      ap (λ (h : Bool). counts h (chain A H (fits x) D)) (halts ∙ ap (λ (s : List ℕ). eqb (statusIn s) haltedNumber) (sym e))
       ∙ chain-untaken A H (fits x) D (nonzero A H (fits x) D (λ _ c. clash (fits x) c f))
 
   taken-not : eqb (chain A H (fits x) D) 0 ≡ false

@@ -16,7 +16,6 @@ use Rattle.permissions.specs.declared.GuestVtl.{GuestVtl}
 use Rattle.permissions.specs.declared.GuestVtl.the-variants.{Vtl0, Vtl1}
 use Rattle.permissions.specs.declared.HvMapGpaFlags.{HvMapGpaFlags}
 use Rattle.permissions.specs.Flags.{fitVtl, vtlOf, fitFlags, flagsOf, boolOf, bitsOf}
-use Rattle.permissions.specs.HvError.{codeOf}
 use Rattle.pages.specs.Pages.{pagesOf}
 use Rattle.overlays.specs.declared.OverlayPage.{OverlayPage}
 use Rattle.overlays.specs.Overlays.{used, isOverlay, placeOf, entryAt, addCode}
@@ -24,7 +23,6 @@ use Rattle.acceptor.specs.declared.Step.{Step}
 use Rattle.changes.specs.declared.ChangeStep.{ChangeStep}
 use Rattle.changes.specs.Changes.{changeOf, startNew, startOld}
 use Rattle.protector_state.specs.State.{stateLen, settingsOf, entriesIn}
-use Rattle.protector_state.specs.Reply.{finished}
 use Rattle.change_state.specs.State.{stageIn, isChanging, changeIn}
 use Rattle.protector.specs.World.{World, world, Outcome, overlaysOf, locksOf, isLocked, fits, statusIn}
 use Rattle.protector.specs.Calls.{refusedBy, carriedOut, carriedChange, visibilityRefusal, visibilityTaken, visibilityOf, answerRefusal, nextIn, afterDone, afterFailed, visibilityDone, visibilityFailed, changeDone, changeFailed, answerDone, answerFailed}
@@ -32,20 +30,21 @@ use Rattle.vtl_protections.specs.Calls.{protectionRefusal, allListed, protectio
 use Rattle.overlay_tests.specs.Refusals.{unregisterRefusal, registerRefusal, within, knownRefusal, guestRefusal, dmaRefusal, pageRefusal, neededOf}
 use Rattle.overlay_tests.proofs.Laws.{call-passed, flags-passed}
 use Rattle.overlay_pages.specs.Calls.{entryIn, counting, unregisterTaken, unregisterOf, currentIn, registerTaken, registerOf}
-use Rattle.vtl1_protections.specs.Calls.{enableRefusal, enabled, enableOf}
+use Rattle.vtl1_protections.specs.Calls.{enableOf}
 use Rattle.visibility_claims.specs.Whole.{Given, Succeeds, Fails}
 use Rattle.visibility_claims.specs.Calls.{answerOf}
-use Rattle.history.specs.Tables.{Tables, Kept}
-use Rattle.history.proofs.Calls.{status}
+use Rattle.history.specs.Call.{Writer, Visibility, Protection, Default, Register, Unregister, Lock, Unlock, Enable, Call, Write, Read, Answer, givesWriter, gives}
+use Rattle.history.specs.Tables.{Tables, TablesFit}
+use Rattle.history.proofs.World.{Stands}
+use Rattle.history.proofs.Frame.{setter-frame}
+use Rattle.history.proofs.Histories.{KeepsWith, InWorld}
+use Rattle.history.proofs.Locked.{lock-tables, unlock-tables}
+use Rattle.history.proofs.Calls.{not-true, status}
 use Rattle.history.proofs.Deciding.{decides, either}
 use Rattle.history.proofs.Entries.{overlays-entry, overlays-counted, overlays-renewed}
-use Rattle.history.proofs.Tables.{put, pending-written, pending-request, pending-idle, pending-set, Sound, sound-pages, sound-ram, sound-done, sound-failed, sound-new, sound-old}
+use Rattle.history.proofs.Tables.{put, pending-written, pending-request, pending-idle, pending-same, pending-set, Sound, sound-pages, sound-ram, sound-done, sound-failed, sound-new, sound-old}
 
 -- ---- what a registration that is taken has found of its page
-
-no : (b : Bool) → not b ≡ true → b ≡ false
-no true e = sym e
-no false e = refl
 
 pub record Fresh (es : List MemoryRangeWithNode) (o : List ℕ) (p source : ℕ) : Type 0 where
   pub page : isRam es p ≡ eqb source 0
@@ -80,7 +79,7 @@ module _ (es : List MemoryRangeWithNode) (shared o locks : List ℕ) (p source :
           let a = passed (not (isRam es p)) 6 _ z in
           let b = passed (not (isLocked o locks p)) 9 _ (a .1) in
           let one : source ≡ 1 = eqb-true source 1 e in
-          record { page = no (isRam es p) (a .0) ∙ sym (ne-eqb source 0 (λ d. omega (arith, one, d))); room = room-left (b .1) }
+          record { page = not-true (isRam es p) (a .0) ∙ sym (ne-eqb source 0 (λ d. omega (arith, one, d))); room = room-left (b .1) }
       go false e z =
           let a = passed (isRam es p) 6 _ z in
           let b = passed (within current (flagsOf checked)) 12 _ (a .1) in
@@ -111,65 +110,60 @@ flags-fit w vtl flags z =
 -- ---- the calls
 
 module _ (es : List MemoryRangeWithNode) where
-  made : (w : World) (p : List ℕ) (x : ChangeStep) → Sound es (w .tables) x → Kept es (carriedChange w p x .world)
+  made : (w : World) (p : List ℕ) (x : ChangeStep) → Sound es (w .tables) x → TablesFit es (carriedChange w p x .world)
   unfolding carriedChange
   made w p x k = record { tables = k .tables; pending = pending-written es (x .stage) (x .change) (w .state) _ (k .pending) }
 
-  asked : (w : World) (p : List ℕ) (x : Step) → Tables es (w .tables) → Kept es (carriedOut w p x .world)
+  asked : (w : World) (p : List ℕ) (x : Step) → Tables es (w .tables) → TablesFit es (carriedOut w p x .world)
   unfolding carriedOut
   asked w p x k = record { tables = k; pending = pending-request es (x .phase) (x .request) (w .state) (w .tables) }
 
-  module _ (w : World) (k : Kept es w) where
-    pub visibility-tabled : (vtl share : ℕ) (l : List ℕ) → Kept es (visibilityOf w vtl share l .world)
+  module _ (w : World) (k : TablesFit es w) where
+    visibility-tabled : (vtl share : ℕ) (l : List ℕ) → TablesFit es (visibilityOf w vtl share l .world)
     unfolding visibilityOf visibilityTaken
-    visibility-tabled vtl share l = decides (Kept es) w (visibilityRefusal (w .state) (fits w) (w .tables) vtl share l) _ k (λ _. asked w _ _ (k .tables))
+    visibility-tabled vtl share l = decides (TablesFit es) w (visibilityRefusal (w .state) (fits w) (w .tables) vtl share l) _ k (λ _. asked w _ _ (k .tables))
 
-    pub answer-tabled : (g : Given) → Kept es (answerOf g w .world)
+    answer-tabled : (g : Given) → TablesFit es (answerOf g w .world)
     unfolding answerDone answerFailed afterDone afterFailed
     answer-tabled Succeeds =
-        decides (Kept es) w (answerRefusal (w .state) (fits w) false) _ k
-        (λ _. either (Kept es) (isChanging (w .state)) (changeDone w) (visibilityDone w)
+        decides (TablesFit es) w (answerRefusal (w .state) (fits w) false) _ k
+        (λ _. either (TablesFit es) (isChanging (w .state)) (changeDone w) (visibilityDone w)
         (made w (w .pages) _ (sound-done es (w .tables) (k .tables) (settingsOf (w .state) .tracked) (stageIn (w .state)) (changeIn (w .state)) (w .pages) (nextIn (w .maps .private) (w .state) (w .tables)) (k .pending)))
         (asked w (w .pages) _ (k .tables)))
     answer-tabled (Fails code n) =
-        decides (Kept es) w (answerRefusal (w .state) (fits w) true) _ k
-        (λ _. either (Kept es) (isChanging (w .state)) (changeFailed w) (visibilityFailed w code n)
+        decides (TablesFit es) w (answerRefusal (w .state) (fits w) true) _ k
+        (λ _. either (TablesFit es) (isChanging (w .state)) (changeFailed w) (visibilityFailed w code n)
         (made w (w .pages) _ (sound-failed es (w .tables) (k .tables) (stageIn (w .state)) (changeIn (w .state))))
         (asked w (w .pages) _ (k .tables)))
 
-    pub protection-tabled : (vtl flags : ℕ) (l : List ℕ) → Kept es (protectionOf w vtl flags l .world)
+    protection-tabled : (vtl flags : ℕ) (l : List ℕ) → TablesFit es (protectionOf w vtl flags l .world)
     unfolding protectionOf protectionTaken
     protection-tabled vtl flags l =
-        decides (Kept es) w (protectionRefusal (w .state) (fits w) (w .maps .shared) (w .tables) vtl flags l) _ k
+        decides (TablesFit es) w (protectionRefusal (w .state) (fits w) (w .maps .shared) (w .tables) vtl flags l) _ k
         (λ _. made w (allListed l (w .pages)) _ (sound-pages es (w .tables) (k .tables) (settingsOf (w .state) .tracked) (changeOf (vtlOf vtl) flags (length (pagesOf l))) (allListed l (w .pages)) 0))
 
-    set-tabled : (i x : ℕ) → 13 < i → Kept es (world (w .maps) (set (w .state) i x) (w .pages) (w .tables))
+    set-tabled : (i x : ℕ) → 13 < i → TablesFit es (world (w .maps) (set (w .state) i x) (w .pages) (w .tables))
     set-tabled i x h = record { tables = k .tables; pending = pending-set es (w .state) (w .tables) i x h (k .pending) }
 
-    stored-tabled : (v : GuestVtl) (flags : ℕ) → Kept es (stored w v flags)
+    stored-tabled : (v : GuestVtl) (flags : ℕ) → TablesFit es (stored w v flags)
     stored-tabled Vtl0 flags = set-tabled 20 flags (omega arith)
     stored-tabled Vtl1 flags = set-tabled 21 flags (omega arith)
 
-    pub enable-tabled : Kept es (world (w .maps) (enableOf (w .state) .state) (w .pages) (w .tables))
-    unfolding enableOf
-    enable-tabled = go (eqb (enableRefusal (w .state)) 0)
-      where
-        go : (b : Bool) → Kept es (world (w .maps) (cond b (enabled (set (w .state) 19 1) (finished 0 0 0 0)) (enabled (w .state) (finished (enableRefusal (w .state)) (codeOf (enableRefusal (w .state))) 0 0)) .state) (w .pages) (w .tables))
-        go true = set-tabled 19 1 (omega arith)
-        go false = k
+    enable-tabled : TablesFit es (world (w .maps) (enableOf (w .state) .state) (w .pages) (w .tables))
+    enable-tabled = setter-frame (λ (s : List ℕ). TablesFit es (world (w .maps) s (w .pages) (w .tables))) (w .state) k (λ _ _. set-tabled 19 1 (omega arith))
 
     -- a count changed, where nothing is under way
-    counted : statusIn (w .state) ≡ 0 → (v : GuestVtl) (p n : ℕ) → isOverlay (overlaysOf (w .tables) v) p ≡ true → 1 ≤ n → n ≤ 65535 → Kept es (counting w v p n .world)
+    counted : statusIn (w .state) ≡ 0 → (v : GuestVtl) (p n : ℕ) → isOverlay (overlaysOf (w .tables) v) p ≡ true → 1 ≤ n → n ≤ 65535 → TablesFit es (counting w v p n .world)
     counted idle v p n h a b =
         record {
           tables = put es (w .tables) (k .tables) v _ (overlays-counted es (overlaysOf (w .tables) v) (k .tables .overlays v) p h n a b);
           pending = pending-idle es (w .state) _ idle;
         }
 
-    pub unregister-tabled : (vtl p : ℕ) → Kept es (unregisterOf w vtl p .world)
+    unregister-tabled : (vtl p : ℕ) → TablesFit es (unregisterOf w vtl p .world)
     unfolding unregisterOf unregisterTaken unregisterRefusal
     unregister-tabled vtl p =
-        decides (Kept es) w (unregisterRefusal (w .state) (fits w) (w .tables) vtl p) (unregisterTaken w v p) k
+        decides (TablesFit es) w (unregisterRefusal (w .state) (fits w) (w .tables) vtl p) (unregisterTaken w v p) k
         (λ z. let c = call-passed (w .state) (fits w) vtl _ z in go (eqb-true _ 0 (c .1)) (passed (isOverlay (overlaysOf (w .tables) v) p) 13 _ (c .4) .0) (ltb 1 (e .«ref_count»)) refl)
       where
         v : GuestVtl
@@ -184,17 +178,17 @@ module _ (es : List MemoryRangeWithNode) where
         B : Outcome
         B = carriedChange w (w .pages) (startOld (settingsOf (w .state) .tracked) v p (e .«previous_permissions») (e .«gpn_source»))
 
-        go : statusIn (w .state) ≡ 0 → isOverlay (overlaysOf (w .tables) v) p ≡ true → (b : Bool) → ltb 1 (e .«ref_count») ≡ b → Kept es (cond b A B .world)
+        go : statusIn (w .state) ≡ 0 → isOverlay (overlaysOf (w .tables) v) p ≡ true → (b : Bool) → ltb 1 (e .«ref_count») ≡ b → TablesFit es (cond b A B .world)
         go idle h true d =
             let f = overlays-entry es (overlaysOf (w .tables) v) (k .tables .overlays v) p h in
             let c : 1 < e .«ref_count» = ltb-true 1 (e .«ref_count») d in
             counted idle v p (e .«ref_count» - 1) h (omega (arith, c)) (omega (arith, f .most))
         go idle h false d = made w (w .pages) _ (sound-old es (w .tables) (k .tables) (settingsOf (w .state) .tracked) v p (e .«previous_permissions») (e .«gpn_source») h (ltb-false 1 (e .«ref_count») d))
 
-    pub register-tabled : entriesIn (w .state) ≡ es → (vtl p source checked new : ℕ) → Kept es (registerOf w vtl p source checked new .world)
+    register-tabled : entriesIn (w .state) ≡ es → (vtl p source checked new : ℕ) → TablesFit es (registerOf w vtl p source checked new .world)
     unfolding registerOf registerTaken registerRefusal
     register-tabled layout vtl p source checked new =
-        decides (Kept es) w (registerRefusal (w .state) (fits w) (w .maps .shared) (w .tables) (currentIn w v p source) vtl p source checked new) (registerTaken w v p source new) k
+        decides (TablesFit es) w (registerRefusal (w .state) (fits w) (w .maps .shared) (w .tables) (currentIn w v p source) vtl p source checked new) (registerTaken w v p source new) k
         (λ z. let c = call-passed (w .state) (fits w) vtl _ z in
         let f = flags-passed source checked new _ (c .4) in
         go (eqb-true _ 0 (c .1)) (ltb-true source 2 (f .0)) (f .3) (isOverlay o p) refl)
@@ -221,7 +215,7 @@ module _ (es : List MemoryRangeWithNode) where
         B = carriedChange w (w .pages) x
 
         go : statusIn (w .state) ≡ 0 → source < 2 → pageRefusal (entriesIn (w .state)) (w .maps .shared) o (locksOf (w .tables) v) p source (currentIn w v p source) checked new ≡ 0
-            → (b : Bool) → isOverlay o p ≡ b → Kept es (cond b A B .world)
+            → (b : Bool) → isOverlay o p ≡ b → TablesFit es (cond b A B .world)
         go idle two z true h =
             let c = count-left (entriesIn (w .state)) (w .maps .shared) o (locksOf (w .tables) v) p source (currentIn w v p source) checked new h z in
             counted idle v p (e .«ref_count» + 1) h (omega arith) (omega (arith, c))
@@ -234,17 +228,40 @@ module _ (es : List MemoryRangeWithNode) where
             (λ own d. record { fits = record { counted = omega arith; most = omega arith; previous = few; own = d; source = two; page = ram }; none = h; room = c .room }) few)
 
   -- a default change renews previous permissions, and stores the default where it is refused by 10
-  default-taken : (w : World) → Kept es w → (v : GuestVtl) (flags : ℕ) → flags < 16 → Kept es (defaultTaken w v flags .world)
+  default-taken : (w : World) → TablesFit es w → (v : GuestVtl) (flags : ℕ) → flags < 16 → TablesFit es (defaultTaken w v flags .world)
   unfolding defaultTaken defaultStarted
   default-taken w k v flags h =
       let m : List ℕ = w .maps .private in
       let r : World = renewedIn w v flags in
       let t : Tables es (r .tables) = put es (w .tables) (k .tables) v _ (overlays-renewed es m (entriesIn (w .state)) flags h (overlaysOf (w .tables) v) (k .tables .overlays v)) in
-      either (Kept es) (barred m (w .state) (w .tables) v) (refusedBy w 10) (defaultStarted r v flags) k
+      either (TablesFit es) (barred m (w .state) (w .tables) v) (refusedBy w 10) (defaultStarted r v flags) k
       (made r (w .pages) _ (sound-ram es (r .tables) t (settingsOf (w .state) .tracked) (changeOf v flags 0) (firstPiece m (w .state) (r .tables) v)))
 
-  pub default-tabled : (w : World) → Kept es w → (vtl flags : ℕ) → Kept es (defaultOf w vtl flags .world)
+  default-tabled : (w : World) → TablesFit es w → (vtl flags : ℕ) → TablesFit es (defaultOf w vtl flags .world)
   unfolding defaultOf
   default-tabled w k vtl flags =
-      decides (Kept es) w (defaultRefusal (w .state) (fits w) vtl flags) _ k
+      decides (TablesFit es) w (defaultRefusal (w .state) (fits w) vtl flags) _ k
       (λ z. default-taken (stored w (vtlOf vtl) flags) (stored-tabled w k (vtlOf vtl) flags) (vtlOf vtl) flags (flags-fit w vtl flags z))
+
+-- ---- every call
+
+module _ (es : List MemoryRangeWithNode) (w : World) (layout : entriesIn (w .state) ≡ es) (k : TablesFit es w) where
+  tabled-writer : (a : Writer) → TablesFit es (givesWriter a w .world)
+  tabled-writer (Visibility vtl share list) = visibility-tabled es w k vtl share list
+  tabled-writer (Protection vtl flags list) = protection-tabled es w k vtl flags list
+  tabled-writer (Default vtl flags) = default-tabled es w k vtl flags
+  tabled-writer (Register vtl page source checked new) = register-tabled es w k layout vtl page source checked new
+  tabled-writer (Unregister vtl page) = unregister-tabled es w k vtl page
+  tabled-writer (Lock vtl list) =
+      let x = lock-tables es (w .state) (w .tables) (k .tables) vtl list in record { tables = x .tables; pending = pending-same es (w .state) (w .tables) _ (x .same) (k .pending) }
+  tabled-writer (Unlock vtl list) =
+      let x = unlock-tables es (w .state) (w .tables) (k .tables) vtl list in record { tables = x .tables; pending = pending-same es (w .state) (w .tables) _ (x .same) (k .pending) }
+  tabled-writer Enable = enable-tabled es w k
+
+  tabled-step : (c : Call) → TablesFit es (gives c w .world)
+  tabled-step (Write a) = tabled-writer a
+  tabled-step (Read q) = k
+  tabled-step (Answer g) = answer-tabled es w k g
+
+pub tables-kept : (es : List MemoryRangeWithNode) → KeepsWith (Stands es) (InWorld (TablesFit es))
+tables-kept es c w o k t = tabled-step es w (k .layout) t c

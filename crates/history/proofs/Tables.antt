@@ -11,7 +11,8 @@ use borrow.Author.Tests.{ne-eqb, ltb-true}
 use Rattle.layout.specs.declared.MemoryRangeWithNode.{MemoryRangeWithNode}
 use Rattle.permissions.specs.declared.GuestVtl.{GuestVtl}
 use Rattle.permissions.specs.declared.GuestVtl.the-variants.{Vtl0, Vtl1}
-use Rattle.permissions.specs.Flags.{vtlNumber, vtlOf}
+use Rattle.permissions.proofs.Laws.{vtl-number}
+use Rattle.permissions.specs.Flags.{vtlNumber}
 use Rattle.pages.specs.declared.PageRun.{PageRun}
 use Rattle.pages.specs.Runs.{run}
 use Rattle.overlays.specs.declared.OverlayPage.{OverlayPage}
@@ -30,6 +31,7 @@ use Rattle.protector_state.specs.State.{withRequest}
 use Rattle.change_state.specs.State.{stageOf, stageIn, isChanging, changeIn, withChange}
 use Rattle.protector.specs.World.{overlaysOf, statusIn, withOverlays, entered}
 use Rattle.overlay_pages.proofs.Claims.{overlays-written, locks-kept, vtl1-kept, vtl0-kept}
+use Rattle.history.specs.Seen.{underWayNumber}
 use Rattle.history.specs.Tables.{Overlays, Locked, Tables, New, Old, Pending, entryFor, PendingIn}
 use Rattle.history.proofs.Bits.{clash}
 use Rattle.history.proofs.Lengths.{replaced-long}
@@ -38,14 +40,11 @@ use Rattle.history.proofs.Entries.{overlays-long, overlays-less, overla
 -- ---- the tables with other overlays of a VTL
 
 module _ (es : List MemoryRangeWithNode) (t : List ℕ) (k : Tables es t) where
-  long-of : (v : GuestVtl) → length (overlaysOf t v) ≡ 641
-  long-of v = overlays-long es (overlaysOf t v) (k .overlays v)
-
   pub put : (v : GuestVtl) (o : List ℕ) → Overlays es o → Tables es (withOverlays t v o)
   put v o h =
       let l : length o ≡ 641 = overlays-long es o h in
       record {
-        long = replaced-long (641 * vtlNumber v) 641 t o (l ∙ sym (long-of v)) ∙ k .long;
+        long = replaced-long (641 * vtlNumber v) 641 t o (l ∙ sym (overlays-long es (overlaysOf t v) (k .overlays v))) ∙ k .long;
         overlays = go v l;
         locks = λ u. subst (λ (x : List ℕ). Locked x) (sym (locks-kept t o v (k .long) l u)) (k .locks u);
       }
@@ -58,10 +57,6 @@ module _ (es : List MemoryRangeWithNode) (t : List ℕ) (k : Tables es t) where
 
 -- ---- what is pending, read from the state block
 
-vtl-read : (v : GuestVtl) → vtlOf (vtlNumber v) ≡ v
-vtl-read Vtl0 = refl
-vtl-read Vtl1 = refl
-
 module _ (es : List MemoryRangeWithNode) where
   -- of a change just written
   pub pending-written : (g : Stage) (q : Change) (s t : List ℕ) → Pending es g (entryFor q) (overlaysOf t (q .vtl)) → PendingIn es (withChange g q s) t
@@ -70,8 +65,8 @@ module _ (es : List MemoryRangeWithNode) where
   pending-written stage.Halted q s t k = tt
   pending-written stage.ProtectPages q s t k = tt
   pending-written stage.ProtectRam q s t k = tt
-  pending-written stage.ProtectNew q s t k = subst (λ (v : GuestVtl). New es (entryFor q) (overlaysOf t v)) (sym (vtl-read (q .vtl))) k
-  pending-written stage.ProtectOld q s t k = subst (λ (v : GuestVtl). Old (entryFor q) (overlaysOf t v)) (sym (vtl-read (q .vtl))) k
+  pending-written stage.ProtectNew q s t k = subst (λ (v : GuestVtl). New es (entryFor q) (overlaysOf t v)) (sym (vtl-number (q .vtl))) k
+  pending-written stage.ProtectOld q s t k = subst (λ (v : GuestVtl). Old (entryFor q) (overlaysOf t v)) (sym (vtl-number (q .vtl))) k
   pending-written stage.Wait q s t k = tt
   pending-written stage.Flush q s t k = tt
   pending-written stage.TlbWait q s t k = tt
@@ -104,7 +99,7 @@ module _ (es : List MemoryRangeWithNode) where
   pub pending-idle : (s t : List ℕ) → statusIn s ≡ 0 → PendingIn es s t
   pending-idle s t z = still (getD s 0 0) _ _ (go (isChanging s) _ z)
     where
-      go : (b : Bool) (n : ℕ) → cond b 19 n ≡ 0 → b ≡ false
+      go : (b : Bool) (n : ℕ) → cond b underWayNumber n ≡ 0 → b ≡ false
       go true n e = absurd (omega (arith, e))
       go false n e = refl
 

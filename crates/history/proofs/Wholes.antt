@@ -3,53 +3,34 @@ use native.Mathlib.Omega.{arith}
 use Prim.Native.Nat.{ℕ, _+_, _-_, _*_}
 use mathlib.Core.Path.{_≡_, refl, sym, _∙_}
 use mathlib.Core.List.{List}
-use mathlib.Core.Bool.{Bool, true, false, cond, _&&_}
+use mathlib.Core.Bool.{Bool, true, false, cond}
 use lib.Dec.{eqb, ltb}
 use lib.ListN.{length, take, set, length-set, length-take}
-use borrow.Author.Tests.{eqb-true}
-use Rattle.laws.specs.Bools.{and-left, and-right}
-use Rattle.layout.specs.Layout.{mapLen}
 use Rattle.permissions.specs.declared.GuestVtl.{GuestVtl}
 use Rattle.permissions.specs.declared.GuestVtl.the-variants.{Vtl0, Vtl1}
 use Rattle.permissions.specs.Flags.{vtlNumber, vtlOf, boolOf}
-use Rattle.permissions.specs.HvError.{codeOf}
-use Rattle.mapping.specs.Maps.{marksFit, permissionLen, permissionsFit}
 use Rattle.pages.specs.Pages.{pagesOf}
 use Rattle.overlays.specs.Overlays.{isOverlay, used, placeOf, countWords}
 use Rattle.locks.specs.Locks.{lockWords, unlockWords}
 use Rattle.defaults.specs.Renewed.{renewed}
 use Rattle.request.specs.Request.{wanted}
 use Rattle.request.proofs.Table.{length-table, pages-few}
-use Rattle.protector_state.specs.State.{settingsOf, entriesIn}
-use Rattle.protector_state.specs.Reply.{finished}
+use Rattle.protector_state.specs.State.{entriesIn}
 use Rattle.change_state.specs.State.{isChanging}
-use Rattle.protector.specs.World.{World, world, Outcome, overlaysOf, locksOf, fits}
-use Rattle.protector.specs.Calls.{refusedBy, decided, visibilityRefusal, stopOf, tableFor, visibilityTaken, visibilityOf, answerRefusal, visibilityDone, visibilityFailed, changeDone, changeFailed, answerDone, answerFailed}
+use Rattle.protector.specs.World.{World, world, overlaysOf, locksOf, fits}
+use Rattle.protector.specs.Calls.{refusedBy, visibilityRefusal, stopOf, tableFor, visibilityTaken, visibilityOf, answerRefusal, visibilityDone, visibilityFailed, changeDone, changeFailed, answerDone, answerFailed}
 use Rattle.vtl_protections.specs.Calls.{protectionRefusal, allListed, protectionTaken, protectionOf, defaultRefusal, stored, barred, renewedIn, defaultStarted, defaultTaken, defaultOf}
 use Rattle.vtl_protections.proofs.Laws.{protection-passed}
 use Rattle.overlay_tests.specs.Refusals.{registerRefusal, unregisterRefusal}
 use Rattle.overlay_pages.specs.Calls.{currentIn, entryIn, counting, registerTaken, registerOf, unregisterTaken, unregisterOf}
 use Rattle.locked_pages.specs.Calls.{ended, lockRefusal, lockTaken, lockOf, unlockTaken, unlockOf}
-use Rattle.vtl1_protections.specs.Calls.{enabled, enableRefusal, enableOf}
 use Rattle.visibility_claims.specs.Whole.{Given, Succeeds, Fails}
 use Rattle.visibility_claims.specs.Calls.{answerOf}
+use Rattle.history.proofs.Fits.{pages-long}
 use Rattle.history.proofs.Calls.{taken}
+use Rattle.history.proofs.Deciding.{decides, either}
 use Rattle.history.proofs.Strays.{Whole}
 use Rattle.history.proofs.Lengths.{step-whole, change-whole, tables-whole, set-whole, replaced-long, renewed-long, lock-long, unlock-long}
-
-pages-long : (w : World) → fits w ≡ true → length (w .pages) ≡ 1024
-pages-long w e = eqb-true _ _ (and-left _ _ (and-right (marksFit (mapLen (entriesIn (w .state))) (length (w .maps .private)) (length (w .maps .shared)) && permissionsFit (permissionLen (mapLen (entriesIn (w .state))) (settingsOf (w .state) .tracked)) (length (w .maps .permissions .read)) (length (w .maps .permissions .write)) (length (w .maps .permissions .kernel)) (length (w .maps .permissions .user))) _ e))
-
-either : (b : Bool) (X Y : Outcome) → Whole (X .world) → Whole (Y .world) → Whole (cond b X Y .world)
-either true X Y e f = e
-either false X Y e f = f
-
-decides : (w : World) (n : ℕ) (T : Outcome) → Whole w → (n ≡ 0 → Whole (T .world)) → Whole (decided w n T .world)
-decides w n T k f = go (eqb n 0) refl
-  where
-    go : (b : Bool) → eqb n 0 ≡ b → Whole (cond b T (refusedBy w n) .world)
-    go true e = f (eqb-true n 0 e)
-    go false e = k
 
 module _ (w : World) (k : Whole w) where
   pub visibility-long : (vtl share : ℕ) (l : List ℕ) → Whole (visibilityOf w vtl share l .world)
@@ -58,21 +39,21 @@ module _ (w : World) (k : Whole w) where
       let v : GuestVtl = vtlOf vtl in
       let b : Bool = boolOf share in
       let p = pages-long w (k .fit) in
-      decides w (visibilityRefusal (w .state) (fits w) (w .tables) vtl share l) (visibilityTaken w v b l) k
+      decides Whole w (visibilityRefusal (w .state) (fits w) (w .tables) vtl share l) (visibilityTaken w v b l) k
       (λ z. step-whole w (tableFor w v b l) _ (length-table (wanted (w .maps .shared) b) (take (stopOf w v b l) (pagesOf l)) (w .pages) p (omega (arith, length-take (stopOf w v b l) (pagesOf l), pages-few l (taken w vtl share l z .short))) ∙ sym p) k)
 
   pub answer-long : (g : Given) → Whole (answerOf g w .world)
   unfolding answerDone answerFailed
   answer-long Succeeds =
-      decides w (answerRefusal (w .state) (fits w) false) _ k (λ _. either (isChanging (w .state)) (changeDone w) (visibilityDone w) (change-whole w (w .pages) _ refl k) (step-whole w (w .pages) _ refl k))
+      decides Whole w (answerRefusal (w .state) (fits w) false) _ k (λ _. either Whole (isChanging (w .state)) (changeDone w) (visibilityDone w) (change-whole w (w .pages) _ refl k) (step-whole w (w .pages) _ refl k))
   answer-long (Fails code n) =
-      decides w (answerRefusal (w .state) (fits w) true) _ k (λ _. either (isChanging (w .state)) (changeFailed w) (visibilityFailed w code n) (change-whole w (w .pages) _ refl k) (step-whole w (w .pages) _ refl k))
+      decides Whole w (answerRefusal (w .state) (fits w) true) _ k (λ _. either Whole (isChanging (w .state)) (changeFailed w) (visibilityFailed w code n) (change-whole w (w .pages) _ refl k) (step-whole w (w .pages) _ refl k))
 
   pub protection-long : (vtl flags : ℕ) (l : List ℕ) → Whole (protectionOf w vtl flags l .world)
   unfolding protectionOf protectionTaken
   protection-long vtl flags l =
       let p = pages-long w (k .fit) in
-      decides w (protectionRefusal (w .state) (fits w) (w .maps .shared) (w .tables) vtl flags l) (protectionTaken w (vtlOf vtl) flags l) k
+      decides Whole w (protectionRefusal (w .state) (fits w) (w .maps .shared) (w .tables) vtl flags l) (protectionTaken w (vtlOf vtl) flags l) k
       (λ z. change-whole w (allListed l (w .pages)) _ (length-table (λ p. true) (pagesOf l) (w .pages) p (pages-few l (protection-passed w vtl flags l _ refl z .2)) ∙ sym p) k)
 
   counted : (v : GuestVtl) (p n : ℕ) → Whole (counting w v p n .world)
@@ -84,39 +65,31 @@ module _ (w : World) (k : Whole w) where
   unfolding registerOf registerTaken
   register-long vtl p source checked new =
       let v : GuestVtl = vtlOf vtl in
-      decides w (registerRefusal (w .state) (fits w) (w .maps .shared) (w .tables) (currentIn w v p source) vtl p source checked new) (registerTaken w v p source new) k
-      (λ _. either (isOverlay (overlaysOf (w .tables) v) p) (counting w v p (entryIn (w .tables) v p .«ref_count» + 1)) _ (counted v p _) (change-whole w (w .pages) _ refl k))
+      decides Whole w (registerRefusal (w .state) (fits w) (w .maps .shared) (w .tables) (currentIn w v p source) vtl p source checked new) (registerTaken w v p source new) k
+      (λ _. either Whole (isOverlay (overlaysOf (w .tables) v) p) (counting w v p (entryIn (w .tables) v p .«ref_count» + 1)) _ (counted v p _) (change-whole w (w .pages) _ refl k))
 
   pub unregister-long : (vtl p : ℕ) → Whole (unregisterOf w vtl p .world)
   unfolding unregisterOf unregisterTaken
   unregister-long vtl p =
       let v : GuestVtl = vtlOf vtl in
-      decides w (unregisterRefusal (w .state) (fits w) (w .tables) vtl p) (unregisterTaken w v p) k
-      (λ _. either (ltb 1 (entryIn (w .tables) v p .«ref_count»)) (counting w v p (entryIn (w .tables) v p .«ref_count» - 1)) _ (counted v p _) (change-whole w (w .pages) _ refl k))
+      decides Whole w (unregisterRefusal (w .state) (fits w) (w .tables) vtl p) (unregisterTaken w v p) k
+      (λ _. either Whole (ltb 1 (entryIn (w .tables) v p .«ref_count»)) (counting w v p (entryIn (w .tables) v p .«ref_count» - 1)) _ (counted v p _) (change-whole w (w .pages) _ refl k))
 
   stored-long : (v : GuestVtl) (flags : ℕ) → Whole (stored w v flags)
   stored-long Vtl0 flags = set-whole w 20 flags (omega arith) (omega arith) k
   stored-long Vtl1 flags = set-whole w 21 flags (omega arith) (omega arith) k
-
-  pub enable-long : Whole (world (w .maps) (enableOf (w .state) .state) (w .pages) (w .tables))
-  unfolding enableOf
-  enable-long = go (eqb (enableRefusal (w .state)) 0)
-    where
-      go : (b : Bool) → Whole (world (w .maps) (cond b (enabled (set (w .state) 19 1) (finished 0 0 0 0)) (enabled (w .state) (finished (enableRefusal (w .state)) (codeOf (enableRefusal (w .state))) 0 0)) .state) (w .pages) (w .tables))
-      go true = set-whole w 19 1 (omega arith) (omega arith) k
-      go false = k
 
 started-long : (w : World) (v : GuestVtl) (flags : ℕ) → Whole w → Whole (defaultTaken w v flags .world)
 unfolding defaultTaken defaultStarted
 started-long w v flags k =
     let o : List ℕ = overlaysOf (w .tables) v in
     let r = tables-whole w _ (replaced-long (641 * vtlNumber v) 641 (w .tables) (renewed (w .maps .private) (entriesIn (w .state)) flags o) (renewed-long (w .maps .private) (entriesIn (w .state)) flags o (used o) 1)) k in
-    either (barred (w .maps .private) (w .state) (w .tables) v) (refusedBy w 10) (defaultStarted (renewedIn w v flags) v flags) k (change-whole (renewedIn w v flags) (w .pages) _ refl r)
+    either Whole (barred (w .maps .private) (w .state) (w .tables) v) (refusedBy w 10) (defaultStarted (renewedIn w v flags) v flags) k (change-whole (renewedIn w v flags) (w .pages) _ refl r)
 
 pub default-long : (w : World) → Whole w → (vtl flags : ℕ) → Whole (defaultOf w vtl flags .world)
 unfolding defaultOf
 default-long w k vtl flags =
-    decides w (defaultRefusal (w .state) (fits w) vtl flags) (defaultTaken (stored w (vtlOf vtl) flags) (vtlOf vtl) flags) k
+    decides Whole w (defaultRefusal (w .state) (fits w) vtl flags) (defaultTaken (stored w (vtlOf vtl) flags) (vtlOf vtl) flags) k
     (λ _. started-long (stored w (vtlOf vtl) flags) (vtlOf vtl) flags (stored-long w k (vtlOf vtl) flags))
 
 -- locks keep the tables' length

@@ -17,15 +17,15 @@ use Rattle.visibility_claims.specs.Calls.{answerOf}
 use Rattle.history.specs.Seen.{Seen, seesCall, seesAnswer}
 
 -- a call that may write, and is no answer
-pub data Act : Type 0 where
-  Visibility : (vtl share : ℕ) (list : List ℕ) → Act
-  Protection : (vtl flags : ℕ) (list : List ℕ) → Act
-  Default : (vtl flags : ℕ) → Act
-  Register : (vtl page source checked new : ℕ) → Act
-  Unregister : (vtl page : ℕ) → Act
-  Lock : (vtl : ℕ) (list : List ℕ) → Act
-  Unlock : (vtl : ℕ) (list : List ℕ) → Act
-  Enable : Act
+pub data Writer : Type 0 where
+  Visibility : (vtl share : ℕ) (list : List ℕ) → Writer
+  Protection : (vtl flags : ℕ) (list : List ℕ) → Writer
+  Default : (vtl flags : ℕ) → Writer
+  Register : (vtl page source checked new : ℕ) → Writer
+  Unregister : (vtl page : ℕ) → Writer
+  Lock : (vtl : ℕ) (list : List ℕ) → Writer
+  Unlock : (vtl : ℕ) (list : List ℕ) → Writer
+  Enable : Writer
 
 -- one that only reads
 pub data Reader : Type 0 where
@@ -39,82 +39,82 @@ pub data Reader : Type 0 where
 
 -- a call: one of these, or the backend's answer to the operation outstanding
 pub data Call : Type 0 where
-  Do : Act → Call
+  Write : Writer → Call
   Read : Reader → Call
   Answer : Given → Call
 
 -- ---- what a call answers: a reply; or the value told, or the output as it is filled and a reply
 
-abbrev pub Tells : Reader → Type 0
-Tells TellEnabled = Value
-Tells TellDefault = Value
-Tells (IsOverlay vtl page) = Value
-Tells (Query list out) = queries.Query
-Tells (Fault mapping view address writes failure) = Value
-Tells (Lower vtl page) = Value
-Tells (Access page) = Value
+abbrev pub Shown : Reader → Type 0
+Shown TellEnabled = Value
+Shown TellDefault = Value
+Shown (IsOverlay vtl page) = Value
+Shown (Query list out) = queries.Query
+Shown (Fault mapping view address writes failure) = Value
+Shown (Lower vtl page) = Value
+Shown (Access page) = Value
 
 abbrev pub Result : Call → Type 0
-Result (Do a) = Reply
-Result (Read q) = Tells q
+Result (Write a) = Reply
+Result (Read q) = Shown q
 Result (Answer g) = Reply
 
 -- ---- what a call gives: all that is lent as it is then, and what it answers
 
-pub record Gave (A : Type 0) : Type 0 where
+pub record Effect (A : Type 0) : Type 0 where
   pub world : World
   pub answer : A
 
-abbrev pub gave : {A : Type 0} → World → A → Gave A
-gave w r = record { world = w; answer = r }
+abbrev pub effect : {A : Type 0} → World → A → Effect A
+effect w r = record { world = w; answer = r }
 
-abbrev pub replied : Outcome → Gave Reply
-replied x = gave (x .world) (x .reply)
+abbrev pub replied : Outcome → Effect Reply
+replied x = effect (x .world) (x .reply)
 
 -- the calls on locks write the tables alone, the setter the state block alone
-abbrev pub keptIn : World → Kept → Gave Reply
-keptIn w k = gave (world (w .maps) (w .state) (w .pages) (k .tables)) (k .reply)
+abbrev pub keptIn : World → Kept → Effect Reply
+keptIn w k = effect (world (w .maps) (w .state) (w .pages) (k .tables)) (k .reply)
 
-abbrev pub enabledBy : World → Enabled → Gave Reply
-enabledBy w k = gave (world (w .maps) (k .state) (w .pages) (w .tables)) (k .reply)
+abbrev pub enabledBy : World → Enabled → Effect Reply
+enabledBy w k = effect (world (w .maps) (k .state) (w .pages) (w .tables)) (k .reply)
 
-abbrev pub does : Act → World → Gave Reply
-does (Visibility vtl share list) w = replied (visibilityOf w vtl share list)
-does (Protection vtl flags list) w = replied (protectionOf w vtl flags list)
-does (Default vtl flags) w = replied (defaultOf w vtl flags)
-does (Register vtl page source checked new) w = replied (registerOf w vtl page source checked new)
-does (Unregister vtl page) w = replied (unregisterOf w vtl page)
-does (Lock vtl list) w = keptIn w (lockOf (w .state) (w .tables) vtl list)
-does (Unlock vtl list) w = keptIn w (unlockOf (w .state) (w .tables) vtl list)
-does Enable w = enabledBy w (enableOf (w .state))
+abbrev pub givesWriter : Writer → World → Effect Reply
+givesWriter (Visibility vtl share list) w = replied (visibilityOf w vtl share list)
+givesWriter (Protection vtl flags list) w = replied (protectionOf w vtl flags list)
+givesWriter (Default vtl flags) w = replied (defaultOf w vtl flags)
+givesWriter (Register vtl page source checked new) w = replied (registerOf w vtl page source checked new)
+givesWriter (Unregister vtl page) w = replied (unregisterOf w vtl page)
+givesWriter (Lock vtl list) w = keptIn w (lockOf (w .state) (w .tables) vtl list)
+givesWriter (Unlock vtl list) w = keptIn w (unlockOf (w .state) (w .tables) vtl list)
+givesWriter Enable w = enabledBy w (enableOf (w .state))
 
-abbrev pub tells : (q : Reader) → World → Tells q
-tells TellEnabled w = enabledIn (w .state)
-tells TellDefault w = defaultIn (w .state)
-tells (IsOverlay vtl page) w = isOverlayIn (w .state) (w .tables) vtl page
-tells (Query list out) w = queryOf (w .state) (w .maps .shared) list out
-tells (Fault mapping view address writes failure) w = faultIn (w .state) (w .maps) mapping view address writes failure
-tells (Lower vtl page) w = lowerIn (w .state) (w .maps) vtl page
-tells (Access page) w = accessIn (w .state) (w .maps) page
+abbrev pub shown : (q : Reader) → World → Shown q
+shown TellEnabled w = enabledIn (w .state)
+shown TellDefault w = defaultIn (w .state)
+shown (IsOverlay vtl page) w = isOverlayIn (w .state) (w .tables) vtl page
+shown (Query list out) w = queryOf (w .state) (w .maps .shared) list out
+shown (Fault mapping view address writes failure) w = faultIn (w .state) (w .maps) mapping view address writes failure
+shown (Lower vtl page) w = lowerIn (w .state) (w .maps) vtl page
+shown (Access page) w = accessIn (w .state) (w .maps) page
 
-abbrev pub gives : (c : Call) → World → Gave (Result c)
-gives (Do a) w = does a w
-gives (Read q) w = gave w (tells q w)
+abbrev pub gives : (c : Call) → World → Effect (Result c)
+gives (Write a) w = givesWriter a w
+gives (Read q) w = effect w (shown q w)
 gives (Answer g) w = replied (answerOf g w)
 
 -- ---- what is seen of a call that gave r and left the pages run p
 
-abbrev pub seesAct : Act → Reply → List ℕ → Seen → Seen
-seesAct (Visibility vtl share list) r p o = seesCall (pagesOf list) r p o
-seesAct (Protection vtl flags list) r p o = seesCall [] r p o
-seesAct (Default vtl flags) r p o = seesCall [] r p o
-seesAct (Register vtl page source checked new) r p o = seesCall [] r p o
-seesAct (Unregister vtl page) r p o = seesCall [] r p o
-seesAct (Lock vtl list) r p o = o
-seesAct (Unlock vtl list) r p o = o
-seesAct Enable r p o = o
+abbrev pub seesWriter : Writer → Reply → List ℕ → Seen → Seen
+seesWriter (Visibility vtl share list) r p o = seesCall (pagesOf list) r p o
+seesWriter (Protection vtl flags list) r p o = seesCall [] r p o
+seesWriter (Default vtl flags) r p o = seesCall [] r p o
+seesWriter (Register vtl page source checked new) r p o = seesCall [] r p o
+seesWriter (Unregister vtl page) r p o = seesCall [] r p o
+seesWriter (Lock vtl list) r p o = o
+seesWriter (Unlock vtl list) r p o = o
+seesWriter Enable r p o = o
 
 abbrev pub sees : (c : Call) → Result c → List ℕ → Seen → Seen
-sees (Do a) r p o = seesAct a r p o
+sees (Write a) r p o = seesWriter a r p o
 sees (Read q) r p o = o
 sees (Answer g) r p o = seesAnswer g r p o

@@ -1,17 +1,21 @@
 -- That no list of calls is cut short for want of a call: with any arguments every entry has a call, whatever it is lent, as it is defined; and something of another
 -- length may be lent, whatever was last left.
+use mathlib.Core.Path.{_≡_}
+use mathlib.Core.Bool.{false}
 use mathlib.Core.List.{List, []}
 use Prim.Native.Nat.{ℕ}
+use Rattle.permissions.specs.Flags.{fitIsolation}
 use Rattle.protector.specs.World.{World, world}
 use Rattle.protector.specs.Calls.{buildOf}
 use Rattle.history.specs.Call.{Call, gives}
 use Rattle.history.specs.Made.{Made, Built}
-use Rattle.history.specs.History.{Stray, StrayLock}
+use Rattle.history.specs.History.{Stray, StrayLock, IsRefusal}
 
--- every call, of a world of any lengths
+-- every call, of a world of any lengths; and a build that is refused, as with 9 for an isolation
 pub record Callable (w : World) : Type 0 where
   pub made : (c : Call) → Made c w (gives c w .world) (gives c w .answer)
   pub built : (ram : List ℕ) (isolation tracked release : ℕ) → let X = buildOf w ram isolation tracked release in Built ram isolation tracked release w (X .world) (X .reply)
+  pub refused : (ram : List ℕ) (isolation tracked release : ℕ) → fitIsolation isolation ≡ false → IsRefusal (buildOf w ram isolation tracked release .reply)
 
 -- something of another length: no state block at all; or, beside the state block as it was left, no pages run, or no tables
 pub record Strays (u : World) : Type 0 where

@@ -11,9 +11,9 @@ use Rattle.visibility_claims.specs.Whole.{Given, Succeeds}
 use Rattle.visibility_claims.specs.Calls.{answerOf, takenBy}
 use Rattle.visibility_claims.specs.Ends.{leftIn, underWay, unrefused}
 use Rattle.history.specs.Seen.{Seen, isWaiting, isTaken}
-use Rattle.history.specs.Call.{Do, Read, Answer}
+use Rattle.history.specs.Call.{Write, Read, Answer}
 use Rattle.history.specs.Made.{Made}
-use Rattle.history.specs.History.{History, none, call, stray, callsIn}
+use Rattle.history.specs.History.{History, none, call, stray, refusedBuild, Called, eventsIn}
 
 -- what is told of a list of calls here: of an answer what was given, and whether it is seen to be taken; of any other call that it came
 pub data Course (w : World) (a : Seen) : World → Seen → Type 0 where
@@ -23,12 +23,13 @@ pub data Course (w : World) (a : Seen) : World → Seen → Type 0 where
 
 unfoldable pub courseOf : {w v : World} {a o : Seen} → History w a v o → Course w a v o
 courseOf none = start
-courseOf (call h (Do a) r m) = other (courseOf h)
+courseOf (call h (Write a) r m) = other (courseOf h)
 courseOf (call h (Read q) r m) = other (courseOf h)
 courseOf (call {u} {v} {o} h (Answer g) r m) = answer (courseOf h) g (isTaken o r)
-courseOf (stray h (Do a) r m s) = other (courseOf h)
+courseOf (stray h (Write a) r m s) = other (courseOf h)
 courseOf (stray h (Read q) r m s) = other (courseOf h)
 courseOf (stray {u} {x} {y} {o} h (Answer g) r m s) = answer (courseOf h) g (isTaken o r)
+courseOf (refusedBuild h ram isolation tracked release r m f) = other (courseOf h)
 
 -- how many answers were taken
 unfoldable pub takenIn : {w v : World} {a o : Seen} → Course w a v o → ℕ
@@ -63,7 +64,7 @@ pub record Answers (v : World) (o : Seen) (gs : List Given) : Type 0 where
   pub world : World
   pub seen : Seen
   pub calls : History v o world seen
-  pub alone : callsIn calls ≡ map Answer gs
+  pub alone : eventsIn calls ≡ map (λ (g : Given). Called (Answer g)) gs
   pub enough : leftIn v ≤ heardIn (courseOf calls) → isWaiting seen ≡ false
 
 -- one at whose end nothing is under way

@@ -1,5 +1,6 @@
 pub mod Seen
 pub mod Marks
+pub mod SeenTable
 pub mod Tables
 pub mod Settings
 pub mod Permitted

@@ -12,7 +12,7 @@ use Rattle.protector.specs.World.{World, world}
 use Rattle.queries.specs.declared.Value.{Value}
 use Rattle.queries.specs.Queries as queries
 use Rattle.visibility_claims.specs.Whole.{Succeeds, Fails}
-use Rattle.history.specs.Call.{Visibility, Protection, Default, Register, Unregister, Lock, Unlock, Enable, TellEnabled, TellDefault, IsOverlay, Query, Fault, Lower, Access, Call, Do, Read, Answer, Result}
+use Rattle.history.specs.Call.{Visibility, Protection, Default, Register, Unregister, Lock, Unlock, Enable, TellEnabled, TellDefault, IsOverlay, Query, Fault, Lower, Access, Call, Write, Read, Answer, Result}
 use Rattle.underhill_mem.proofs.protector_change_host_visibility.Reads as rVisibility
 use Rattle.underhill_mem.proofs.protector_change_host_visibility.Kinds as kVisibility
 use Rattle.underhill_mem.proofs.protector_answer_done.Reads as rDone
@@ -106,26 +106,26 @@ butMarksPages w v = world (withMarks (w .maps) (v .maps)) (v .state) (w .pages) 
 
 pub data Made : (c : Call) → World → World → Result c → Type 0 where
   visibility : (κs : Lfts 10) (a : Dens κs kVisibility.ps) (r : Reply) (e : AtExit (endedOf 10 kVisibility.ps kVisibility.r) κs) → rVisibility.Learnt κs a r e
-      → Made (Do (Visibility (past a .0) (past a .1 .0) (now (past a .1 .1 .0)))) (worldOf a) (butTables (worldOf a) (worldOf e)) r
+      → Made (Write (Visibility (past a .0) (past a .1 .0) (now (past a .1 .1 .0)))) (worldOf a) (butTables (worldOf a) (worldOf e)) r
   done : (κs : Lfts 9) (a : Dens κs kDone.ps) (r : Reply) (e : AtExit (endedOf 9 kDone.ps kDone.r) κs) → rDone.Learnt κs a r e
       → Made (Answer Succeeds) (worldOf a) (worldOf e) r
   failed : (κs : Lfts 9) (a : Dens κs kFailed.ps) (r : Reply) (e : AtExit (endedOf 9 kFailed.ps kFailed.r) κs) → rFailed.Learnt κs a r e
       → Made (Answer (Fails (past a .0) (past a .1 .0))) (worldOf a) (worldOf e) r
   protection : (κs : Lfts 10) (a : Dens κs kProtection.ps) (r : Reply) (e : AtExit (endedOf 10 kProtection.ps kProtection.r) κs) → rProtection.Learnt κs a r e
-      → Made (Do (Protection (past a .0) (past a .1 .0) (now (past a .1 .1 .0)))) (worldOf a) (butMarksTables (worldOf a) (worldOf e)) r
+      → Made (Write (Protection (past a .0) (past a .1 .0) (now (past a .1 .1 .0)))) (worldOf a) (butMarksTables (worldOf a) (worldOf e)) r
   default : (κs : Lfts 9) (a : Dens κs kDefault.ps) (r : Reply) (e : AtExit (endedOf 9 kDefault.ps kDefault.r) κs) → rDefault.Learnt κs a r e
-      → Made (Do (Default (past a .0) (past a .1 .0))) (worldOf a) (butMarksPages (worldOf a) (worldOf e)) r
+      → Made (Write (Default (past a .0) (past a .1 .0))) (worldOf a) (butMarksPages (worldOf a) (worldOf e)) r
   register : (κs : Lfts 9) (a : Dens κs kRegister.ps) (r : Reply) (e : AtExit (endedOf 9 kRegister.ps kRegister.r) κs) → rRegister.Learnt κs a r e
-      → Made (Do (Register (past a .0) (past a .1 .0) (past a .1 .1 .0) (past a .1 .1 .1 .0) (past a .1 .1 .1 .1 .0))) (worldOf a) (butMarksPages (worldOf a) (worldOf e)) r
+      → Made (Write (Register (past a .0) (past a .1 .0) (past a .1 .1 .0) (past a .1 .1 .1 .0) (past a .1 .1 .1 .1 .0))) (worldOf a) (butMarksPages (worldOf a) (worldOf e)) r
   unregister : (κs : Lfts 9) (a : Dens κs kUnregister.ps) (r : Reply) (e : AtExit (endedOf 9 kUnregister.ps kUnregister.r) κs) → rUnregister.Learnt κs a r e
-      → Made (Do (Unregister (past a .0) (past a .1 .0))) (worldOf a) (butMarksPages (worldOf a) (worldOf e)) r
+      → Made (Write (Unregister (past a .0) (past a .1 .0))) (worldOf a) (butMarksPages (worldOf a) (worldOf e)) r
   -- the calls on locks are lent the state block and the tables alone, and the setter and the getters the state block
   lock : (m : Maps) (p : List ℕ) (κs : Lfts 3) (a : Dens κs kLock.ps) (r : Reply) (e : AtExit (endedOf 3 kLock.ps kLock.r) κs) → rLock.Learnt κs a r e
-      → Made (Do (Lock (a .1 .1 .0) (now (a .1 .1 .1 .0)))) (withTables m p a) (world m (now (a .0)) p (now (e .1 .0))) r
+      → Made (Write (Lock (a .1 .1 .0) (now (a .1 .1 .1 .0)))) (withTables m p a) (world m (now (a .0)) p (now (e .1 .0))) r
   unlock : (m : Maps) (p : List ℕ) (κs : Lfts 3) (a : Dens κs kUnlock.ps) (r : Reply) (e : AtExit (endedOf 3 kUnlock.ps kUnlock.r) κs) → rUnlock.Learnt κs a r e
-      → Made (Do (Unlock (a .1 .1 .0) (now (a .1 .1 .1 .0)))) (withTables m p a) (world m (now (a .0)) p (now (e .1 .0))) r
+      → Made (Write (Unlock (a .1 .1 .0) (now (a .1 .1 .1 .0)))) (withTables m p a) (world m (now (a .0)) p (now (e .1 .0))) r
   enable : (m : Maps) (p t : List ℕ) (κs : Lfts 1) (a : Dens κs kEnable.ps) (r : Reply) (e : AtExit (endedOf 1 kEnable.ps kEnable.r) κs) → rEnable.Learnt κs a r e
-      → Made (Do Enable) (withState m p t a) (withState m p t e) r
+      → Made (Write Enable) (withState m p t a) (withState m p t e) r
   tellEnabled : (m : Maps) (p t : List ℕ) (κs : Lfts 1) (a : Dens κs kTellEnabled.ps) (r : Value) (e : AtExit (endedOf 1 kTellEnabled.ps kTellEnabled.r) κs) → rTellEnabled.Learnt κs a r e
       → Made (Read TellEnabled) (withState m p t a) (withState m p t a) r
   tellDefault : (m : Maps) (p t : List ℕ) (κs : Lfts 1) (a : Dens κs kTellDefault.ps) (r : Value) (e : AtExit (endedOf 1 kTellDefault.ps kTellDefault.r) κs) → rTellDefault.Learnt κs a r e
@@ -148,3 +148,25 @@ pub data Made : (c : Call) → World → World → Result c → Type 0 where
 pub data Built : (ram : List ℕ) (isolation tracked release : ℕ) → World → World → Reply → Type 0 where
   build : (κs : Lfts 10) (a : Dens κs kBuild.ps) (r : Reply) (e : AtExit (endedOf 10 kBuild.ps kBuild.r) κs) → rBuild.Learnt κs a r e
       → Built (now (a .0)) (a .1 .0) (a .1 .1 .0) (a .1 .1 .1 .0) (worldOf (a .1 .1 .1 .1)) (worldOf (e .1 .1 .1 .1)) r
+
+-- ---- no entry asks anything of its arguments: each has its contract whatever it is lent
+
+pub record Unasked : Type 0 where
+  pub visibility : (κs : Lfts 10) (a : Dens κs kVisibility.ps) → rVisibility.Asked κs a
+  pub done : (κs : Lfts 9) (a : Dens κs kDone.ps) → rDone.Asked κs a
+  pub failed : (κs : Lfts 9) (a : Dens κs kFailed.ps) → rFailed.Asked κs a
+  pub protection : (κs : Lfts 10) (a : Dens κs kProtection.ps) → rProtection.Asked κs a
+  pub default : (κs : Lfts 9) (a : Dens κs kDefault.ps) → rDefault.Asked κs a
+  pub register : (κs : Lfts 9) (a : Dens κs kRegister.ps) → rRegister.Asked κs a
+  pub unregister : (κs : Lfts 9) (a : Dens κs kUnregister.ps) → rUnregister.Asked κs a
+  pub lock : (κs : Lfts 3) (a : Dens κs kLock.ps) → rLock.Asked κs a
+  pub unlock : (κs : Lfts 3) (a : Dens κs kUnlock.ps) → rUnlock.Asked κs a
+  pub enable : (κs : Lfts 1) (a : Dens κs kEnable.ps) → rEnable.Asked κs a
+  pub tellEnabled : (κs : Lfts 1) (a : Dens κs kTellEnabled.ps) → rTellEnabled.Asked κs a
+  pub tellDefault : (κs : Lfts 1) (a : Dens κs kTellDefault.ps) → rTellDefault.Asked κs a
+  pub isOverlay : (κs : Lfts 2) (a : Dens κs kIsOverlay.ps) → rIsOverlay.Asked κs a
+  pub query : (κs : Lfts 4) (a : Dens κs kQuery.ps) → rQuery.Asked κs a
+  pub fault : (κs : Lfts 7) (a : Dens κs kFault.ps) → rFault.Asked κs a
+  pub lower : (κs : Lfts 7) (a : Dens κs kLower.ps) → rLower.Asked κs a
+  pub access : (κs : Lfts 7) (a : Dens κs kAccess.ps) → rAccess.Asked κs a
+  pub build : (κs : Lfts 10) (a : Dens κs kBuild.ps) → rBuild.Asked κs a

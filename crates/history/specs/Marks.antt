@@ -14,7 +14,7 @@ use lib.ListN.{length}
 use Rattle.protector_state.specs.State.{stateLen, ramOf, entriesIn}
 use Rattle.protector_state.specs.Reply.{finished}
 use Rattle.protector.specs.World.{World, fits, statusIn}
-use Rattle.history.specs.Seen.{Seen, Private, Shared, tookAs, Age, Never, Returned, Validated, Zeroed}
+use Rattle.history.specs.Seen.{Seen, isWaiting, Private, Shared, tookAs, Age, Never, Returned, Validated, Zeroed}
 
 -- a page's mark in a map
 abbrev pub Has : List ℕ → ℕ → Type 0
@@ -27,9 +27,18 @@ isSettled Returned = false
 isSettled Validated = false
 isSettled Zeroed = true
 
+-- both marks of a page say as what it was last taken
+pub record Exact (m : Maps) (o : Seen) (z : ℕ) : Type 0 where
+  pub private : o .last z ≡ Private → Has (m .private) z
+  pub private-only : Has (m .private) z → o .last z ≡ Private
+  pub shared : o .last z ≡ Shared → Has (m .shared) z
+  pub shared-only : Has (m .shared) z → o .last z ≡ Shared
+
 pub record Marked (es : List MemoryRangeWithNode) (m : Maps) (o : Seen) : Type 0 where
   -- a RAM page not listed by the visibility change under way, nor by the one that halted
-  pub exact : (z : ℕ) → isRam es z ≡ true → among (o .listed) z ≡ false → (o .last z ≡ Private → Has (m .private) z) × (o .last z ≡ Shared → Has (m .shared) z)
+  pub exact : (z : ℕ) → isRam es z ≡ true → among (o .listed) z ≡ false → Exact m o z
+  -- and so every RAM page, with nothing under way and nothing halted
+  pub at-rest : isWaiting o ≡ false → o .halted ≡ false → (z : ℕ) → isRam es z ≡ true → Exact m o z
   -- any page: a mark says what was last taken
   pub private-right : (z : ℕ) → Has (m .private) z → o .last z ≡ Private
   pub shared-right : (z : ℕ) → Has (m .shared) z → o .last z ≡ Shared

@@ -13,6 +13,7 @@ use Rattle.changes.specs.declared.Stage.the-variants as stage
 use Rattle.protector_state.specs.State.{phaseIn, requestOf}
 use Rattle.change_state.specs.State.{stageIn, isChanging}
 use Rattle.protector.specs.World.{World, statusOf}
+use Rattle.history.specs.Seen.{underWayNumber}
 use Rattle.history.specs.Marks.{Has}
 
 pub record Inside (es : List MemoryRangeWithNode) (m : Permissions) : Type 0 where
@@ -38,7 +39,7 @@ isPages stage.TlbWait = false
 
 -- a visibility change, or a protection change that still protects, is under way
 abbrev pub isListing : List ℕ → Bool
-isListing s = cond (isChanging s) (isPages (stageIn s)) (eqb (statusOf (phaseIn s)) 19)
+isListing s = cond (isChanging s) (isPages (stageIn s)) (eqb (statusOf (phaseIn s)) underWayNumber)
 
 pub record Permitted (es : List MemoryRangeWithNode) (w : World) : Type 0 where
   pub inside : Inside es (w .maps .permissions)

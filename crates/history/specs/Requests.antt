@@ -17,9 +17,9 @@ use Rattle.visibility_claims.specs.Calls.{asksIn, Told, wholeOf, Match}
 use Rattle.change_claims.specs.Whole.{Change}
 use Rattle.change_claims.specs.Calls.{protectionWhole, defaultWhole, registerWhole, unregisterWhole, Agrees}
 use Rattle.history.specs.Seen.{Seen, asks, isWaiting}
-use Rattle.history.specs.Call.{Act, Visibility, Protection, Default, Register, Unregister, Lock, Unlock, Enable, Call, Do, Read, Answer, Result, seesAct, sees}
-use Rattle.history.specs.Made.{Made}
-use Rattle.history.specs.History.{Wrong, History, none, call, stray, callsIn}
+use Rattle.history.specs.Call.{Writer, Visibility, Protection, Default, Register, Unregister, Lock, Unlock, Enable, Call, Write, Read, Answer, Result, seesWriter, sees}
+use Rattle.history.specs.Made.{Made, Built}
+use Rattle.history.specs.History.{Wrong, IsRefusal, History, none, call, stray, refusedBuild, Event, Called, eventsIn}
 use Rattle.history.specs.Answered.{given}
 use Rattle.history.specs.Ends.{Course, start, answer, other, courseOf}
 
@@ -44,7 +44,7 @@ toldIn {w} {v} {a} {o} h = record { asked = askedIn h; last = given v (o .op) }
 abbrev pub AgreesIn : World → List ℕ → Change → Told → Type 0
 AgreesIn w t c x = Agrees (drop 14 (w .state)) t (settingsOf (w .state) .isolation) (whole (c .whole)) (c .tables) x
 
-abbrev pub WholeOf : Act → World → List Given → Told → Type 0
+abbrev pub WholeOf : Writer → World → List Given → Told → Type 0
 WholeOf (Visibility vtl share list) u gs x =
     Match (u .tables) (drop 10 (u .state)) (tableFor u (vtlOf vtl) (boolOf share) list) (settingsOf (u .state) .isolation)
     (whole (wholeOf u (vtlOf vtl) (boolOf share) list gs)) x
@@ -58,7 +58,7 @@ WholeOf (Unlock vtl list) u gs x = ⊥
 WholeOf Enable u gs x = ⊥
 
 -- a call d of the world u that asked for something, and the calls from there on
-abbrev pub IsWhole : Act → World → {w v : World} {a o : Seen} → Course w a v o → Type 0
+abbrev pub IsWhole : Writer → World → {w v : World} {a o : Seen} → Course w a v o → Type 0
 IsWhole d u h = WholeOf d u (givenIn h) (toldIn h)
 
 -- ---- the request of a list of calls that is under way where the list stops, or that ended with no call but answers since: the calls before it, its own, and those
@@ -66,7 +66,7 @@ IsWhole d u h = WholeOf d u (givenIn h) (toldIn h)
 
 pub data Begun (w : World) (a : Seen) (x : World) (p : Seen) : Type 0 where
   nothing : Begun w a x p
-  since : {u v : World} {o : Seen} → History w a u o → (d : Act) (r : Reply) → Made (Do d) u v r → History v (seesAct d r (v .pages) o) x p → Begun w a x p
+  since : {u v : World} {o : Seen} → History w a u o → (d : Writer) (r : Reply) → Made (Write d) u v r → History v (seesWriter d r (v .pages) o) x p → Begun w a x p
 
 abbrev pub thenCall : {w u v : World} {a o : Seen} → Begun w a u o → (c : Call) (r : Result c) → Made c u v r → Begun w a v (sees c r (v .pages) o)
 thenCall nothing c r m = nothing
@@ -76,14 +76,20 @@ abbrev pub thenStray : {w u x y : World} {a o : Seen} → Begun w a u o → (c :
 thenStray nothing c r m s = nothing
 thenStray (since g d s n h) c r m t = since g d s n (stray h c r m t)
 
+abbrev pub thenBuild : {w u x y : World} {a o : Seen} → Begun w a u o → (ram : List ℕ) (isolation tracked release : ℕ) (r : Reply) → Built ram isolation tracked release x y r
+    → IsRefusal r → Begun w a u o
+thenBuild nothing ram isolation tracked release r m f = nothing
+thenBuild (since g d s n h) ram isolation tracked release r m f = since g d s n (refusedBuild h ram isolation tracked release r m f)
+
 unfoldable pub begunIn : {w v : World} {a o : Seen} → History w a v o → Begun w a v o
 begunIn none = nothing
-begunIn (call {u} {v} {o} h (Do d) r m) = cond (asks r) (since h d r m none) (cond (isWaiting o) (thenCall (begunIn h) (Do d) r m) nothing)
+begunIn (call {u} {v} {o} h (Write d) r m) = cond (asks r) (since h d r m none) (cond (isWaiting o) (thenCall (begunIn h) (Write d) r m) nothing)
 begunIn (call {u} {v} {o} h (Read q) r m) = cond (isWaiting o) (thenCall (begunIn h) (Read q) r m) nothing
 begunIn (call h (Answer g) r m) = thenCall (begunIn h) (Answer g) r m
-begunIn (stray {u} {x} {y} {o} h (Do d) r m s) = cond (isWaiting o) (thenStray (begunIn h) (Do d) r m s) nothing
+begunIn (stray {u} {x} {y} {o} h (Write d) r m s) = cond (isWaiting o) (thenStray (begunIn h) (Write d) r m s) nothing
 begunIn (stray {u} {x} {y} {o} h (Read q) r m s) = cond (isWaiting o) (thenStray (begunIn h) (Read q) r m s) nothing
 begunIn (stray h (Answer g) r m s) = thenStray (begunIn h) (Answer g) r m s
+begunIn (refusedBuild {u} {x} {y} {o} h ram isolation tracked release r m f) = cond (isWaiting o) (thenBuild (begunIn h) ram isolation tracked release r m f) nothing
 
 -- it is the whole call under the answers taken so far; where there is none, nothing is under way
 abbrev pub AskedAt : {w x : World} {a p : Seen} → Begun w a x p → Type 0
@@ -95,8 +101,9 @@ unfoldable pub Asked : {w v : World} {a o : Seen} → History w a v o → Type 0
 Asked none = Unit {0}
 Asked (call h c r m) = Asked h × AskedAt (begunIn (call h c r m))
 Asked (stray h c r m s) = Asked h × AskedAt (begunIn (stray h c r m s))
+Asked (refusedBuild h ram isolation tracked release r m f) = Asked h × AskedAt (begunIn (refusedBuild h ram isolation tracked release r m f))
 
 -- the calls before it, its own and those since are those of the list, l
-abbrev pub Parts : List Call → {w x : World} {a p : Seen} → Begun w a x p → Type 0
+abbrev pub Parts : List Event → {w x : World} {a p : Seen} → Begun w a x p → Type 0
 Parts l nothing = Unit {0}
-Parts l (since g d r m h) = l ≡ callsIn g ++ (Do d ∷ callsIn h)
+Parts l (since g d r m h) = l ≡ eventsIn g ++ (Called (Write d) ∷ eventsIn h)

@@ -25,9 +25,12 @@ acceptOperation = 7
 abbrev pub zeroOperation : ℕ
 zeroOperation = 8
 
--- a lent buffer of wrong length; halted; an answer with nothing asked, or a failure of what cannot fail
+-- a lent buffer of wrong length; a request under way; halted; an answer with nothing asked, or a failure of what cannot fail
 abbrev pub wrongLength : ℕ
 wrongLength = 4
+
+abbrev pub underWayNumber : ℕ
+underWayNumber = 19
 
 abbrev pub haltedNumber : ℕ
 haltedNumber = 20

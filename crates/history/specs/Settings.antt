@@ -1,17 +1,29 @@
--- What the settings hold between calls (01, "Defaults", "Bitmaps", "From the state" 24): those of the build stay; the defaults are flags, none at first for VTL1;
--- protections are enabled only where permissions are tracked.
+-- What the settings hold (01, "Defaults", "Bitmaps", "From the state" 24): as a build leaves them, and between calls.
 use mathlib.Core.Path.{_≡_}
+use mathlib.Core.Bool.{true, false}
 use mathlib.Core.List.{List}
 use Prim.Native.Nat.{ℕ, _<_}
 use lib.ListN.{getD}
+use Rattle.permissions.specs.Flags.{fitIsolation, isolationOf, fitBool, boolOf}
+use Rattle.permissions.specs.Defaults.{firstDefaults}
+use Rattle.acceptor.specs.declared.Settings.{Settings}
 
--- words 16 to 21 of the state block s, of a build with isolation i, tracked t and release flag r
-pub record Settings (i t r : ℕ) (s : List ℕ) : Type 0 where
-  pub isolation : getD s 16 0 ≡ i
-  pub tracked : getD s 17 0 ≡ t
-  pub release : getD s 18 0 ≡ r
+-- at a build: what it was given, protections not enabled, all four flags for VTL0 and none given for VTL1
+abbrev pub firstSettings : (isolation tracked release : ℕ) → Settings
+firstSettings isolation tracked release =
+    record { isolation = isolationOf isolation; tracked = boolOf tracked; release = boolOf release; enabled = false; defaults = firstDefaults }
+
+-- between calls, of words 16 to 21 of the state block s: those that the build was given stay, and are numbers of such; protections are enabled only where permissions are
+-- tracked; the defaults are flags
+pub record SettingsFit (isolation tracked release : ℕ) (s : List ℕ) : Type 0 where
+  pub same-isolation : getD s 16 0 ≡ isolation
+  pub same-tracked : getD s 17 0 ≡ tracked
+  pub same-release : getD s 18 0 ≡ release
+  pub fit-isolation : fitIsolation isolation ≡ true
+  pub fit-tracked : fitBool tracked ≡ true
+  pub fit-release : fitBool release ≡ true
   pub enabled : getD s 19 0 < 2
-  pub only : getD s 19 0 ≡ 1 → t ≡ 1
+  pub only-tracked : getD s 19 0 ≡ 1 → tracked ≡ 1
   pub default0 : getD s 20 0 < 16
   -- 16 where none is given
   pub default1 : getD s 21 0 < 17

@@ -94,6 +94,6 @@ PendingIn es s t = Pending es (stageIn s) (entryFor (changeIn s)) (overlaysOf t 
 
 -- ---- all of it, of a world
 
-pub record Kept (es : List MemoryRangeWithNode) (w : World) : Type 0 where
+pub record TablesFit (es : List MemoryRangeWithNode) (w : World) : Type 0 where
   pub tables : Tables es (w .tables)
   pub pending : PendingIn es (w .state) (w .tables)

@@ -1,25 +1,23 @@
 -- Every call keeps the permission maps inside RAM, and so does every list of calls. Assumes nothing.
 use native.Mathlib.Omega.{arith}
 use mathlib.Core.Path.{_≡_, refl, sym, ap, _∙_, subst}
-use mathlib.Core.Bool.{Bool, true, false, cond, not, _&&_}
+use mathlib.Core.Bool.{Bool, true, false, cond, not}
 use mathlib.Core.List.{List, [], _∷_}
 use Prim.Native.Nat.{ℕ, _+_, _-_, _≤_, _<_, min}
 use lib.Dec.{eqb, ltb}
 use lib.ListN.{length, getD, take, set}
 use lib.Seq.{getD-take, getD-set-other}
 use borrow.Author.Tests.{eqb-true, ltb-true, ltb-false}
-use Rattle.laws.specs.Bools.{and-left, and-right}
+use Rattle.laws.specs.Bools.{and-left}
 use Rattle.laws.specs.Refusal.{passed}
 use Rattle.laws.specs.Ranges.{between, between-from, between-to}
 use Rattle.bitmap.specs.Pages.{bitAt}
 use Rattle.layout.specs.declared.MemoryRangeWithNode.{MemoryRangeWithNode}
-use Rattle.layout.specs.Layout.{entriesOf, isRam, mapLen}
+use Rattle.layout.specs.Layout.{isRam}
 use Rattle.permissions.specs.declared.GuestVtl.{GuestVtl}
 use Rattle.permissions.specs.declared.GuestVtl.the-variants.{Vtl0, Vtl1}
 use Rattle.permissions.specs.declared.HvMapGpaFlags.{HvMapGpaFlags}
 use Rattle.permissions.specs.Flags.{fitVtl, vtlOf, fitFlags, flagsOf, bitsOf, boolOf}
-use Rattle.permissions.specs.HvError.{codeOf}
-use Rattle.mapping.specs.Maps.{Permissions, marksFit, permissionLen, permissionsFit}
 use Rattle.pages.specs.declared.PageRun.{PageRun}
 use Rattle.pages.specs.Pages.{pagesOf, among, isLong, isRagged}
 use Rattle.pages.specs.Runs.{part}
@@ -36,42 +34,34 @@ use Rattle.changes.specs.declared.Stage.the-variants as stage
 use Rattle.changes.specs.declared.Change.{Change}
 use Rattle.changes.specs.declared.ChangeStep.{ChangeStep}
 use Rattle.changes.specs.Changes.{changeOf, startNew}
-use Rattle.protector_state.specs.declared.Reply.{Reply}
-use Rattle.protector_state.specs.Reply.{finished}
 use Rattle.protector_state.specs.State.{stateLen, firstPhases, phaseOf, phaseIn, requestOf, settingsOf, entriesIn}
 use Rattle.change_state.specs.State.{stageOf, stageIn, isChanging, changeIn, withChange}
 use Rattle.protector.specs.World.{World, world, overlaysOf, locksOf, fits, statusOf, statusIn, takes, takesAt, takesIn, applied}
-use Rattle.protector.specs.Calls.{refusedBy, carriedOut, carriedChange, buildTaken, visibilityRefusal, stopOf, askedFor, tableFor, visibilityTaken, visibilityOf, answerRefusal, pieceAfter, nextIn, afterDone, afterFailed, visibilityDone, visibilityFailed, changeDone, changeFailed, answerDone, answerFailed}
+use Rattle.protector.specs.Calls.{refusedBy, carriedOut, carriedChange, visibilityRefusal, stopOf, askedFor, tableFor, visibilityTaken, visibilityOf, answerRefusal, pieceAfter, nextIn, afterDone, afterFailed, visibilityDone, visibilityFailed, changeDone, changeFailed, answerDone, answerFailed}
 use Rattle.vtl_protections.specs.Calls.{eachRefusal, protectionRefusal, allListed, protectionTaken, protectionOf, defaultRefusal, stored, barred, renewedIn, firstPiece, defaultStarted, defaultTaken, defaultOf}
 use Rattle.overlay_tests.specs.Refusals.{unregisterRefusal, registerRefusal}
 use Rattle.overlay_tests.specs.Refusals as tests
 use Rattle.overlay_tests.proofs.Laws.{call-passed, flags-passed}
 use Rattle.overlay_pages.specs.Calls.{entryIn, counting, unregisterTaken, unregisterOf, currentIn, registerTaken, registerOf}
-use Rattle.vtl1_protections.specs.Calls.{enableRefusal, enabled, enableOf}
 use Rattle.visibility_claims.specs.Whole.{Given, Succeeds, Fails}
 use Rattle.visibility_claims.specs.Calls.{answerOf}
-use Rattle.history.specs.Seen.{Seen, unseen}
-use Rattle.history.specs.Marks.{Has, readOff, Settled}
-use Rattle.history.specs.Call.{Act, Visibility, Protection, Default, Register, Unregister, Lock, Unlock, Enable, Call, Do, Read, Answer, does, gives}
-use Rattle.history.specs.Made.{Built}
-use Rattle.history.specs.History.{History}
-use Rattle.history.specs.Tables.{Tables}
+use Rattle.history.specs.Seen.{underWayNumber, haltedNumber, Seen}
+use Rattle.history.specs.Marks.{Has}
+use Rattle.history.specs.Call.{Writer, Visibility, Protection, Default, Register, Unregister, Lock, Unlock, Enable, Call, Write, Read, Answer, givesWriter, gives}
+use Rattle.history.specs.Tables.{TablesFit}
 use Rattle.history.specs.Permitted.{Inside, OnRam, isPages, isListing, Permitted}
+use Rattle.history.proofs.Fits.{pages-long}
 use Rattle.history.proofs.Bits.{among-own}
 use Rattle.history.proofs.Start.{first-all, ram-page}
-use Rattle.history.proofs.Is.{build-is}
-use Rattle.history.proofs.Calls.{status, taken, in-ram}
+use Rattle.history.proofs.Calls.{not-true, status, taken, in-ram}
 use Rattle.history.proofs.Strays.{answer-whole, protection-whole}
 use Rattle.history.proofs.Deciding.{decides, either}
 use Rattle.history.proofs.Entries.{overlays-entry, overlays-own}
 use Rattle.history.proofs.Tabled.{fresh-page}
-use Rattle.history.proofs.Histories.{Keeps, history-keeps}
-use Rattle.history.proofs.Claim.{fresh-ram, build-taken, built-settled}
-use Rattle.history.proofs.Holding.{Tabled, tabled-kept, built-tabled, settled-tabled}
-use Rattle.history.proofs.Permitted.{written-ram, places-ram, piece-all, Narrow, done-narrow, failed-narrow, start-narrow, Safe, safe-pages, safe-ram, safe-done, safe-failed, safe-new, safe-old}
-
-pages-long : (w : World) → fits w ≡ true → length (w .pages) ≡ 1024
-pages-long w e = eqb-true _ _ (and-left _ _ (and-right (marksFit (mapLen (entriesIn (w .state))) (length (w .maps .private)) (length (w .maps .shared)) && permissionsFit (permissionLen (mapLen (entriesIn (w .state))) (settingsOf (w .state) .tracked)) (length (w .maps .permissions .read)) (length (w .maps .permissions .write)) (length (w .maps .permissions .kernel)) (length (w .maps .permissions .user))) _ e))
+use Rattle.history.proofs.World.{Stands, phase-waits}
+use Rattle.history.proofs.Frame.{Framed, frame}
+use Rattle.history.proofs.Histories.{Both, InWorld, KeepsWith}
+use Rattle.history.proofs.PermittedSteps.{written-ram, places-ram, piece-all, Narrow, done-narrow, failed-narrow, start-narrow, Safe, safe-pages, safe-ram, safe-done, safe-failed, safe-new, safe-old}
 
 -- ---- which pages are listed, read from the state block
 
@@ -87,25 +77,10 @@ listing-change stage.Wait q s e = e
 listing-change stage.Flush q s e = e
 listing-change stage.TlbWait q s e = e
 
-takes-waits : (p : Phase) (failed : Bool) → takes p failed ≡ true → eqb (statusOf p) 19 ≡ true
-takes-waits at.Idle failed e = e
-takes-waits at.Halted failed e = e
-takes-waits at.Wait failed e = refl
-takes-waits at.FlushAll failed e = refl
-takes-waits at.ProtectNone0 failed e = refl
-takes-waits at.ProtectNone1 failed e = refl
-takes-waits at.Invalidate failed e = refl
-takes-waits at.Release failed e = refl
-takes-waits at.Modify failed e = refl
-takes-waits at.Accept failed e = refl
-takes-waits at.Zero failed e = refl
-takes-waits at.ProtectDefault0 failed e = refl
-takes-waits at.ProtectDefault1 failed e = refl
-
-not-listing : (s : List ℕ) → statusIn s ≡ 0 → isListing s ≡ true → ⊥
+pub not-listing : (s : List ℕ) → statusIn s ≡ 0 → isListing s ≡ true → ⊥
 not-listing s z e = go (isChanging s) (isPages (stageIn s)) (statusOf (phaseIn s)) z e
   where
-    go : (c a : Bool) (n : ℕ) → cond c 19 n ≡ 0 → cond c a (eqb n 19) ≡ true → ⊥
+    go : (c a : Bool) (n : ℕ) → cond c underWayNumber n ≡ 0 → cond c a (eqb n underWayNumber) ≡ true → ⊥
     go true a n z e = omega (arith, z)
     go false a n z e = omega (arith, z, eqb-true n 19 e)
 
@@ -113,10 +88,6 @@ pick-all : (ps : List ℕ) → pick (λ p. true) ps ≡ ps
 unfolding pick
 pick-all [] = refl
 pick-all (p ∷ ps) = ap (λ (l : List ℕ). p ∷ l) (pick-all ps)
-
-no : (b : Bool) → not b ≡ true → b ≡ false
-no true e = sym e
-no false e = refl
 
 module _ (es : List MemoryRangeWithNode) where
   fewer : (n m : ℕ) (t : List ℕ) → m ≤ n → OnRam es n t → OnRam es m t
@@ -171,13 +142,8 @@ module _ (es : List MemoryRangeWithNode) where
   stored-permits w Vtl0 flags k = set-permits w 20 flags (omega arith) k
   stored-permits w Vtl1 flags k = set-permits w 21 flags (omega arith) k
 
-  enable-permits : (w : World) → Permitted es w → Permitted es (world (w .maps) (enableOf (w .state) .state) (w .pages) (w .tables))
-  unfolding enableOf
-  enable-permits w k = go (eqb (enableRefusal (w .state)) 0)
-    where
-      go : (b : Bool) → Permitted es (world (w .maps) (cond b (enabled (set (w .state) 19 1) (finished 0 0 0 0)) (enabled (w .state) (finished (enableRefusal (w .state)) (codeOf (enableRefusal (w .state))) 0 0)) .state) (w .pages) (w .tables))
-      go true = set-permits w 19 1 (omega arith) k
-      go false = k
+  permits-framed : Framed (InWorld (Permitted es))
+  permits-framed = record { tables = λ w o t _ k. tables-permit w t k; setting = λ w o k. set-permits w 19 1 (omega arith) k }
 
   -- a piece of a default change is private, and so RAM
   piece-ram : (private overlays : List ℕ) (ram : List MemoryRangeWithNode) (a : ℕ) → ((z : ℕ) → Has private z → isRam es z ≡ true) → (z : ℕ)
@@ -218,7 +184,7 @@ module _ (es : List MemoryRangeWithNode) where
         let e = passed (fitVtl vtl) 7 _ (d .1) in
         let f = passed (fitFlags flags) 7 _ (e .1) in
         let g = passed (not (isRagged l)) 7 _ (f .1) in
-        (ltb-false 4096 (length l) (no (isLong l) (d .0)), status (eachRefusal (w .state) (w .tables) (vtlOf vtl) l) _ (g .1) .0)
+        (ltb-false 4096 (length l) (not-true (isLong l) (d .0)), status (eachRefusal (w .state) (w .tables) (vtlOf vtl) l) _ (g .1) .0)
 
     listed-ram : OnRam es (length (pagesOf l)) (allListed l (w .pages))
     listed-ram j h d =
@@ -232,7 +198,7 @@ module _ (es : List MemoryRangeWithNode) where
 
   -- ---- the calls
 
-  module _ (w : World) (o : Seen) (k : Tabled es w o) (p : Permitted es w) where
+  module _ (w : World) (o : Seen) (k : Both (Stands es) (InWorld (TablesFit es)) w o) (p : Permitted es w) where
     visibility-permits : (vtl share : ℕ) (l : List ℕ) → Permitted es (visibilityOf w vtl share l .world)
     unfolding visibilityOf visibilityTaken
     visibility-permits vtl share l =
@@ -241,7 +207,7 @@ module _ (es : List MemoryRangeWithNode) where
         let b : Bool = boolOf share in
         let n : ℕ = length (askedFor w v b l) in
         step-permits w (tableFor w v b l) n _ (p .inside) (start-narrow (settingsOf (w .state)) (tableFor w v b l) v b n (stopOf w v b l) (ltb (stopOf w v b l) (length (pagesOf l))))
-        (λ j h _. in-ram es w o (k .stands) v b l (taken w vtl share l z) j h))
+        (λ j h _. in-ram es w o (k .first) v b l (taken w vtl share l z) j h))
 
     -- an answer that is taken
     module _ (failed : Bool) (z : answerRefusal (w .state) (fits w) failed ≡ 0) where
@@ -249,7 +215,7 @@ module _ (es : List MemoryRangeWithNode) where
       unfolding answerRefusal
       takes-it =
           let a = passed (eqb (length (w .state)) stateLen) 3 _ z in
-          let b = passed (not (eqb (statusIn (w .state)) 20)) 19 _ (a .1) in
+          let b = passed (not (eqb (statusIn (w .state)) haltedNumber)) 19 _ (a .1) in
           let c = passed (fits w) 3 _ (b .1) in
           passed (takesIn (w .state) failed) 20 _ (c .1) .0
 
@@ -260,10 +226,10 @@ module _ (es : List MemoryRangeWithNode) where
       long = omega (arith, pages-long w (answer-whole w failed z .fit))
 
       visible : isChanging (w .state) ≡ false → OnRam es (requestOf (w .state) .n) (w .pages)
-      visible e = p .listed (ap (λ (b : Bool). cond b (isPages (stageIn (w .state))) (eqb (statusOf (phaseIn (w .state))) 19)) e ∙ takes-waits (phaseIn (w .state)) failed (takes-change false e))
+      visible e = p .listed (ap (λ (b : Bool). cond b (isPages (stageIn (w .state))) (eqb (statusOf (phaseIn (w .state))) underWayNumber)) e ∙ phase-waits (phaseIn (w .state)) failed (takes-change false e))
 
       paged : isChanging (w .state) ≡ true → isPages (stageIn (w .state)) ≡ true → OnRam es (requestOf (w .state) .n) (w .pages)
-      paged e d = p .listed (ap (λ (b : Bool). cond b (isPages (stageIn (w .state))) (eqb (statusOf (phaseIn (w .state))) 19)) e ∙ d)
+      paged e d = p .listed (ap (λ (b : Bool). cond b (isPages (stageIn (w .state))) (eqb (statusOf (phaseIn (w .state))) underWayNumber)) e ∙ d)
 
     answer-permits : (g : Given) → Permitted es (answerOf g w .world)
     unfolding answerDone answerFailed afterDone afterFailed
@@ -273,7 +239,7 @@ module _ (es : List MemoryRangeWithNode) where
         go z true e =
             change-permits w (w .pages) _ (p .inside)
             (safe-done es (w .pages) (settingsOf (w .state) .tracked) (stageIn (w .state)) (changeIn (w .state)) (nextIn (w .maps .private) (w .state) (w .tables)) (long false z) (paged false z e)
-            (after-ram (stageIn (w .state)) (w .maps .private) (overlaysOf (w .tables) (changeIn (w .state) .vtl)) (entriesIn (w .state)) (changeIn (w .state) .at) (k .stands .right .private-ram)) (takes-change false z true e))
+            (after-ram (stageIn (w .state)) (w .maps .private) (overlaysOf (w .tables) (changeIn (w .state) .vtl)) (entriesIn (w .state)) (changeIn (w .state) .at) (k .first .right .private-ram)) (takes-change false z true e))
         go z false e = step-permits w (w .pages) (requestOf (w .state) .n) _ (p .inside) (done-narrow (settingsOf (w .state)) (w .pages) (phaseIn (w .state)) (requestOf (w .state))) (visible false z e)
     answer-permits (Fails code n) = decides (Permitted es) w (answerRefusal (w .state) (fits w) true) _ p (λ z. go z (isChanging (w .state)) refl)
       where
@@ -285,11 +251,11 @@ module _ (es : List MemoryRangeWithNode) where
     unfolding protectionOf protectionTaken
     protection-permits vtl flags l =
         decides (Permitted es) w (protectionRefusal (w .state) (fits w) (w .maps .shared) (w .tables) vtl flags l) _ p
-        (λ z. let few : length (pagesOf l) ≤ 512 = pages-few l (listed-each w (k .stands .layout) vtl flags l z .0) in
+        (λ z. let few : length (pagesOf l) ≤ 512 = pages-few l (listed-each w (k .first .layout) vtl flags l z .0) in
         let q : length (w .pages) ≡ 1024 = pages-long w (protection-whole w vtl flags l z .fit) in
         let long : length (allListed l (w .pages)) ≡ 1024 = length-table (λ p. true) (pagesOf l) (w .pages) q few in
         change-permits w (allListed l (w .pages)) _ (p .inside)
-        (safe-pages es (allListed l (w .pages)) (settingsOf (w .state) .tracked) (changeOf (vtlOf vtl) flags (length (pagesOf l))) 0 (omega (arith, few, long)) (listed-ram w (k .stands .layout) vtl flags l z)))
+        (safe-pages es (allListed l (w .pages)) (settingsOf (w .state) .tracked) (changeOf (vtlOf vtl) flags (length (pagesOf l))) 0 (omega (arith, few, long)) (listed-ram w (k .first .layout) vtl flags l z)))
 
     counted : (v : GuestVtl) (page n : ℕ) → Permitted es (counting w v page n .world)
     counted v page n = tables-permit w _ p
@@ -308,8 +274,8 @@ module _ (es : List MemoryRangeWithNode) where
 
         go : isOverlay (overlaysOf (w .tables) v) page ≡ true → Permitted es (unregisterTaken w v page .world)
         go h =
-            let own = overlays-own es (overlaysOf (w .tables) v) (k .kept .tables .overlays v) page h in
-            let fit = overlays-entry es (overlaysOf (w .tables) v) (k .kept .tables .overlays v) page h in
+            let own = overlays-own es (overlaysOf (w .tables) v) (k .second .tables .overlays v) page h in
+            let fit = overlays-entry es (overlaysOf (w .tables) v) (k .second .tables .overlays v) page h in
             either (Permitted es) (ltb 1 (e .«ref_count»)) (counting w v page (e .«ref_count» - 1)) _ (counted v page _)
             (change-permits w (w .pages) _ (p .inside) (safe-old es (w .pages) (settingsOf (w .state) .tracked) v page (e .«previous_permissions») (e .«gpn_source») (ap (isRam es) (sym own) ∙ fit .page)))
 
@@ -336,58 +302,25 @@ module _ (es : List MemoryRangeWithNode) where
         go two z false h =
             let c = fresh-page (entriesIn (w .state)) (w .maps .shared) o′ (locksOf (w .tables) v) page source (currentIn w v page source) checked new two h z in
             change-permits w (w .pages) x (p .inside)
-            (safe-new es (w .pages) (settingsOf (w .state) .tracked) v page source (bitsOf (currentIn w v page source)) new (ap (λ (y : List MemoryRangeWithNode). isRam y page) (sym (k .stands .layout)) ∙ c .page))
+            (safe-new es (w .pages) (settingsOf (w .state) .tracked) v page source (bitsOf (currentIn w v page source)) new (ap (λ (y : List MemoryRangeWithNode). isRam y page) (sym (k .first .layout)) ∙ c .page))
 
-    permits-act : (a : Act) → Permitted es (does a w .world)
+    permits-writer : (a : Writer) → Permitted es (givesWriter a w .world)
     unfolding defaultOf
-    permits-act (Visibility vtl share list) = visibility-permits vtl share list
-    permits-act (Protection vtl flags list) = protection-permits vtl flags list
-    permits-act (Default vtl flags) =
+    permits-writer (Visibility vtl share list) = visibility-permits vtl share list
+    permits-writer (Protection vtl flags list) = protection-permits vtl flags list
+    permits-writer (Default vtl flags) =
         decides (Permitted es) w (defaultRefusal (w .state) (fits w) vtl flags) _ p
-        (λ _. default-permits (stored w (vtlOf vtl) flags) (k .stands .right .private-ram) (stored-permits w (vtlOf vtl) flags p) (vtlOf vtl) flags)
-    permits-act (Register vtl page source checked new) = register-permits vtl page source checked new
-    permits-act (Unregister vtl page) = unregister-permits vtl page
-    permits-act (Lock vtl list) = tables-permit w _ p
-    permits-act (Unlock vtl list) = tables-permit w _ p
-    permits-act Enable = enable-permits w p
+        (λ _. default-permits (stored w (vtlOf vtl) flags) (k .first .right .private-ram) (stored-permits w (vtlOf vtl) flags p) (vtlOf vtl) flags)
+    permits-writer (Register vtl page source checked new) = register-permits vtl page source checked new
+    permits-writer (Unregister vtl page) = unregister-permits vtl page
+    permits-writer (Lock vtl list) = frame permits-framed (Write (Lock vtl list)) refl w o p
+    permits-writer (Unlock vtl list) = frame permits-framed (Write (Unlock vtl list)) refl w o p
+    permits-writer Enable = frame permits-framed (Write Enable) refl w o p
 
     permits-step : (c : Call) → Permitted es (gives c w .world)
-    permits-step (Do a) = permits-act a
-    permits-step (Read q) = p
+    permits-step (Write a) = permits-writer a
+    permits-step (Read q) = frame permits-framed (Read q) refl w o p
     permits-step (Answer g) = answer-permits g
 
-pub record Permits (es : List MemoryRangeWithNode) (w : World) (o : Seen) : Type 0 where
-  pub tabled : Tabled es w o
-  pub permitted : Permitted es w
-
-pub permits-kept : (es : List MemoryRangeWithNode) → Keeps (Permits es)
-permits-kept es = record { halts = λ w o k. k .tabled .stands .halts; step = λ c w o k. record { tabled = tabled-kept es .step c w o (k .tabled); permitted = permits-step es w o (k .tabled) (k .permitted) c } }
-
--- ---- from a settled world whose permission bits are all of RAM
-
-module _ (w : World) (s : Settled w) (t : Tables (entriesIn (w .state)) (w .tables)) (i : Inside (entriesIn (w .state)) (w .maps .permissions)) {v : World} {o : Seen} (h : History w (readOff (w .maps)) v o) where
-  pub settled-permits : Permitted (entriesIn (w .state)) v
-  settled-permits =
-      history-keeps (Permits (entriesIn (w .state))) (permits-kept (entriesIn (w .state))) h
-      (record { tabled = settled-tabled w s t; permitted = record { inside = i; listed = λ e. absurd (not-listing (w .state) (s .idle) e) } }) .permitted
-
--- ---- from a build that was taken
-
-module _ {ram : List ℕ} {i t r : ℕ} {u w : World} {reply : Reply} (b : Built ram i t r u w reply) (d : reply .number ≡ 0) where
-  fresh-inside : Inside (entriesOf ram) (buildTaken u ram i t r .world .maps .permissions)
-  unfolding buildTaken
-  fresh-inside =
-      let es : List MemoryRangeWithNode = entriesOf ram in
-      let m : Permissions = u .maps .permissions in
-      record { read = fresh-ram es (length (m .read)); write = fresh-ram es (length (m .write)); kernel = fresh-ram es (length (m .kernel)); user = fresh-ram es (length (m .user)) }
-
-  pub permissions-hold : {v : World} {o : Seen} → History w unseen v o → Permitted (entriesOf ram) v
-  permissions-hold h =
-      history-keeps (Permits (entriesOf ram)) (permits-kept (entriesOf ram)) h
-      (record {
-        tabled = built-tabled b d;
-        permitted = record {
-          inside = subst (λ (w : World). Inside (entriesOf ram) (w .maps .permissions)) (build-taken u w ram i t r reply (build-is b) d .1) fresh-inside;
-          listed = λ e. absurd (not-listing (w .state) (built-settled b d .idle) e);
-        };
-      }) .permitted
+pub permissions-kept : (es : List MemoryRangeWithNode) → KeepsWith (Both (Stands es) (InWorld (TablesFit es))) (InWorld (Permitted es))
+permissions-kept es c w o k p = permits-step es w o k p c
