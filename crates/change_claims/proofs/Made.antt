@@ -1,12 +1,13 @@
 -- The permission maps page by page as calls leave them. Assumes nothing.
 use mathlib.Core.Path.{_≡_, refl, sym, ap, _∙_, subst}
 use mathlib.Core.Bool.{Bool, true, false, not, cond, _&&_, _||_}
+use mathlib.Core.Logic.{⊎-elim}
 use mathlib.Core.List.{List, [], _∷_}
-use Prim.Native.Nat.{ℕ, _/_, _<_}
+use Prim.Native.Nat.{ℕ, zero, suc, _/_, _<_}
 use lib.Dec.{eqb, ltb}
-use lib.ListN.{length}
+use lib.ListN.{length, take}
 use borrow.Author.Tests.{eqb-true, eqb-false, lt-ltb}
-use Rattle.laws.specs.Bools.{false≢true, both-true, and-left}
+use Rattle.laws.specs.Bools.{false≢true, both-true, and-left, or-true, or-left, or-right}
 use Rattle.laws.specs.Refusal.{passed}
 use Rattle.bitmap.specs.Pages.{bitAt}
 use Rattle.layout.specs.declared.MemoryRangeWithNode.{MemoryRangeWithNode}
@@ -15,22 +16,25 @@ use Rattle.layout.proofs.Laws.{fit, page-in-map}
 use Rattle.permissions.specs.declared.GuestVtl.{GuestVtl}
 use Rattle.permissions.specs.declared.GuestVtl.the-variants.{Vtl0, Vtl1}
 use Rattle.permissions.specs.declared.HvMapGpaFlags.{HvMapGpaFlags}
-use Rattle.permissions.specs.Flags.{vtlOf, boolOf, flagsOf, noFlags, fitVtl, fitFlags}
+use Rattle.permissions.specs.Flags.{vtlOf, boolOf, flagsOf, noFlags, fitVtl, fitBool, fitFlags}
 use Rattle.mapping.specs.Maps.{Permissions, Maps, marksFit, permissionLen, permissionsFit}
-use Rattle.pages.specs.Pages.{among, pagesOf, isLong, isRagged}
+use Rattle.pages.specs.Pages.{among, repeats, pagesOf, isLong, isRagged}
+use Rattle.request.specs.Request.{pick, wanted}
+use Rattle.acceptor.specs.declared.Operation.the-variants.{Wait}
 use Rattle.acceptor.specs.declared.Settings.{Settings}
 use Rattle.protector_state.specs.State.{stateLen, settingsOf, ramOf, entriesIn}
 use Rattle.protector.specs.World.{World, pagesLen, tablesLen, overlaysOf, locksOf, fits, statusIn}
-use Rattle.protector.specs.Calls.{pageRefusal, firstRefusal, askedFor}
+use Rattle.protector.specs.Calls.{pageRefusal, firstRefusal, visibilityRefusal, stopOf, askedFor}
 use Rattle.vtl_protections.specs.Calls.{protectionRefusal, eachRefusal}
-use Rattle.visibility_claims.specs.Whole.{Given}
+use Rattle.visibility_claims.specs.Whole.{Given, Succeeds, Fails, flushes}
 use Rattle.visibility_claims.specs.Calls.{placesFor, wholeOf}
+use Rattle.visibility_claims.specs.Operations.{past, processed}
 use Rattle.visibility_claims.proofs.Calls.{visibility-is-whole}
 use Rattle.vtl_protections.proofs.Laws.{protection-passed}
 use Rattle.change_claims.specs.Whole.{isProtected}
 use Rattle.change_claims.specs.Calls.{trackedIn, overlayIn, defaultWhole}
 use Rattle.change_claims.specs.Pages.{Sets, all, within, PermitsFor, Leaves}
-use Rattle.change_claims.specs.Claims.{TakesProtection, storedIn, TakesVisibility, visibilityCall, takenRam, returnedBy, PermissionsLeft}
+use Rattle.change_claims.specs.Claims.{TakesProtection, storedIn, TakesVisibility, visibilityCall, FitLayout, takenRam, returnedBy, PermissionsLeft}
 use Rattle.change_claims.proofs.Calls.{protection-is-whole}
 use Rattle.change_claims.proofs.Default.{both-zero, tracked-stored, entries-stored, default-passed, default-is-whole}
 use Rattle.change_claims.proofs.Left.{permission-maps}
@@ -66,24 +70,25 @@ sets-all P s n old new e h k p = k p ∙ ap (λ (b : Bool). cond b s (bitAt 8 ol
     go true d = ap (ltb (p / 8)) e ∙ lt-ltb (p / 8) n (h p d)
     go false d = refl
 
+for-all : (tracked : Bool) (v : GuestVtl) (P : ℕ → Bool) (f : HvMapGpaFlags) (n : ℕ) (old new : Permissions) → (tracked ≡ true → Long n old) → ((p : ℕ) → P p ≡ true → p / 8 < n)
+    → PermitsFor tracked v (within P) f old new → PermitsFor tracked v (all P) f old new
+for-all true Vtl0 P f n old new l h k =
+    let a = l refl in
+    record {
+      read = sets-all P (f .readable) n (old .read) (new .read) (a .read) h (k .read);
+      write = sets-all P (f .writable) n (old .write) (new .write) (a .write) h (k .write);
+      kernel = sets-all P (f .«kernel_executable») n (old .kernel) (new .kernel) (a .kernel) h (k .kernel);
+      user = sets-all P (f .«user_executable») n (old .user) (new .user) (a .user) h (k .user);
+    }
+for-all false Vtl0 P f n old new l h k = k
+for-all tracked Vtl1 P f n old new l h k = k
+
 leaves-all : (tracked : Bool) (v : GuestVtl) (P : ℕ → Bool) (f : HvMapGpaFlags) (n : ℕ) (old new : Maps) → (tracked ≡ true → Long n (old .permissions)) → ((p : ℕ) → P p ≡ true → p / 8 < n)
     → Leaves tracked v (within P) f old new → Leaves tracked v (all P) f old new
-leaves-all tracked v P f n old new l h k = record { private = k .private; shared = k .shared; permissions = go tracked v l (k .permissions) }
-  where
-    go : (tracked : Bool) (v : GuestVtl) → (tracked ≡ true → Long n (old .permissions)) → PermitsFor tracked v (within P) f (old .permissions) (new .permissions) → PermitsFor tracked v (all P) f (old .permissions) (new .permissions)
-    go true Vtl0 l k =
-        let a = l refl in
-        record {
-          read = sets-all P (f .readable) n (old .permissions .read) (new .permissions .read) (a .read) h (k .read);
-          write = sets-all P (f .writable) n (old .permissions .write) (new .permissions .write) (a .write) h (k .write);
-          kernel = sets-all P (f .«kernel_executable») n (old .permissions .kernel) (new .permissions .kernel) (a .kernel) h (k .kernel);
-          user = sets-all P (f .«user_executable») n (old .permissions .user) (new .permissions .user) (a .user) h (k .user);
-        }
-    go false Vtl0 l k = k
-    go true Vtl1 l k = k
-    go false Vtl1 l k = k
+leaves-all tracked v P f n old new l h k =
+    record { private = k .private; shared = k .shared; permissions = for-all tracked v P f n (old .permissions) (new .permissions) l h (k .permissions) }
 
--- ---- a protection change: each page of its list is RAM
+-- ---- each page of a list that is taken is RAM
 
 each-ram : (es : List MemoryRangeWithNode) (overlays locks : List ℕ) (share : Bool) (ps : List ℕ) (q : ℕ) → firstRefusal (pageRefusal es overlays locks share) ps ≡ 0 → among ps q ≡ true → isRam es q ≡ true
 unfolding firstRefusal among
@@ -107,14 +112,61 @@ listed-ram w vtl flags l z p h =
     let f = passed (not (isRagged l)) 7 _ (e .1) in
     each-ram (entriesIn (w .state)) (overlaysOf (w .tables) (vtlOf vtl)) (locksOf (w .tables) (vtlOf vtl)) true (pagesOf l) p (both-zero (eachRefusal (w .state) (w .tables) (vtlOf vtl) l) _ (f .1) .0) h
 
--- ---- visibility changes
+shown-ram : (w : World) (vtl visibility : ℕ) (l : List ℕ) → TakesVisibility w vtl visibility l → (fits w ≡ true) × ((p : ℕ) → among (pagesOf l) p ≡ true → isRam (entriesIn (w .state)) p ≡ true)
+unfolding visibilityRefusal
+shown-ram w vtl visibility l z =
+    let a = passed (eqb (length (w .state)) stateLen) 3 _ z in
+    let b = passed (fits w) 3 _ (both-zero (statusIn (w .state)) _ (a .1) .1) in
+    let c = passed (not (isLong l)) 4 _ (b .1) in
+    let d = passed (not (repeats (pagesOf l))) 5 _ (c .1) in
+    let e = passed (fitVtl vtl) 7 _ (d .1) in
+    let f = passed (fitBool visibility) 7 _ (e .1) in
+    let g = passed (not (isRagged l)) 7 _ (f .1) in
+    (b .0, λ p h. each-ram (entriesIn (w .state)) (overlaysOf (w .tables) (vtlOf vtl)) (locksOf (w .tables) (vtlOf vtl)) (boolOf visibility) (pagesOf l) p (g .1) h)
 
-module _ (w : World) (vtl visibility : ℕ) (l : List ℕ) (gs : List Given) (z : TakesVisibility w vtl visibility l) where
-  abbrev left : Permissions
-  left = visibilityCall w vtl visibility l gs .last .world .maps .permissions
+-- ---- visibility changes: the pages asked for are of the list
 
-  as-whole : (b : Bool) → boolOf visibility ≡ b → wholeOf w (vtlOf vtl) b l gs .maps .permissions ≡ left
+one-more : (p q : ℕ) (ps qs : List ℕ) → (among ps p ≡ true → among qs p ≡ true) → (eqb p q || among ps p) ≡ true → (eqb p q || among qs p) ≡ true
+one-more p q ps qs f h = ⊎-elim (λ (e : eqb p q ≡ true). or-left (eqb p q) (among qs p) e) (λ (e : among ps p ≡ true). or-right (eqb p q) (among qs p) (f e)) (or-true (eqb p q) (among ps p) h)
+
+among-part : (n : ℕ) (ps : List ℕ) (p : ℕ) → among (take n ps) p ≡ true → among ps p ≡ true
+unfolding among
+among-part zero ps p h = false≢true h
+among-part (suc n) [] p h = h
+among-part (suc n) (q ∷ ps) p h = one-more p q (take n ps) ps (among-part n ps p) h
+
+among-picked : (P : ℕ → Bool) (ps : List ℕ) (p : ℕ) → among (pick P ps) p ≡ true → among ps p ≡ true
+unfolding among pick
+among-picked P [] p h = h
+among-picked P (q ∷ ps) p h = go (P q) h (among-picked P ps p)
+  where
+    go : (b : Bool) → among (cond b (q ∷ pick P ps) (pick P ps)) p ≡ true → (among (pick P ps) p ≡ true → among ps p ≡ true) → (eqb p q || among ps p) ≡ true
+    go true h f = one-more p q (pick P ps) ps f h
+    go false h f = or-right (eqb p q) (among ps p) (f h)
+
+among-processed : (ps : List ℕ) (gs : List Given) (p : ℕ) → among (processed ps gs) p ≡ true → among ps p ≡ true
+among-processed ps [] p h = h
+among-processed ps (Succeeds ∷ gs) p h = h
+among-processed ps (Fails code k ∷ gs) p h = go (ltb k (length ps)) h
+  where
+    go : (b : Bool) → among (cond b (take k ps) ps) p ≡ true → among ps p ≡ true
+    go true h = among-part k ps p h
+    go false h = h
+
+module _ (w : World) (vtl visibility : ℕ) (l : List ℕ) (gs : List Given) (z : TakesVisibility w vtl visibility l) (h : FitLayout w) where
+  as-whole : (b : Bool) → boolOf visibility ≡ b → wholeOf w (vtlOf vtl) b l gs .maps .permissions ≡ visibilityCall w vtl visibility l gs .last .world .maps .permissions
   as-whole b e = sym (ap (λ (m : Maps). m .permissions) (visibility-is-whole w vtl visibility l gs z .same-maps) ∙ ap (λ (b : Bool). wholeOf w (vtlOf vtl) b l gs .maps .permissions) e)
+
+  -- of some of the pages asked for
+  part-left : (share : Bool) → boolOf visibility ≡ share → (v : GuestVtl) (ps : List ℕ) (f : HvMapGpaFlags) → ((p : ℕ) → among ps p ≡ true → among (askedFor w (vtlOf vtl) share l) p ≡ true)
+      → PermitsFor (trackedIn w) v (within (among ps)) f (w .maps .permissions) (wholeOf w (vtlOf vtl) share l gs .maps .permissions)
+      → PermitsFor (trackedIn w) v (all (among ps)) f (w .maps .permissions) (visibilityCall w vtl visibility l gs .last .world .maps .permissions)
+  part-left share e v ps f part k =
+      let r = shown-ram w vtl visibility l z in
+      let n : ℕ = stopOf w (vtlOf vtl) share l in
+      subst (PermitsFor (trackedIn w) v (all (among ps)) f (w .maps .permissions)) (as-whole share e)
+      (for-all (trackedIn w) v (among ps) f (mapLen (entriesIn (w .state))) (w .maps .permissions) _ (maps-long w (r .0))
+      (λ p d. page-in-map (ramOf (w .state)) p (fit (ramOf (w .state)) h) (r .1 p (among-part n (pagesOf l) p (among-picked (wanted (w .maps .shared) share) (take n (pagesOf l)) p (part p d))))) k)
 
 -- THE CLAIMS
 pub permissions-left : PermissionsLeft
@@ -136,18 +188,16 @@ permissions-left =
           (subst (λ (b : Bool). Leaves b v (within (P es)) (flagsOf flags) (w .maps) new) (tracked-stored w v flags)
           (subst (λ (es : List MemoryRangeWithNode). Leaves (trackedIn x) v (within (P es)) (flagsOf flags) (w .maps) new) (entries-stored w v flags)
           (permission-maps .default (trackedIn x) v (flagsOf flags) (entriesIn (x .state)) (overlayIn (w .tables) v) (w .maps) gs e))));
-      return-ok = λ w vtl visibility l gs z b e.
+      return-ok = λ w vtl visibility l gs z h b e.
           let s : Settings = settingsOf (w .state) in
           let ps : List ℕ = askedFor w (vtlOf vtl) false l in
-          subst (PermitsFor (trackedIn w) Vtl0 (within (among ps)) (s .defaults .vtl0) (w .maps .permissions)) (as-whole w vtl visibility l gs z false b)
-          (permission-maps .return-ok s ps (placesFor w (vtlOf vtl) false l) (w .maps) gs e);
-      return-16 = λ w vtl visibility l gs code i z b e.
+          part-left w vtl visibility l gs z h false b Vtl0 ps (s .defaults .vtl0) (λ p d. d) (permission-maps .return-ok s ps (placesFor w (vtlOf vtl) false l) (w .maps) gs e);
+      return-16 = λ w vtl visibility l gs code i z h b e.
           let s : Settings = settingsOf (w .state) in
           let ps : List ℕ = askedFor w (vtlOf vtl) false l in
-          subst (PermitsFor (trackedIn w) Vtl0 (within (among (returnedBy s ps gs))) (s .defaults .vtl0) (w .maps .permissions)) (as-whole w vtl visibility l gs z false b)
+          part-left w vtl visibility l gs z h false b Vtl0 (returnedBy s ps gs) (s .defaults .vtl0) (λ p d. among-processed ps (past (Wait ∷ flushes (s .isolation)) gs) p d)
           (permission-maps .return-16 s ps (placesFor w (vtlOf vtl) false l) (w .maps) gs code i e);
-      share = λ w vtl visibility l gs z b.
+      share = λ w vtl visibility l gs z h b.
           let ps : List ℕ = askedFor w (vtlOf vtl) true l in
-          subst (PermitsFor (trackedIn w) (vtlOf vtl) (within (among ps)) noFlags (w .maps .permissions)) (as-whole w vtl visibility l gs z true b)
-          (permission-maps .share (settingsOf (w .state)) (vtlOf vtl) ps _ _ (w .maps) gs);
+          part-left w vtl visibility l gs z h true b (vtlOf vtl) ps noFlags (λ p d. d) (permission-maps .share (settingsOf (w .state)) (vtlOf vtl) ps _ _ (w .maps) gs);
     }

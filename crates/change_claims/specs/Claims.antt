@@ -77,8 +77,8 @@ abbrev pub visibilityCall : World → ℕ → ℕ → List ℕ → List Given �
 visibilityCall w vtl visibility l gs = follow (visibilityOf w vtl visibility l) gs
 
 -- a layout that a build takes, and its entries in order alone
-abbrev pub Fit : World → Type 0
-Fit w = refusalOf (ramOf (w .state)) ≡ 0
+abbrev pub FitLayout : World → Type 0
+FitLayout w = refusalOf (ramOf (w .state)) ≡ 0
 
 abbrev pub InOrder : World → Type 0
 InOrder w = ordered 0 (entriesIn (w .state)) ≡ true
@@ -173,24 +173,24 @@ pub record PermissionMaps : Type 0 where
   pub share : (s : Settings) (v : GuestVtl) (ps : List ℕ) (stopped : Bool) (i : ℕ) (m : Maps) (gs : List Given)
       → PermitsFor (s .tracked) v (within (among ps)) noFlags (m .permissions) (wholeShare s v ps stopped i m gs .maps .permissions)
 
--- and of calls as they are made: the maps have every page of RAM, and no other is refused by 7
+-- and of calls as they are made in a layout that fits: there the maps have every page of RAM, and any other page is refused by 7
 
 pub record PermissionsLeft : Type 0 where
-  pub protection : (w : World) (vtl flags : ℕ) (l : List ℕ) (gs : List Given) → TakesProtection w vtl flags l → Fit w → protectionWhole w (vtlOf vtl) flags l gs .whole .stand ≡ Ok
+  pub protection : (w : World) (vtl flags : ℕ) (l : List ℕ) (gs : List Given) → TakesProtection w vtl flags l → FitLayout w → protectionWhole w (vtlOf vtl) flags l gs .whole .stand ≡ Ok
       → Leaves (trackedIn w) (vtlOf vtl) (all (among (pagesOf l))) (flagsOf flags) (w .maps) (protectionCall w vtl flags l gs .last .world .maps)
-  pub default : (w : World) (vtl flags : ℕ) (gs : List Given) → TakesDefault w vtl flags → Fit w → defaultWhole (storedIn w vtl flags) (vtlOf vtl) flags gs .whole .stand ≡ Ok
+  pub default : (w : World) (vtl flags : ℕ) (gs : List Given) → TakesDefault w vtl flags → FitLayout w → defaultWhole (storedIn w vtl flags) (vtlOf vtl) flags gs .whole .stand ≡ Ok
       → Leaves (trackedIn w) (vtlOf vtl) (all (takenRam (entriesIn (w .state)) (w .maps .private) (overlayIn (w .tables) (vtlOf vtl)))) (flagsOf flags) (w .maps)
       (defaultCall w vtl flags gs .last .world .maps)
-  pub return-ok : (w : World) (vtl visibility : ℕ) (l : List ℕ) (gs : List Given) → TakesVisibility w vtl visibility l → boolOf visibility ≡ false
+  pub return-ok : (w : World) (vtl visibility : ℕ) (l : List ℕ) (gs : List Given) → TakesVisibility w vtl visibility l → FitLayout w → boolOf visibility ≡ false
       → wholeOf w (vtlOf vtl) false l gs .stand ≡ Ok
-      → PermitsFor (trackedIn w) Vtl0 (within (among (askedFor w (vtlOf vtl) false l))) (settingsOf (w .state) .defaults .vtl0) (w .maps .permissions)
+      → PermitsFor (trackedIn w) Vtl0 (all (among (askedFor w (vtlOf vtl) false l))) (settingsOf (w .state) .defaults .vtl0) (w .maps .permissions)
       (visibilityCall w vtl visibility l gs .last .world .maps .permissions)
-  pub return-16 : (w : World) (vtl visibility : ℕ) (l : List ℕ) (gs : List Given) (code i : ℕ) → TakesVisibility w vtl visibility l → boolOf visibility ≡ false
+  pub return-16 : (w : World) (vtl visibility : ℕ) (l : List ℕ) (gs : List Given) (code i : ℕ) → TakesVisibility w vtl visibility l → FitLayout w → boolOf visibility ≡ false
       → wholeOf w (vtlOf vtl) false l gs .stand ≡ FailedAt code i
-      → PermitsFor (trackedIn w) Vtl0 (within (among (returnedBy (settingsOf (w .state)) (askedFor w (vtlOf vtl) false l) gs))) (settingsOf (w .state) .defaults .vtl0) (w .maps .permissions)
+      → PermitsFor (trackedIn w) Vtl0 (all (among (returnedBy (settingsOf (w .state)) (askedFor w (vtlOf vtl) false l) gs))) (settingsOf (w .state) .defaults .vtl0) (w .maps .permissions)
       (visibilityCall w vtl visibility l gs .last .world .maps .permissions)
-  pub share : (w : World) (vtl visibility : ℕ) (l : List ℕ) (gs : List Given) → TakesVisibility w vtl visibility l → boolOf visibility ≡ true
-      → PermitsFor (trackedIn w) (vtlOf vtl) (within (among (askedFor w (vtlOf vtl) true l))) noFlags (w .maps .permissions)
+  pub share : (w : World) (vtl visibility : ℕ) (l : List ℕ) (gs : List Given) → TakesVisibility w vtl visibility l → FitLayout w → boolOf visibility ≡ true
+      → PermitsFor (trackedIn w) (vtlOf vtl) (all (among (askedFor w (vtlOf vtl) true l))) noFlags (w .maps .permissions)
       (visibilityCall w vtl visibility l gs .last .world .maps .permissions)
 
 -- ---- an overlay call whose Protect fails: 16, OperationDenied, one operation; the entries are unchanged; of guest memory (source 0) the permission maps are written, a Dma
