@@ -69,13 +69,13 @@ no-piece : (P : ℕ → Bool) (a end : ℕ) → end ≤ a → pieceOf P a end .c
 unfolding span
 no-piece P a end h = let d : end - a ≡ 0 = omega arith in rw d
 
-none-past : (P : ℕ → Bool) (es : List MemoryRangeWithNode) (a : ℕ) → pageEnd es ≤ a → nextOf P es a .count ≡ 0
+pub none-past : (P : ℕ → Bool) (es : List MemoryRangeWithNode) (a : ℕ) → pageEnd es ≤ a → nextOf P es a .count ≡ 0
 unfolding nextOf pageEnd
 none-past P [] a h = refl
 none-past P (e ∷ es) a h =
     rw (eq-eqb (pieceIn P e a .count) 0 (no-piece P (max (pageUp (e .start)) a) (pageUp (e .end)) (omega arith))) (none-past P es a (omega arith))
 
-next-ahead : (P : ℕ → Bool) (es : List MemoryRangeWithNode) (a : ℕ) → eqb (nextOf P es a .count) 0 ≡ false → a < nextOf P es a .first + nextOf P es a .count
+pub next-ahead : (P : ℕ → Bool) (es : List MemoryRangeWithNode) (a : ℕ) → eqb (nextOf P es a .count) 0 ≡ false → a < nextOf P es a .first + nextOf P es a .count
 unfolding nextOf
 next-ahead P [] a h = false≢true (sym h)
 next-ahead P (e ∷ es) a h = go (eqb (pieceIn P e a .count) 0) refl h (next-ahead P es a)

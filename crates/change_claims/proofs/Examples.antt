@@ -3,8 +3,8 @@ use mathlib.Core.List.{[]}
 use mathlib.Core.Path.{_≡_, refl}
 use Rattle.bitmap.specs.Pages.{word, writtenFrom}
 use Rattle.words.specs.Words.{closed, closedTo}
-use Rattle.layout.specs.Layout.{entriesOf, ramByte}
-use Rattle.pages.specs.Pages.{numberOf, numberAt, numbersFrom}
+use Rattle.layout.specs.Layout.{entriesOf, ramByte, ordered, aligned, refusalOf}
+use Rattle.pages.specs.Pages.{numberOf, numberAt, numbersFrom, among, repeats}
 use Rattle.pages.specs.Runs.{neighbours, runAt}
 use Rattle.request.specs.Request.{pick, pickPlaces, tableOf, runEnd}
 use Rattle.overlays.specs.Overlays.{placeFrom}
@@ -17,7 +17,7 @@ use Rattle.protector_state.specs.State.{firstPhases, phaseOf}
 use Rattle.protector_state.specs.Reply.{finished, askedOf, flatOf}
 use Rattle.change_state.specs.State.{stageOf}
 use Rattle.protector.specs.World.{entered}
-use Rattle.protector.specs.Calls.{carriedChange, firstRefusal, answerRefusal, afterDone, afterFailed, answerDone, answerFailed}
+use Rattle.protector.specs.Calls.{carriedChange, firstRefusal, visibilityRefusal, answerRefusal, afterDone, afterFailed, answerDone, answerFailed}
 use Rattle.locked_pages.proofs.Limits as limits
 use Rattle.vtl_protections.specs.Calls.{protectionRefusal, protectionTaken, protectionOf, defaultRefusal, defaultStarted, defaultTaken, defaultOf}
 use Rattle.overlay_tests.specs.Refusals.{callRefusal, within, knownRefusal, guestRefusal, dmaRefusal, pageRefusal, registerRefusal, currentOf, unregisterRefusal}
@@ -25,6 +25,7 @@ use Rattle.overlay_pages.specs.Calls.{registerTaken, registerOf, unregisterTake
 use Rattle.visibility_claims.specs.Calls.{follow}
 use Rattle.visibility_claims.specs.Table.{page, dones, fresh}
 use Rattle.change_claims.specs.Table.{two, Limits}
+use Rattle.change_claims.specs.Claims.{TakesProtection, TakesDefault, TakesRegister, TakesUnregister, TakesVisibility, FitLayout}
 
 pub full : Limits
 unfolding word writtenFrom entriesOf ramByte placeFrom listsFrom held firstPhases phaseOf flatOf askedOf ask wait startNew entered carriedChange callRefusal within knownRefusal guestRefusal dmaRefusal pageRefusal registerRefusal currentOf registerTaken registerOf
@@ -49,3 +50,16 @@ pub record Worked : Type 0 where
 pub worked : Worked
 unfolding word writtenFrom entriesOf ramByte numberOf numberAt numbersFrom neighbours runAt pick pickPlaces tableOf runEnd placeFrom listsFrom held span nextOf anyOf anyIn renewedFrom protect ask wait finish halt protectPages protectRam doneOf failedOf startNew startOld firstPhases phaseOf flatOf askedOf stageOf entered carriedChange firstRefusal answerRefusal afterDone afterFailed answerDone answerFailed protectionRefusal protectionTaken protectionOf defaultRefusal defaultStarted defaultTaken defaultOf callRefusal within knownRefusal guestRefusal dmaRefusal pageRefusal registerRefusal currentOf registerTaken registerOf unregisterRefusal unregisterTaken unregisterOf follow closed closedTo
 worked = record { default-two = refl; repeated = refl; registered = refl; unregistered = refl }
+
+-- what the claims ask is met: calls that are taken, in a layout that fits; with `default-ok` and `repeated-ok` of the table they end in Ok
+pub record Taken : Type 0 where
+  pub layout : FitLayout two
+  pub default : TakesDefault two 0 3
+  pub protection : TakesProtection fresh 1 3 (page 3 (page 4 (page 3 [])))
+  pub register : TakesRegister fresh 0 5 0 15 1
+  pub unregister : TakesUnregister two 0 5
+  pub visibility : TakesVisibility fresh 0 1 (page 3 [])
+
+pub taken : Taken
+unfolding word writtenFrom entriesOf ordered aligned refusalOf ramByte numberOf numberAt numbersFrom among repeats placeFrom listsFrom held anyOf anyIn firstRefusal visibilityRefusal protectionRefusal defaultRefusal callRefusal within knownRefusal guestRefusal dmaRefusal pageRefusal registerRefusal currentOf unregisterRefusal phaseOf firstPhases
+taken = record { layout = refl; default = (refl, refl); protection = refl; register = refl; unregister = refl; visibility = refl }

@@ -1,5 +1,9 @@
 pub mod Steps
 pub mod Changes
+pub mod Ram
+pub mod Through
+pub mod Permits
+pub mod Left
 pub mod Tables
 pub mod Counts
 pub mod Calls
@@ -8,3 +12,4 @@ pub mod Finished
 pub mod Refusals
 pub mod Examples
 pub mod Pages
+pub mod Made

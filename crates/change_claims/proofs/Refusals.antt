@@ -34,12 +34,12 @@ use Rattle.protector_state.specs.Reply.{finished, askedOf, flatOf}
 use Rattle.change_state.specs.State.{isChanging}
 use Rattle.protector.specs.World.{World, Outcome, overlaysOf, fits, statusOf, statusIn}
 use Rattle.protector.specs.Calls.{decided, refusedBy, carriedChange}
-use Rattle.locked_pages.specs.Calls.{lockOf, unlockOf}
 use Rattle.locked_pages.proofs.Lists.{lock-nothing, unlock-nothing}
 use Rattle.vtl1_protections.specs.Calls.{enableRefusal, enabled, enableOf}
 use Rattle.vtl_protections.specs.Calls.{protectionRefusal, allListed, protectionTaken, protectionOf, defaultRefusal, stored, barred, renewedIn, firstPiece, defaultStarted, defaultTaken, defaultOf}
 use Rattle.overlay_tests.specs.Refusals.{registerRefusal, unregisterRefusal}
 use Rattle.overlay_pages.specs.Calls.{entryIn, counting, currentIn, registerTaken, registerOf, unregisterTaken, unregisterOf}
+use Rattle.change_claims.specs.Claims.{Refusals}
 
 -- ---- a step that asks has number 0
 
@@ -92,14 +92,7 @@ keeps w n o z h = go (eqb n 0) h
     go true h = absurd (h z)
     go false h = refl
 
--- ---- each call
-
-pub protection-keeps : (w : World) (vtl flags : ℕ) (l : List ℕ) → (protectionOf w vtl flags l .reply .number ≡ 0 → ⊥) → protectionOf w vtl flags l .world ≡ w
-unfolding protectionOf protectionTaken
-protection-keeps w vtl flags l h =
-    let t : List ℕ = allListed l (w .pages) in
-    keeps w (protectionRefusal (w .state) (fits w) (w .maps .shared) (w .tables) vtl flags l) (carriedChange w t (changes.startPages (settingsOf (w .state) .tracked) (vtlOf vtl) flags (length (pagesOf l)) t))
-    (carried-0 w t _ (pages-0 _ _ (changes.changeOf (vtlOf vtl) flags (length (pagesOf l))) t 0)) h
+-- ---- an overlay call that is taken
 
 either-0 : (b : Bool) (x y : Outcome) → x .reply .number ≡ 0 → y .reply .number ≡ 0 → cond b x y .reply .number ≡ 0
 either-0 true x y f g = f
@@ -114,10 +107,6 @@ register-0 w v p source new =
     (carried-0 w (w .pages) (changes.startNew (settingsOf (w .state) .tracked) v p source own new)
     (pick i (ltb new 16) _ _ (protect-0 i (settingsOf (w .state) .tracked) (changes.overlayOf v p new own source) stage.ProtectNew p (run p 1)) (wait-0 i (settingsOf (w .state) .tracked) (changes.overlayOf v p own own source) Add)))
 
-pub register-keeps : (w : World) (vtl p source checked new : ℕ) → (registerOf w vtl p source checked new .reply .number ≡ 0 → ⊥) → registerOf w vtl p source checked new .world ≡ w
-unfolding registerOf
-register-keeps w vtl p source checked new h = keeps w (registerRefusal (w .state) (fits w) (w .maps .shared) (w .tables) (currentIn w (vtlOf vtl) p source) vtl p source checked new) (registerTaken w (vtlOf vtl) p source new) (register-0 w (vtlOf vtl) p source new) h
-
 unregister-0 : (w : World) (v : GuestVtl) (p : ℕ) → unregisterTaken w v p .reply .number ≡ 0
 unfolding unregisterTaken changes.startOld
 unregister-0 w v p =
@@ -125,28 +114,6 @@ unregister-0 w v p =
     let x : ChangeStep = changes.startOld (settingsOf (w .state) .tracked) v p (entryIn (w .tables) v p .«previous_permissions») (entryIn (w .tables) v p .«gpn_source») in
     either-0 (ltb 1 n) (counting w v p (n - 1)) (carriedChange w (w .pages) x) refl
     (carried-0 w (w .pages) x (protect-0 _ _ (changes.overlayOf v p (entryIn (w .tables) v p .«previous_permissions») (entryIn (w .tables) v p .«previous_permissions») (entryIn (w .tables) v p .«gpn_source»)) stage.ProtectOld p (run p 1)))
-
-pub unregister-keeps : (w : World) (vtl p : ℕ) → (unregisterOf w vtl p .reply .number ≡ 0 → ⊥) → unregisterOf w vtl p .world ≡ w
-unfolding unregisterOf
-unregister-keeps w vtl p h = keeps w (unregisterRefusal (w .state) (fits w) (w .tables) vtl p) (unregisterTaken w (vtlOf vtl) p) (unregister-0 w (vtlOf vtl) p) h
-
-pub lock-keeps : (s t : List ℕ) (vtl : ℕ) (l : List ℕ) → (lockOf s t vtl l .reply .number ≡ 0 → ⊥) → lockOf s t vtl l .tables ≡ t
-lock-keeps = lock-nothing
-
-pub unlock-keeps : (s t : List ℕ) (vtl : ℕ) (l : List ℕ) → (unlockOf s t vtl l .reply .number ≡ 0 → ⊥) → unlockOf s t vtl l .tables ≡ t
-unlock-keeps = unlock-nothing
-
-pub enable-keeps : (s : List ℕ) → (enableOf s .reply .number ≡ 0 → ⊥) → enableOf s .state ≡ s
-unfolding enableOf
-enable-keeps s h = go (eqb (enableRefusal s) 0) h
-  where
-    n : ℕ
-    n = enableRefusal s
-
-    go : (b : Bool) → (cond b (enabled (set s 19 1) (finished 0 0 0 0)) (enabled s (finished n (codeOf n) 0 0)) .reply .number ≡ 0 → ⊥)
-        → cond b (enabled (set s 19 1) (finished 0 0 0 0)) (enabled s (finished n (codeOf n) 0 0)) .state ≡ s
-    go true h = absurd (h refl)
-    go false h = refl
 
 -- ---- a default change
 
@@ -193,7 +160,7 @@ module _ (w : World) (vtl flags : ℕ) where
   chosen a b n = cond a (cond b (refusedBy w₁ 10) (defaultStarted (renewedIn w₁ (vtlOf vtl) flags) (vtlOf vtl) flags)) (refusedBy w n)
 
   -- any number but 10 leaves all, 10 leaves the default stored
-  pub default-keeps : (defaultOf w vtl flags .reply .number ≡ 0 → ⊥) → (defaultOf w vtl flags .reply .number ≡ 10 → ⊥) → defaultOf w vtl flags .world ≡ w
+  default-keeps : (defaultOf w vtl flags .reply .number ≡ 0 → ⊥) → (defaultOf w vtl flags .reply .number ≡ 10 → ⊥) → defaultOf w vtl flags .world ≡ w
   unfolding defaultOf defaultTaken
   default-keeps h k = go (eqb (defaultRefusal (w .state) (fits w) vtl flags) 0) (barred (w .maps .private) (w₁ .state) (w .tables) (vtlOf vtl)) h k
     where
@@ -203,7 +170,7 @@ module _ (w : World) (vtl flags : ℕ) where
       go true false h k = absurd (h started-0)
       go false b h k = refl
 
-  pub default-10 : defaultOf w vtl flags .reply .number ≡ 10 → defaultOf w vtl flags .world ≡ w₁
+  default-10 : defaultOf w vtl flags .reply .number ≡ 10 → defaultOf w vtl flags .world ≡ w₁
   unfolding defaultOf defaultTaken
   default-10 h = go (eqb (defaultRefusal (w .state) (fits w) vtl flags) 0) (barred (w .maps .private) (w₁ .state) (w .tables) (vtlOf vtl)) h
     where
@@ -211,3 +178,28 @@ module _ (w : World) (vtl flags : ℕ) where
       go true true h = refl
       go true false h = absurd (omega (arith, h, started-0))
       go false b h = false≢true (sym (not-10 (w .state) (fits w) vtl flags) ∙ eq-eqb (defaultRefusal (w .state) (fits w) vtl flags) 10 h)
+
+-- THE CLAIMS
+pub refusals-keep : Refusals
+unfolding protectionOf protectionTaken registerOf unregisterOf enableOf
+refusals-keep =
+    record {
+      protection = λ w vtl flags l h.
+          let t : List ℕ = allListed l (w .pages) in
+          keeps w (protectionRefusal (w .state) (fits w) (w .maps .shared) (w .tables) vtl flags l) (carriedChange w t (changes.startPages (settingsOf (w .state) .tracked) (vtlOf vtl) flags (length (pagesOf l)) t))
+          (carried-0 w t _ (pages-0 _ _ (changes.changeOf (vtlOf vtl) flags (length (pagesOf l))) t 0)) h;
+      default = default-keeps;
+      default-10 = default-10;
+      register = λ w vtl p source checked new h.
+          keeps w (registerRefusal (w .state) (fits w) (w .maps .shared) (w .tables) (currentIn w (vtlOf vtl) p source) vtl p source checked new) (registerTaken w (vtlOf vtl) p source new)
+          (register-0 w (vtlOf vtl) p source new) h;
+      unregister = λ w vtl p h. keeps w (unregisterRefusal (w .state) (fits w) (w .tables) vtl p) (unregisterTaken w (vtlOf vtl) p) (unregister-0 w (vtlOf vtl) p) h;
+      lock = lock-nothing;
+      unlock = unlock-nothing;
+      enable = λ s h. enabled-or s (enableRefusal s) (eqb (enableRefusal s) 0) h;
+    }
+  where
+    enabled-or : (s : List ℕ) (n : ℕ) (b : Bool) → (cond b (enabled (set s 19 1) (finished 0 0 0 0)) (enabled s (finished n (codeOf n) 0 0)) .reply .number ≡ 0 → ⊥)
+        → cond b (enabled (set s 19 1) (finished 0 0 0 0)) (enabled s (finished n (codeOf n) 0 0)) .state ≡ s
+    enabled-or s n true h = absurd (h refl)
+    enabled-or s n false h = refl

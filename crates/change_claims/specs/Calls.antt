@@ -33,9 +33,13 @@ protectionWhole w v flags l gs = change (wholePages (trackedIn w) v (flagsOf fla
 abbrev pub renewedFor : World → GuestVtl → ℕ → List ℕ
 renewedFor w v flags = renewedTables (w .maps .private) (w .state) (w .tables) v flags
 
+-- the pages that are overlays of a VTL: renewing leaves them
+abbrev pub overlayIn : List ℕ → GuestVtl → ℕ → Bool
+overlayIn tables v p = isOverlay (overlaysOf tables v) p
+
 abbrev pub defaultWhole : World → GuestVtl → ℕ → List Given → Change
 defaultWhole w v flags gs =
-    change (wholeRam (trackedIn w) v (flagsOf flags) (entriesIn (w .state)) (overlaysOf (renewedFor w v flags) v) (w .maps) gs) (renewedFor w v flags)
+    change (wholeRam (trackedIn w) v (flagsOf flags) (entriesIn (w .state)) (overlayIn (w .tables) v) (w .maps) gs) (renewedFor w v flags)
 
 -- ---- register_overlay_page, unregister_overlay_page
 

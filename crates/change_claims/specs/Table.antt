@@ -12,9 +12,8 @@ use Rattle.permissions.specs.HvError.{codeOf}
 use Rattle.pages.specs.Pages.{pagesOf, numberOf, numberAt, numbersFrom}
 use Rattle.pages.specs.Runs.{run, runsOf}
 use Rattle.overlays.specs.Overlays.{placeFrom}
-use Rattle.defaults.specs.Pieces.{span, nextOf}
 use Rattle.defaults.specs.Renewed.{renewedFrom}
-use Rattle.defaults.specs.Visit.{piecesFrom}
+use Rattle.defaults.specs.Visit.{upTo, pick}
 use Rattle.locks.specs.Locks.{total}
 use Rattle.locked_pages.specs.Calls.{ended, lockRefusal, lockOf}
 use Rattle.locked_pages.specs.Lists.{Lists, listsAt, withLists, Holds, Makes}
@@ -24,9 +23,8 @@ use Rattle.protector.specs.World.{World, world, overlaysOf}
 use Rattle.overlay_tests.specs.Refusals.{currentOf}
 use Rattle.overlay_pages.specs.Calls.{registerOf}
 use Rattle.visibility_claims.specs.Whole.{Succeeds, Fails, Ok, FailedAt, Halts, one, inTurn, perRun}
-use Rattle.visibility_claims.specs.Ends.{pageEnd}
 use Rattle.visibility_claims.specs.Table.{page, dones, fresh}
-use Rattle.change_claims.specs.Whole.{Change, wholeRuns, wholeEntry, wholeOverlay}
+use Rattle.change_claims.specs.Whole.{Change, wholeRuns, ramRuns, wholeEntry, wholeOverlay}
 use Rattle.change_claims.specs.Calls.{protectionWhole, defaultWhole, registerWhole, unregisterWhole}
 
 -- a fresh protector with these overlays of VTL0: how many, then five words for each
@@ -86,7 +84,7 @@ pub record Limits : Type 0 where
       → lockOf s t vtl l ≡ ended t 17
 
 pub changes : Changes
-unfolding word writtenFrom entriesOf ramByte numberOf numberAt numbersFrom runsOf placeFrom span nextOf renewedFrom piecesFrom pageEnd currentOf one inTurn perRun wholeRuns wholeEntry wholeOverlay closed closedTo
+unfolding word writtenFrom entriesOf ramByte numberOf numberAt numbersFrom runsOf placeFrom upTo pick renewedFrom currentOf one inTurn perRun wholeRuns ramRuns wholeEntry wholeOverlay closed closedTo
 changes =
     record {
       default-asked = refl;

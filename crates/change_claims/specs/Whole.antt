@@ -1,8 +1,9 @@
 -- A whole protection change, default change or overlay call under a list of backend answers, written from document 01, "The request under way", its last
 -- paragraph, "Overlays and locks" and "Defaults".
-use mathlib.Core.Bool.{Bool, cond}
+use mathlib.Core.Bool.{Bool, not, cond, _&&_}
 use mathlib.Core.List.{List, [], _∷_, _++_}
-use Prim.Native.Nat.{ℕ}
+use Prim.Native.Nat.{ℕ, _-_}
+use Rattle.bitmap.specs.Pages.{bitAt}
 use Rattle.permissions.specs.declared.GuestVtl.{GuestVtl}
 use Rattle.permissions.specs.declared.GuestVtl.the-variants.{Vtl0}
 use Rattle.permissions.specs.declared.HvMapGpaFlags.{HvMapGpaFlags}
@@ -10,11 +11,11 @@ use Rattle.layout.specs.declared.MemoryRangeWithNode.{MemoryRangeWithNode}
 use Rattle.mapping.specs.Maps.{Maps}
 use Rattle.pages.specs.declared.PageRun.{PageRun}
 use Rattle.pages.specs.Runs.{run, runsOf}
-use Rattle.defaults.specs.Visit.{pieces}
+use Rattle.defaults.specs.Pieces.{pageUp}
+use Rattle.defaults.specs.Visit.{upTo, pick}
 use Rattle.acceptor.specs.declared.Operation.{Operation}
 use Rattle.acceptor.specs.declared.Operation.the-variants.{Wait, Protect, Flush, TlbWait}
 use Rattle.visibility_claims.specs.Whole.{Given, Succeeds, Fails, Ok, FailedAt, Whole, stands, one, inTurn, perRun, protecting}
-use Rattle.visibility_claims.specs.Ends.{pageEnd}
 
 -- a call with the tables of overlays and locks that it leaves
 pub record Change : Type 0 where
@@ -47,12 +48,22 @@ wholeRuns tracked v f rs m gs = inTurn (protecting tracked) (runOperations v f r
 abbrev pub wholePages : Bool → GuestVtl → HvMapGpaFlags → List ℕ → Maps → List Given → Whole
 wholePages tracked v f ps m gs = wholeRuns tracked v f (runsOf ps) m gs
 
--- of all private RAM without an overlay in the target VTL: ascending, cut at entry ends; there are no more pieces than pages up to the last of RAM
-abbrev pub ramRuns : List MemoryRangeWithNode → List ℕ → Maps → List PageRun
-ramRuns es overlays m = pieces (pageEnd es) (m .private) overlays es
+-- ---- of all private RAM without an overlay in the target VTL ("Defaults"): entry by entry of the layout, the runs of such pages
 
-abbrev pub wholeRam : Bool → GuestVtl → HvMapGpaFlags → List MemoryRangeWithNode → List ℕ → Maps → List Given → Whole
-wholeRam tracked v f es overlays m gs = wholeRuns tracked v f (ramRuns es overlays m) m gs
+-- the pages of an entry, ascending
+abbrev pub entryPages : MemoryRangeWithNode → List ℕ
+entryPages e = upTo (pageUp (e .start)) (pageUp (e .end) - pageUp (e .start))
+
+-- marked private, and no overlay of the target VTL
+abbrev pub isProtected : List ℕ → (ℕ → Bool) → ℕ → Bool
+isProtected private overlay p = bitAt 8 private p && not (overlay p)
+
+unfoldable pub ramRuns : List MemoryRangeWithNode → (ℕ → Bool) → Maps → List PageRun
+ramRuns [] overlay m = []
+ramRuns (e ∷ es) overlay m = runsOf (pick (isProtected (m .private) overlay) (entryPages e)) ++ ramRuns es overlay m
+
+abbrev pub wholeRam : Bool → GuestVtl → HvMapGpaFlags → List MemoryRangeWithNode → (ℕ → Bool) → Maps → List Given → Whole
+wholeRam tracked v f es overlay m gs = wholeRuns tracked v f (ramRuns es overlay m) m gs
 
 -- ---- an overlay call
 
