@@ -1,7 +1,7 @@
+pub mod Requested
 pub mod Maps
 pub mod Steps
 pub mod Counts
-pub mod Operations
 pub mod Taken
 pub mod Calls
 pub mod Refusals

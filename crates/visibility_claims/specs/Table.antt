@@ -13,15 +13,14 @@ use Rattle.permissions.specs.HvError.{codeOf}
 use Rattle.mapping.specs.Maps.{Maps, maps, built}
 use Rattle.pages.specs.Pages.{numberOf, numberAt, numbersFrom, among, repeats}
 use Rattle.pages.specs.Runs.{run, runsOf}
-use Rattle.request.specs.Request.{pick, pickPlaces, stopAt}
 use Rattle.overlays.specs.Overlays.{placeFrom}
 use Rattle.locks.specs.Locks.{listsFrom, held}
-use Rattle.acceptor.specs.declared.Operation.the-variants.{Wait, FlushAll, Protect, Invalidate, Modify, Accept, Zero}
 use Rattle.protector_state.specs.State.{firstPhases, phaseOf, builtState}
 use Rattle.protector_state.specs.Reply.{finished}
 use Rattle.protector.specs.World.{World, world}
 use Rattle.protector.specs.Calls.{firstRefusal, visibilityRefusal, visibilityOf}
-use Rattle.visibility_claims.specs.Whole.{Given, Succeeds, Fails, Ok, StoppedAt, FailedAt, Whole, one, inTurn, perRun, wholeShare, returned, modified, wholeReturn}
+use Rattle.visibility_claims.specs.Whole.{Wait, FlushAll, Protect, Invalidate, Modify, Accept, Zero, Given, Succeeds, Fails, Ok, StoppedAt, FailedAt, Whole, one, inTurn, perRun, wholeShare, returned, modified, wholeReturn}
+use Rattle.visibility_claims.specs.Requested.{denial, requestedFrom, pagesIn, placesIn}
 use Rattle.visibility_claims.specs.Calls.{wholeOf}
 
 abbrev pub ram : List ℕ
@@ -64,12 +63,12 @@ P5-again v n = wholeOf (with enabled (P5 v n .maps)) v true (page 3 []) (dones 3
 
 pub record Visibility : Type 0 where
   pub P2-asked : P2 .asked
-      ≡ Wait ∷ FlushAll ∷ Protect Vtl0 noFlags (run 3 1) ∷ Protect Vtl1 noFlags (run 3 1) ∷ Invalidate (run 3 1) ∷ Protect Vtl0 noFlags (run 9 2) ∷ Protect Vtl1 noFlags (run 9 2) ∷ Invalidate (run 9 2) ∷ Modify true 3 ∷ []
+      ≡ Wait ∷ FlushAll ∷ Protect Vtl0 noFlags (run 3 1) ∷ Protect Vtl1 noFlags (run 3 1) ∷ Invalidate (run 3 1) ∷ Protect Vtl0 noFlags (run 9 2) ∷ Protect Vtl1 noFlags (run 9 2) ∷ Invalidate (run 9 2) ∷ Modify true (3 ∷ 9 ∷ 10 ∷ []) ∷ []
   pub P2-counted : length (P2 .asked) ≡ 9
   pub P2-private : P2 .maps .private ≡ 0xf7 ∷ 0xf9 ∷ 0x00 ∷ 0x00 ∷ 0xff ∷ []
   pub P2-shared : P2 .maps .shared ≡ 0x08 ∷ 0x06 ∷ 0x00 ∷ 0x00 ∷ 0x00 ∷ []
   pub P2-ok : P2 .stand ≡ Ok
-  pub P3-asked : P3 .asked ≡ Wait ∷ FlushAll ∷ Modify false 2 ∷ Accept (run 9 1) ∷ Zero (run 9 1) ∷ Protect Vtl0 allFlags (run 9 1) ∷ []
+  pub P3-asked : P3 .asked ≡ Wait ∷ FlushAll ∷ Modify false (9 ∷ 10 ∷ []) ∷ Accept (run 9 1) ∷ Zero (run 9 1) ∷ Protect Vtl0 allFlags (run 9 1) ∷ []
   pub P3-private : P3 .maps .private ≡ 0xf7 ∷ 0xfb ∷ 0x00 ∷ 0x00 ∷ 0xff ∷ []
   pub P3-shared : P3 .maps .shared ≡ 0x08 ∷ 0x04 ∷ 0x00 ∷ 0x00 ∷ 0x00 ∷ []
   pub P3-failed : P3 .stand ≡ FailedAt 77 1
@@ -81,7 +80,7 @@ pub record Visibility : Type 0 where
   pub long-refused : visibilityOf fresh 0 1 (replicate 4104 0) .reply ≡ finished 5 (codeOf 5) 0 0
 
 pub visibility : Visibility
-unfolding word writtenFrom entriesOf ramByte numberOf numberAt numbersFrom among repeats runsOf pick pickPlaces stopAt placeFrom listsFrom held phaseOf firstPhases firstRefusal visibilityRefusal visibilityOf one inTurn perRun wholeShare returned modified wholeReturn
+unfolding word writtenFrom entriesOf ramByte numberOf numberAt numbersFrom among repeats runsOf placeFrom listsFrom held phaseOf firstPhases firstRefusal visibilityRefusal visibilityOf denial requestedFrom pagesIn placesIn one inTurn perRun wholeShare returned modified wholeReturn
 visibility =
     record {
       P2-asked = refl;
