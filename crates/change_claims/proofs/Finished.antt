@@ -15,15 +15,13 @@ use Rattle.pages.specs.declared.PageRun.{PageRun}
 use Rattle.pages.specs.Pages.{pagesOf}
 use Rattle.pages.specs.Runs.{run, runsOf}
 use Rattle.overlays.specs.Overlays.{isOverlay}
-use Rattle.acceptor.specs.declared.Operation.{Operation}
-use Rattle.acceptor.specs.declared.Operation.the-variants.{Protect}
 use Rattle.protector_state.specs.State.{settingsOf, entriesIn}
 use Rattle.protector_state.specs.Reply.{finished, flatOf}
 use Rattle.protector.specs.World.{World, overlaysOf, fits}
 use Rattle.vtl_protections.specs.Calls.{protectionRefusal, protectionOf, defaultRefusal, stored, barred, defaultOf}
 use Rattle.overlay_tests.specs.Refusals.{registerRefusal, unregisterRefusal}
 use Rattle.overlay_pages.specs.Calls.{entryIn, currentIn, registerOf, unregisterOf}
-use Rattle.visibility_claims.specs.Whole.{Given, Succeeds, Fails, Stand, Waits, Ok, StoppedAt, FailedAt, Halts, Whole, stands, fails, one, inTurn, protecting}
+use Rattle.visibility_claims.specs.Whole.{Operation, Protect, Given, Succeeds, Fails, Stand, Denied, Waits, Ok, StoppedAt, FailedAt, Halts, Whole, stands, fails, one, inTurn, protecting}
 use Rattle.visibility_claims.specs.Runs.{told, whole}
 use Rattle.visibility_claims.specs.Calls.{Told, follow, Says}
 use Rattle.change_claims.specs.Whole.{Change, closing, ended, runOperations, ramRuns, wholeRuns, wholeEntry, protectingPage, denied, wholeOverlay}
@@ -35,6 +33,7 @@ use Rattle.change_claims.proofs.Default.{ram-end, default-is-whole}
 -- ---- what ended with Ok asked for all
 
 abbrev isOk : Stand → Bool
+isOk (Denied n) = false
 isOk Waits = false
 isOk Ok = true
 isOk (StoppedAt i) = false

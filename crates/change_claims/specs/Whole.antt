@@ -11,9 +11,7 @@ use Rattle.mapping.specs.Maps.{Maps}
 use Rattle.pages.specs.declared.PageRun.{PageRun}
 use Rattle.pages.specs.Runs.{run, runsOf}
 use Rattle.defaults.specs.Visit.{pieces}
-use Rattle.acceptor.specs.declared.Operation.{Operation}
-use Rattle.acceptor.specs.declared.Operation.the-variants.{Wait, Protect, Flush, TlbWait}
-use Rattle.visibility_claims.specs.Whole.{Given, Succeeds, Fails, Ok, FailedAt, Whole, stands, one, inTurn, perRun, protecting}
+use Rattle.visibility_claims.specs.Whole.{Operation, Wait, Protect, Flush, TlbWait, Given, Succeeds, Fails, Ok, FailedAt, Whole, stands, one, inTurn, perRun, protecting}
 use Rattle.visibility_claims.specs.Ends.{pageEnd}
 
 -- a call with the tables of overlays and locks that it leaves
