@@ -8,4 +8,5 @@ pub mod Refusals
 pub mod Ends
 pub mod Marks
 pub mod Long
+pub mod Table
 pub mod Examples
