@@ -16,7 +16,7 @@ use Rattle.permissions.specs.declared.GuestVtl.the-variants.{Vtl0, Vtl1}
 use Rattle.permissions.specs.declared.IsolationType.{IsolationType}
 use Rattle.permissions.specs.Flags.{fitVtl, vtlOf, vtlNumber, fitBool, boolOf}
 use Rattle.layout.specs.Layout.{mapLen}
-use Rattle.mapping.specs.Maps.{Maps, marksFit, permissionLen, permissionsFit}
+use Rattle.mapping.specs.Maps.{Maps, Permissions, marksFit, permissionLen, permissionsFit}
 use Rattle.pages.specs.declared.PageRun.{PageRun}
 use Rattle.pages.specs.Pages.{pagesOf, isLong, repeats, isRagged}
 use Rattle.request.specs.Request.{pickPlaces, put, wanted}
@@ -421,6 +421,13 @@ taken-input w vtl visibility l z = go (inputRefusal w vtl visibility l) _ (sym (
         either true e h = eqb-true n 0 e
         either false e h = h
 
+pub status : (n rest : ℕ) → unless (eqb n 0) n rest ≡ 0 → (n ≡ 0) × (rest ≡ 0)
+status n rest h = go (eqb n 0) refl h
+  where
+    go : (b : Bool) → eqb n 0 ≡ b → cond b rest n ≡ 0 → (n ≡ 0) × (rest ≡ 0)
+    go true e h = (eqb-true n 0 e, h)
+    go false e h = absurd (eqb-false n 0 e h)
+
 -- one whose input and state don't refuse it: what it was found to have
 record Taken (w : World) (l : List ℕ) : Type 0 where
   block : length (w .state) ≡ 128
@@ -437,13 +444,6 @@ taken-call w vtl visibility l z =
     let d = passed (not (isLong l)) 4 _ (c .1) in
     record { block = eqb-true _ _ (a .0); idle = b .0; fit = c .0; short = not-long (isLong l) refl (d .0) }
   where
-    status : (n rest : ℕ) → unless (eqb n 0) n rest ≡ 0 → (n ≡ 0) × (rest ≡ 0)
-    status n rest h = go (eqb n 0) refl h
-      where
-        go : (b : Bool) → eqb n 0 ≡ b → cond b rest n ≡ 0 → (n ≡ 0) × (rest ≡ 0)
-        go true e h = (eqb-true n 0 e, h)
-        go false e h = absurd (eqb-false n 0 e h)
-
     not-long : (b : Bool) → isLong l ≡ b → not b ≡ true → length l ≤ 4096
     not-long true e h = false≢true h
     not-long false e h = ltb-false 4096 (length l) e
@@ -477,7 +477,12 @@ modify-pages w v share l = in-use (wanted (w .maps .shared) share) (take (stopOf
 
 module _ (w : World) (v : GuestVtl) (l : List ℕ) (k : Taken w l) where
   pages-long : length (w .pages) ≡ 1024
-  pages-long = eqb-true _ _ (and-left _ _ (and-right (marksFit (mapLen (entriesIn (w .state))) (length (w .maps .private)) (length (w .maps .shared)) && permissionsFit (permissionLen (mapLen (entriesIn (w .state))) (settingsOf (w .state) .tracked)) (length (w .maps .permissions .read)) (length (w .maps .permissions .write)) (length (w .maps .permissions .kernel)) (length (w .maps .permissions .user))) _ (k .fit)))
+  pages-long =
+      let n : ℕ = mapLen (entriesIn (w .state)) in
+      let m : Permissions = w .maps .permissions in
+      let marks : Bool = marksFit n (length (w .maps .private)) (length (w .maps .shared)) in
+      let permits : Bool = permissionsFit (permissionLen n (settingsOf (w .state) .tracked)) (length (m .read)) (length (m .write)) (length (m .kernel)) (length (m .user)) in
+      eqb-true _ _ (and-left _ _ (and-right (marks && permits) _ (k .fit)))
 
   few-pages : (n : ℕ) → length (take n (pagesOf l)) ≤ 512
   few-pages n = omega (arith, length-take n (pagesOf l), pages-few l (k .short))

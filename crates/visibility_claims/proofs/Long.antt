@@ -16,7 +16,7 @@ use Rattle.locks.specs.Locks.{listsFrom, held}
 use Rattle.protector_state.specs.State.{firstPhases, phaseOf, entriesIn}
 use Rattle.protector.specs.World.{overlaysOf, locksOf, fits, statusIn}
 use Rattle.protector.specs.Calls.{pageRefusal, firstRefusal, visibilityRefusal}
-use Rattle.visibility_claims.specs.Table.{bytesFrom, broad}
+use Rattle.visibility_claims.specs.Table.{bytesFrom, broad, Lists}
 
 -- n pages from p on
 unfoldable upFrom : ℕ → ℕ → List ℕ
@@ -103,12 +103,11 @@ unfolding phaseOf firstPhases
 broad-idle = refl
 
 -- THE CLAIMS
-pub taken-512 : visibilityRefusal (broad .state) (fits broad) (broad .tables) 0 1 (bytesFrom 0 512) ≡ 0
+pub lists : Lists
 unfolding visibilityRefusal
-taken-512 =
-    rw (broad-fits, broad-idle, short 512 (omega arith), pages-are 512, no-repeat 512 0, whole-pages 512)
-    (none-refused (pageRefusal (entriesIn (broad .state)) (overlaysOf (broad .tables) Vtl0) (locksOf (broad .tables) Vtl0) true) 512 512 0 page-taken (omega arith))
-
-pub refused-513 : visibilityRefusal (broad .state) (fits broad) (broad .tables) 0 1 (bytesFrom 0 513) ≡ 5
-unfolding visibilityRefusal
-refused-513 = rw (broad-fits, broad-idle, lt-ltb 4096 (length (bytesFrom 0 513)) (omega (arith, length-bytes 513 0)))
+lists =
+    record {
+      taken-512 = rw (broad-fits, broad-idle, short 512 (omega arith), pages-are 512, no-repeat 512 0, whole-pages 512)
+          (none-refused (pageRefusal (entriesIn (broad .state)) (overlaysOf (broad .tables) Vtl0) (locksOf (broad .tables) Vtl0) true) 512 512 0 page-taken (omega arith));
+      refused-513 = rw (broad-fits, broad-idle, lt-ltb 4096 (length (bytesFrom 0 513)) (omega (arith, length-bytes 513 0)));
+    }

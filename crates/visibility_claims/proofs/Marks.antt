@@ -20,11 +20,11 @@ use Rattle.pages.specs.Runs.{runsOf}
 use Rattle.acceptor.specs.declared.Settings.{Settings}
 use Rattle.protector_state.specs.State.{settingsOf}
 use Rattle.protector.specs.World.{World}
-use Rattle.protector.specs.Calls.{visibilityOf}
-use Rattle.visibility_claims.specs.Whole.{Operation, Wait, FlushAll, Protect, Invalidate, Release, Modify, Accept, Zero, Flush, TlbWait, Given, Succeeds, Fails, Stand, Denied, Ok, FailedAt, Halts, Whole, stands, asking, fails, one, inTurn, perRun, flushes, accepts, defaults, shareOperations, marked, withPrivate, withShared, protecting, writingNone, clearedBy, wholeShare, returned, modified, wholeReturn}
-use Rattle.visibility_claims.specs.Calls.{inputRefusal, wholeOn, wholeOf, follow}
+use Rattle.visibility_claims.specs.Whole.{Operation, Wait, FlushAll, Protect, Invalidate, Release, Modify, Accept, Zero, Flush, TlbWait, Given, Succeeds, Fails, Stand, Denied, Ok, FailedAt, Halts, Whole, stands, asking, fails}
+use Rattle.visibility_claims.specs.Whole.{one, inTurn, perRun, flushes, accepts, defaults, shareOperations, marked, withPrivate, withShared, protecting, writingNone, clearedBy, wholeShare, returned, modified, wholeReturn}
+use Rattle.visibility_claims.specs.Calls.{wholeOn, wholeOf, follow}
 use Rattle.visibility_claims.specs.Requested.{denial, Requested, requestedOf, pagesIn, placesIn}
-use Rattle.visibility_claims.specs.Marks.{Grows, past, restored}
+use Rattle.visibility_claims.specs.Marks.{Grows, past, restored, VisibilityClears, mapsAfter, VisibilitySets, SharePrivate, ReturnShared}
 use Rattle.visibility_claims.proofs.Calls.{visibility-is-whole}
 
 -- ---- marks set and cleared
@@ -147,8 +147,8 @@ return-clears : (s : Settings) (ps their : List ℕ) (m : Maps) → Grows (whole
 unfolding wholeReturn inTurn one
 return-clears s ps their m = record { private = λ p e. e; shared = clear-less ps (m .shared) }
 
--- THE CLAIMS: at the call marks are only cleared
-pub call-clears : (w : World) (v : GuestVtl) (share : Bool) (l : List ℕ) → Grows (wholeOf w v share l [] .maps) (w .maps)
+-- at the call marks are only cleared
+call-clears : (w : World) (v : GuestVtl) (share : Bool) (l : List ℕ) → Grows (wholeOf w v share l [] .maps) (w .maps)
 call-clears w v share l = go share (eqb (denial w v share (pagesOf l)) 0) (denial w v share (pagesOf l)) (requestedOf w v share l)
   where
     go : (share b : Bool) (n : ℕ) (x : Requested) → Grows (cond b (wholeOn w v share x []) (stands (w .maps) (Denied n)) .maps) (w .maps)
@@ -157,7 +157,7 @@ call-clears w v share l = go share (eqb (denial w v share (pagesOf l)) 0) (denia
     go share false n x = same (w .maps)
 
 -- and after it they are only set, by any answers gs and any more hs
-pub answers-set : (w : World) (v : GuestVtl) (share : Bool) (l : List ℕ) (gs hs : List Given) → Grows (wholeOf w v share l gs .maps) (wholeOf w v share l (gs ++ hs) .maps)
+answers-set : (w : World) (v : GuestVtl) (share : Bool) (l : List ℕ) (gs hs : List Given) → Grows (wholeOf w v share l gs .maps) (wholeOf w v share l (gs ++ hs) .maps)
 answers-set w v share l gs hs = go share (eqb (denial w v share (pagesOf l)) 0) (denial w v share (pagesOf l)) (requestedOf w v share l)
   where
     go : (share b : Bool) (n : ℕ) (x : Requested)
@@ -166,21 +166,18 @@ answers-set w v share l gs hs = go share (eqb (denial w v share (pagesOf l)) 0) 
     go false true n x = sets-return (settingsOf (w .state)) (pagesIn (x .listed)) (placesIn (x .listed)) (w .maps) .goes gs hs
     go share false n x = same (w .maps)
 
--- the same of the calls
-module _ (w : World) (vtl visibility : ℕ) (l : List ℕ) (z : inputRefusal w vtl visibility l ≡ 0) where
-  abbrev maps-after : List Given → Maps
-  maps-after gs = follow (visibilityOf w vtl visibility l) gs .last .world .maps
+-- THE CLAIMS: the same of the calls
+pub visibility-clears : VisibilityClears
+unfolding follow
+visibility-clears w vtl visibility l z =
+    subst (λ (m : Maps). Grows m (w .maps)) (sym (visibility-is-whole w vtl visibility l [] z .same-maps)) (call-clears w (vtlOf vtl) (boolOf visibility) l)
 
-  pub visibility-clears : Grows (visibilityOf w vtl visibility l .world .maps) (w .maps)
-  unfolding follow
-  visibility-clears =
-      subst (λ (m : Maps). Grows m (w .maps)) (sym (visibility-is-whole w vtl visibility l [] z .same-maps)) (call-clears w (vtlOf vtl) (boolOf visibility) l)
-
-  pub visibility-sets : (gs hs : List Given) → Grows (maps-after gs) (maps-after (gs ++ hs))
-  visibility-sets gs hs =
-      subst (λ (m : Maps). Grows m (maps-after (gs ++ hs))) (sym (visibility-is-whole w vtl visibility l gs z .same-maps))
-      (subst (λ (m : Maps). Grows (wholeOf w (vtlOf vtl) (boolOf visibility) l gs .maps) m) (sym (visibility-is-whole w vtl visibility l (gs ++ hs) z .same-maps))
-      (answers-set w (vtlOf vtl) (boolOf visibility) l gs hs))
+pub visibility-sets : VisibilitySets
+visibility-sets w vtl visibility l z gs hs =
+    let v : GuestVtl = vtlOf vtl in
+    let b : Bool = boolOf visibility in
+    subst (λ (m : Maps). Grows m (mapsAfter w vtl visibility l (gs ++ hs))) (sym (visibility-is-whole w vtl visibility l gs z .same-maps))
+    (subst (λ (m : Maps). Grows (wholeOf w v b l gs .maps) m) (sym (visibility-is-whole w vtl visibility l (gs ++ hs) z .same-maps)) (answers-set w v b l gs hs))
 
 -- ---- which marks are set again: f reads the private or the shared marks
 
@@ -204,9 +201,8 @@ module _ (f : Maps → List ℕ) (x : List ℕ) where
       kept-one o (before o m) gs (λ gs. inTurn before os (before o m) gs next) (λ code k gs. stands (before o m) Halts) (b o m ∙ e)
       (λ gs. kept-turn before b os (before o m) gs next (b o m ∙ e) a) (λ code k gs. b o m ∙ e)
 
--- THE CLAIM of a share: none, the private marks stay as the call left them
-pub share-private : (s : Settings) (v : GuestVtl) (ps : List ℕ) (end : Stand) (m : Maps) (gs : List Given)
-    → wholeShare s v ps end m gs .maps .private ≡ marked ps false (m .private)
+-- THE CLAIM of a share
+pub share-private : SharePrivate
 unfolding wholeShare
 share-private s v ps end m gs =
     kept-turn (λ m. m .private) (marked ps false (m .private)) writingNone (λ o m. refl) (shareOperations s ps) (clearedBy (s .tracked) v m ps) gs
@@ -255,9 +251,8 @@ wait-one o z os m [] next F e a = sym e
 wait-one o z os m (Succeeds ∷ gs) next F e a = a gs
 wait-one o z os m (Fails code k ∷ gs) next F e a = rw z (wait-one o z os m gs next F e a)
 
--- THE CLAIM of a return: the shared ones of the pages not processed, by the answer that Modify took
-pub return-shared : (s : Settings) (ps their : List ℕ) (m : Maps) (gs : List Given)
-    → wholeReturn s ps their m gs .maps .shared ≡ restored ps (past (Wait ∷ flushes (s .isolation)) gs) (marked ps false (m .shared))
+-- THE CLAIM of a return
+pub return-shared : ReturnShared
 unfolding wholeReturn inTurn past
 return-shared s ps their m gs = go (s .isolation)
   where

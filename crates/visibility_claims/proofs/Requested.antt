@@ -5,7 +5,7 @@ use mathlib.Core.Bool.{Bool, true, false, cond, not, _&&_}
 use mathlib.Core.List.{List, [], _∷_, _++_, append-assoc}
 use Prim.Native.Nat.{ℕ, zero, suc, _+_, _<_}
 use lib.Dec.{eqb, ltb}
-use lib.ListN.{length, getD, take, drop, length-append}
+use lib.ListN.{length, getD, take, length-append}
 use lib.Seq.{getD-append-add}
 use borrow.Author.Tests.{ltb-true, lt-ltb}
 use Rattle.laws.specs.Bools.{same, and-true}
@@ -21,8 +21,8 @@ use Rattle.request.specs.Request.{pick, pickPlaces, over, tableOf, stopAt, isOp
 use Rattle.protector_state.specs.State.{settingsOf, entriesIn}
 use Rattle.protector.specs.World.{World, overlaysOf, locksOf}
 use Rattle.protector.specs.Calls.{pageRefusal, firstRefusal, looksAt, stopOf, askedFor, tableFor}
-use Rattle.visibility_claims.specs.Whole.{Stand, Ok, StoppedAt}
-use Rattle.visibility_claims.specs.Requested.{isOverlayPage, isLockedPage, denial, accessDenied, isSo, Listed, Requested, noMore, withPage, requestedFrom, requestedOf, pagesIn, placesIn, storedIn, Placed, PlacesHold}
+use Rattle.visibility_claims.specs.Whole.{Ok, StoppedAt}
+use Rattle.visibility_claims.specs.Requested.{isOverlayPage, denial, accessDenied, isSo, Listed, Requested, noMore, withPage, requestedFrom, requestedOf, pagesIn, placesIn, storedIn, PlacesHold}
 
 -- ---- the checks of all pages
 

@@ -18,7 +18,7 @@ use Rattle.protector_state.specs.Reply.{askedOf, flatOf}
 use Rattle.protector.specs.World.{World, Outcome, fits, statusIn}
 use Rattle.protector.specs.Calls.{refusedBy, visibilityOf, answerRefusal, answerDone, answerFailed}
 use Rattle.visibility_claims.specs.Whole.{Operation, Wait, FlushAll, Protect, Invalidate, Release, Modify, Accept, Zero, Flush, TlbWait, Given, Succeeds, Fails, Denied, Whole, stands, wholeShare, wholeReturn}
-use Rattle.visibility_claims.specs.Requested.{denial, Listed, Requested, requestedOf, pagesIn, placesIn, storedIn}
+use Rattle.visibility_claims.specs.Requested.{denial, Requested, requestedOf, pagesIn, placesIn, storedIn}
 use Rattle.visibility_claims.specs.Runs.{Last, Outstanding, Gives, Ran, whole}
 
 -- ---- the whole call on what the protector is lent

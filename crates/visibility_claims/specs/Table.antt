@@ -1,4 +1,4 @@
--- P2 to P5 of document 01, its lists of 512 and 513 pages, and cases that tell a right reading from one that is nearly right, computed by the definitions: RAM
+-- P2 to P5 of document 01, its longest list, and cases that tell a right reading from one that is nearly right, computed by the definitions: RAM
 -- pages 0 to 15 and 32 to 39.
 use mathlib.Core.Bool.{true, false}
 use mathlib.Core.List.{List, [], _∷_, _++_}
@@ -114,6 +114,46 @@ broad =
     world (maps (replicate 64 0) (replicate 64 0) (replicate 64 0) (replicate 64 0) (replicate 64 0) (replicate 64 0)) (builtState (0 ∷ 2097152 ∷ 0 ∷ []) 2 1 0)
     (replicate 1024 0) (replicate 3460 0)
 
+-- where a share stops (15)
+pub record Stops : Type 0 where
+  -- a page that isn't both readable and writable: VTL0 shares it until protections are enabled; no share of VTL1 and no return stops there
+  pub read-only-before : wholeOf (with fresh readOnly) Vtl0 true (page 5 []) (dones 6) .stand ≡ Ok
+  pub read-only-after : wholeOf (with enabled readOnly) Vtl0 true (page 5 []) (dones 3) .stand ≡ StoppedAt 0
+  pub write-only-before : wholeOf (with fresh writeOnly) Vtl0 true (page 5 []) (dones 6) .stand ≡ Ok
+  pub write-only-after : wholeOf (with enabled writeOnly) Vtl0 true (page 5 []) (dones 3) .stand ≡ StoppedAt 0
+  pub read-only-vtl1 : wholeOf (with enabled readOnly) Vtl1 true (page 5 []) (dones 6) .stand ≡ Ok
+  pub read-only-private : wholeOf (with enabled readOnly) Vtl0 false (page 5 []) (dones 3) .stand ≡ Ok
+  -- 6, 3, 7, 5, 8: 3 drops out, 5 stops the list at its own place, and 8 isn't asked for
+  pub stopped-pages : pagesIn (requestedOf mixed Vtl0 true mixedList .listed) ≡ 6 ∷ 7 ∷ []
+  pub stopped-places : placesIn (requestedOf mixed Vtl0 true mixedList .listed) ≡ 0 ∷ 2 ∷ []
+  pub stopped-asked : stopped .asked ≡ Wait ∷ FlushAll ∷ Protect Vtl0 noFlags (run 6 2) ∷ Protect Vtl1 noFlags (run 6 2) ∷ Invalidate (run 6 2) ∷ Modify true (6 ∷ 7 ∷ []) ∷ []
+  pub stopped-stands : stopped .stand ≡ StoppedAt 3
+  pub stopped-private : stopped .maps .private ≡ 0x37 ∷ 0xff ∷ 0x00 ∷ 0x00 ∷ 0xff ∷ []
+  pub stopped-shared : stopped .maps .shared ≡ 0xc8 ∷ 0x00 ∷ 0x00 ∷ 0x00 ∷ 0x00 ∷ []
+
+-- what refuses a page (7, 10, 11)
+pub record Bars : Type 0 where
+  -- a page locked and overlaid isn't locked: shared it is 11, returned it is taken; locked alone it is 10 either way
+  pub overlaid-shared : visibilityOf guarded 0 1 (page 4 []) .reply ≡ finished 11 8 0 0
+  pub overlaid-returned : visibilityOf guarded 0 0 (page 4 []) .reply ≡ plain 1
+  pub locked-shared : visibilityOf guarded 0 1 (page 6 []) .reply ≡ finished 10 8 0 0
+  pub locked-returned : visibilityOf guarded 0 0 (page 6 []) .reply ≡ finished 10 8 0 0
+  -- no RAM comes before locked, and the first refused page of the list before the others
+  pub hole-locked : visibilityOf guarded 0 1 (page 20 []) .reply ≡ finished 7 8 0 0
+  pub locked-first : wholeOf guarded Vtl0 true (page 6 (page 4 (page 20 []))) [] .stand ≡ Denied 10
+  pub overlaid-first : wholeOf guarded Vtl0 true (page 4 (page 20 (page 6 []))) [] .stand ≡ Denied 11
+  pub hole-first : wholeOf guarded Vtl0 true (page 20 (page 6 (page 4 []))) [] .stand ≡ Denied 7
+  -- overlays and locks of the other VTL are no bar
+  pub vtl1s-own : wholeOf guarded Vtl0 true (page 7 (page 8 [])) (dones 6) .stand ≡ Ok
+  pub vtl0s-own : wholeOf guarded Vtl1 true (page 4 (page 6 [])) (dones 9) .stand ≡ Ok
+  pub vtl1-overlaid : wholeOf guarded Vtl1 true (page 7 []) [] .stand ≡ Denied 11
+  pub vtl1-locked : wholeOf guarded Vtl1 true (page 8 []) [] .stand ≡ Denied 10
+
+-- how long a list may be (5)
+pub record Lists : Type 0 where
+  pub taken-512 : visibilityRefusal (broad .state) (fits broad) (broad .tables) 0 1 (bytesFrom 0 512) ≡ 0
+  pub refused-513 : visibilityRefusal (broad .state) (fits broad) (broad .tables) 0 1 (bytesFrom 0 513) ≡ 5
+
 pub record Visibility : Type 0 where
   pub P2-asked : P2 .asked
       ≡ Wait ∷ FlushAll ∷ Protect Vtl0 noFlags (run 3 1) ∷ Protect Vtl1 noFlags (run 3 1) ∷ Invalidate (run 3 1) ∷ Protect Vtl0 noFlags (run 9 2) ∷ Protect Vtl1 noFlags (run 9 2) ∷ Invalidate (run 9 2) ∷ Modify true (3 ∷ 9 ∷ 10 ∷ []) ∷ []
@@ -133,36 +173,7 @@ pub record Visibility : Type 0 where
   pub P5-second : P5-again Vtl0 6 .stand ≡ StoppedAt 0
   pub P5-vtl1-first : P5 Vtl1 6 .stand ≡ Ok
   pub P5-vtl1-second : P5-again Vtl1 6 .stand ≡ Ok
-  -- a page that isn't both readable and writable: shared before protections are enabled, stopped after; VTL1 shares it, VTL0 takes it back
-  pub read-only-before : wholeOf (with fresh readOnly) Vtl0 true (page 5 []) (dones 6) .stand ≡ Ok
-  pub read-only-after : wholeOf (with enabled readOnly) Vtl0 true (page 5 []) (dones 3) .stand ≡ StoppedAt 0
-  pub write-only-before : wholeOf (with fresh writeOnly) Vtl0 true (page 5 []) (dones 6) .stand ≡ Ok
-  pub write-only-after : wholeOf (with enabled writeOnly) Vtl0 true (page 5 []) (dones 3) .stand ≡ StoppedAt 0
-  pub read-only-vtl1 : wholeOf (with enabled readOnly) Vtl1 true (page 5 []) (dones 6) .stand ≡ Ok
-  pub read-only-private : wholeOf (with enabled readOnly) Vtl0 false (page 5 []) (dones 3) .stand ≡ Ok
-  -- 6, 3, 7, 5, 8: 3 drops out, 5 stops the list at its own place, and 8 isn't asked for
-  pub stopped-pages : pagesIn (requestedOf mixed Vtl0 true mixedList .listed) ≡ 6 ∷ 7 ∷ []
-  pub stopped-places : placesIn (requestedOf mixed Vtl0 true mixedList .listed) ≡ 0 ∷ 2 ∷ []
-  pub stopped-asked : stopped .asked ≡ Wait ∷ FlushAll ∷ Protect Vtl0 noFlags (run 6 2) ∷ Protect Vtl1 noFlags (run 6 2) ∷ Invalidate (run 6 2) ∷ Modify true (6 ∷ 7 ∷ []) ∷ []
-  pub stopped-stands : stopped .stand ≡ StoppedAt 3
-  pub stopped-private : stopped .maps .private ≡ 0x37 ∷ 0xff ∷ 0x00 ∷ 0x00 ∷ 0xff ∷ []
-  pub stopped-shared : stopped .maps .shared ≡ 0xc8 ∷ 0x00 ∷ 0x00 ∷ 0x00 ∷ 0x00 ∷ []
-  -- a page locked and overlaid isn't locked: shared it is 11, returned it is taken; locked alone it is 10 either way
-  pub overlaid-shared : visibilityOf guarded 0 1 (page 4 []) .reply ≡ finished 11 8 0 0
-  pub overlaid-returned : visibilityOf guarded 0 0 (page 4 []) .reply ≡ plain 1
-  pub locked-shared : visibilityOf guarded 0 1 (page 6 []) .reply ≡ finished 10 8 0 0
-  pub locked-returned : visibilityOf guarded 0 0 (page 6 []) .reply ≡ finished 10 8 0 0
-  -- no RAM comes before locked, and the first refused page of the list before the others
-  pub hole-locked : visibilityOf guarded 0 1 (page 20 []) .reply ≡ finished 7 8 0 0
-  pub locked-first : wholeOf guarded Vtl0 true (page 6 (page 4 (page 20 []))) [] .stand ≡ Denied 10
-  pub overlaid-first : wholeOf guarded Vtl0 true (page 4 (page 20 (page 6 []))) [] .stand ≡ Denied 11
-  pub hole-first : wholeOf guarded Vtl0 true (page 20 (page 6 (page 4 []))) [] .stand ≡ Denied 7
-  -- overlays and locks of the other VTL are no bar
-  pub vtl1s-own : wholeOf guarded Vtl0 true (page 7 (page 8 [])) (dones 6) .stand ≡ Ok
-  pub vtl0s-own : wholeOf guarded Vtl1 true (page 4 (page 6 [])) (dones 9) .stand ≡ Ok
-  pub vtl1-overlaid : wholeOf guarded Vtl1 true (page 7 []) [] .stand ≡ Denied 11
-  pub vtl1-locked : wholeOf guarded Vtl1 true (page 8 []) [] .stand ≡ Denied 10
-  -- 512 pages are taken, 513 are not
-  pub taken-512 : visibilityRefusal (broad .state) (fits broad) (broad .tables) 0 1 (bytesFrom 0 512) ≡ 0
-  pub refused-513 : visibilityRefusal (broad .state) (fits broad) (broad .tables) 0 1 (bytesFrom 0 513) ≡ 5
   pub long-refused : visibilityOf fresh 0 1 (replicate 4104 0) .reply ≡ finished 5 (codeOf 5) 0 0
+  pub stops : Stops
+  pub bars : Bars
+  pub lists : Lists
