@@ -14,7 +14,6 @@ use Rattle.fault.specs.declared.PageFaultAction.the-variants.{NotShared, NotPri
 use Rattle.fault.specs.Fault.{faultOf, faultRefusal, pageFault}
 use Rattle.pages.specs.Pages.{numberOf, numberAt, numbersFrom, among, repeats}
 use Rattle.pages.specs.Runs.{runsOf}
-use Rattle.request.specs.Request.{pick, pickPlaces, stopAt}
 use Rattle.overlays.specs.Overlays.{placeFrom}
 use Rattle.locks.specs.Locks.{listsFrom, held}
 use Rattle.protector_state.specs.State.{firstPhases, phaseOf}
@@ -22,7 +21,9 @@ use Rattle.protector.specs.Calls.{firstRefusal, visibilityRefusal, visibilityOf
 use Rattle.change_claims.specs.Table.{Changes, Limits, changes}
 use Rattle.change_claims.proofs.Examples.{full}
 use Rattle.visibility_claims.specs.Whole.{one, inTurn, perRun, wholeShare, returned, modified, wholeReturn}
-use Rattle.visibility_claims.specs.Table.{P2, Visibility, visibility}
+use Rattle.visibility_claims.specs.Requested.{denial, requestedFrom, pagesIn}
+use Rattle.visibility_claims.specs.Table.{P2, Visibility}
+use Rattle.visibility_claims.proofs.Table.{visibility}
 use Rattle.chunks.specs.Chunks.{powerFrom, pieces, firstNotOf, entryWith}
 use Rattle.registrar_steps.specs.Steps.{registerFrom, lookAt, allFrom}
 use Rattle.registrar_state.specs.declared.Reply.{Reply}
@@ -88,7 +89,7 @@ pub record Worked : Type 0 where
   pub limits : Limits
 
 pub worked : Worked
-unfolding word writtenFrom entriesOf ramByte ordered aligned refusalOf spans spansFrom operandOf mapsFit faultOf faultRefusal pageFault powerFrom pieces firstNotOf entryWith registerFrom lookAt allFrom registerRefusal registerOf allRefusal allOf answerRefusal doneOf numberOf numberAt numbersFrom among repeats runsOf pick pickPlaces stopAt placeFrom listsFrom held phaseOf firstPhases firstRefusal visibilityRefusal visibilityOf one inTurn perRun wholeShare returned modified wholeReturn
+unfolding word writtenFrom entriesOf ramByte ordered aligned refusalOf spans spansFrom operandOf mapsFit faultOf faultRefusal pageFault powerFrom pieces firstNotOf entryWith registerFrom lookAt allFrom registerRefusal registerOf allRefusal allOf answerRefusal doneOf numberOf numberAt numbersFrom among repeats runsOf denial requestedFrom pagesIn placeFrom listsFrom held phaseOf firstPhases firstRefusal visibilityRefusal visibilityOf one inTurn perRun wholeShare returned modified wholeReturn
 worked =
     record {
       fit = refl;
