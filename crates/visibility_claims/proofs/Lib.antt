@@ -8,5 +8,5 @@ pub mod Refusals
 pub mod Ends
 pub mod Marks
 pub mod Long
-pub mod Table
 pub mod Examples
+pub mod Table

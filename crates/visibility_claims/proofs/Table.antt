@@ -13,6 +13,7 @@ use Rattle.protector.specs.Calls.{carriedOut, firstRefusal, visibilityRefusal, 
 use Rattle.visibility_claims.specs.Whole.{one, inTurn, perRun, wholeShare, returned, modified, wholeReturn}
 use Rattle.visibility_claims.specs.Requested.{denial, requestedFrom, pagesIn, placesIn}
 use Rattle.visibility_claims.specs.Table.{Stops, Bars, Visibility}
+use Rattle.visibility_claims.proofs.Examples.{replies}
 use Rattle.visibility_claims.proofs.Long.{lists}
 
 stops : Stops
@@ -72,6 +73,7 @@ visibility =
       P5-vtl1-first = refl;
       P5-vtl1-second = refl;
       long-refused = refl;
+      replies = replies;
       stops = stops;
       bars = bars;
       lists = lists;

@@ -20,7 +20,7 @@ use Rattle.protector.specs.World.{World, world, fits}
 use Rattle.protector.specs.Calls.{visibilityRefusal, visibilityOf}
 use Rattle.visibility_claims.specs.Whole.{Wait, FlushAll, Protect, Invalidate, Modify, Accept, Zero, Given, Succeeds, Fails, Denied, Ok, StoppedAt, FailedAt, Whole}
 use Rattle.visibility_claims.specs.Requested.{requestedOf, pagesIn, placesIn}
-use Rattle.visibility_claims.specs.Calls.{wholeOf}
+use Rattle.visibility_claims.specs.Calls.{wholeOf, Told, follow}
 
 abbrev pub ram : List ℕ
 ram = 0 ∷ 65536 ∷ 0 ∷ 131072 ∷ 163840 ∷ 1 ∷ []
@@ -94,6 +94,36 @@ mixedList = page 6 (page 3 (page 7 (page 5 (page 8 []))))
 
 abbrev stopped : Whole
 stopped = wholeOf mixed Vtl0 true mixedList (dones 6)
+
+-- ---- the same through the calls, each from what the calls before it left
+
+abbrev pub P2-calls : Told
+P2-calls = follow (visibilityOf fresh 0 1 (page 3 (page 9 (page 10 [])))) (dones 9)
+
+abbrev pub P3-calls : Told
+P3-calls = follow (visibilityOf (P2-calls .last .world) 0 0 (page 9 (page 10 []))) (Succeeds ∷ Succeeds ∷ Fails 77 1 ∷ dones 3)
+
+abbrev pub P5-calls : ℕ → ℕ → Told
+P5-calls vtl n = follow (visibilityOf enabled vtl 1 (page 3 [])) (dones n)
+
+abbrev pub P5-calls-again : ℕ → ℕ → Told
+P5-calls-again vtl n = follow (visibilityOf (P5-calls vtl n .last .world) vtl 1 (page 3 [])) (dones 3)
+
+-- what they tell: number, code, index, count
+pub record Replies : Type 0 where
+  pub P2-told : P2-calls .last .reply ≡ finished 0 0 0 9
+  pub P2-private : P2-calls .last .world .maps .private ≡ 0xf7 ∷ 0xf9 ∷ 0x00 ∷ 0x00 ∷ 0xff ∷ []
+  pub P2-shared : P2-calls .last .world .maps .shared ≡ 0x08 ∷ 0x06 ∷ 0x00 ∷ 0x00 ∷ 0x00 ∷ []
+  pub P3-told : P3-calls .last .reply ≡ finished 16 77 1 6
+  pub P3-private : P3-calls .last .world .maps .private ≡ 0xf7 ∷ 0xfb ∷ 0x00 ∷ 0x00 ∷ 0xff ∷ []
+  pub P3-shared : P3-calls .last .world .maps .shared ≡ 0x08 ∷ 0x04 ∷ 0x00 ∷ 0x00 ∷ 0x00 ∷ []
+  pub P5-first : P5-calls 0 6 .last .reply ≡ finished 0 0 0 6
+  pub P5-second : P5-calls-again 0 6 .last .reply ≡ finished 15 6 0 3
+  pub P5-vtl1-first : P5-calls 1 6 .last .reply ≡ finished 0 0 0 6
+  pub P5-vtl1-second : P5-calls-again 1 6 .last .reply ≡ finished 0 0 0 3
+  pub read-only-told : follow (visibilityOf (with fresh readOnly) 0 1 (page 5 [])) (dones 6) .last .reply ≡ finished 0 0 0 6
+  pub read-only-stopped : follow (visibilityOf (with enabled readOnly) 0 1 (page 5 [])) (dones 3) .last .reply ≡ finished 15 6 0 3
+  pub stopped-told : follow (visibilityOf mixed 0 1 mixedList) (dones 6) .last .reply ≡ finished 15 6 3 6
 
 -- ---- 7, 10 and 11: in VTL0 an overlay on page 4 and a locked list of pages 4, 6 and 20, in VTL1 an overlay on page 7 and a locked list of page 8; page 20 is no RAM
 
@@ -174,6 +204,7 @@ pub record Visibility : Type 0 where
   pub P5-vtl1-first : P5 Vtl1 6 .stand ≡ Ok
   pub P5-vtl1-second : P5-again Vtl1 6 .stand ≡ Ok
   pub long-refused : visibilityOf fresh 0 1 (replicate 4104 0) .reply ≡ finished 5 (codeOf 5) 0 0
+  pub replies : Replies
   pub stops : Stops
   pub bars : Bars
   pub lists : Lists
