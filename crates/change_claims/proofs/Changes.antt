@@ -24,8 +24,6 @@ use Rattle.request.specs.Request.{runEnd}
 use Rattle.request.proofs.Runs.{end-after}
 use Rattle.defaults.specs.Pieces.{span, pieceOf, pageUp, pieceIn, nextOf, wanted}
 use Rattle.defaults.specs.Visit.{piecesFrom}
-use Rattle.acceptor.specs.declared.Operation.{Operation}
-use Rattle.acceptor.specs.declared.Operation.the-variants.{Wait, Protect, Flush, TlbWait}
 use Rattle.acceptor.specs.declared.Answer.{Answer}
 use Rattle.acceptor.specs.declared.Answer.the-variants.{Done, Failed, Halted}
 use Rattle.acceptor.specs.Steps.{isVtl0}
@@ -39,8 +37,8 @@ use Rattle.changes.specs.Changes as changes
 use Rattle.protector_state.specs.Reply.{askedOf, flatOf}
 use Rattle.protector.specs.World.{Outcome, overlaysOf, takesAt, entered}
 use Rattle.protector.specs.Calls.{withPermissions}
-use Rattle.visibility_claims.specs.Whole.{Given, Ok, FailedAt, Halts, Whole, stands, one, inTurn, perRun, protecting}
-use Rattle.visibility_claims.specs.Calls.{Told, follow, replies}
+use Rattle.visibility_claims.specs.Whole.{Operation, Wait, Protect, Flush, TlbWait, Given, Ok, FailedAt, Halts, Whole, stands, one, inTurn, perRun, protecting}
+use Rattle.visibility_claims.specs.Calls.{Told, follow, crossing, replies}
 use Rattle.visibility_claims.specs.Ends.{pageEnd}
 use Rattle.change_claims.specs.Whole.{closing, ended, protects, wholeEntry, protectingPage, denied, wholeOverlay, onceDone}
 use Rattle.change_claims.proofs.Steps as at
@@ -102,7 +100,7 @@ module _ (tail t : List ℕ) (long : length tail ≡ 114) where
   tr = at.settings tail t .tracked
 
   abbrev asked : Stage → Change → Maps → List ℕ → Operation → Outcome
-  asked g q m T o = record { world = at.held tail t g q m T; reply = askedOf (at.settings tail t .isolation) o }
+  asked g q m T o = record { world = at.held tail t g q m T; reply = askedOf (at.settings tail t .isolation) (crossing o) }
 
   pub fit-written : (m : Maps) (T : List ℕ) (r : PageRun) (f : HvMapGpaFlags) → fit (withPermissions m r f) T ≡ fit m T
   fit-written m T r f =
@@ -167,17 +165,17 @@ module _ (tail t : List ℕ) (long : length tail ≡ 114) where
 
   -- ---- Wait, Flush, TlbWait
 
-  ask-left : (g : Stage) (q : Change) (o : Operation) (e : Entry) (m : Maps) (T : List ℕ) → left m T (changes.ask g q o e) ≡ asked g (changes.counted q (q .at)) m (entered e (changes.counted q (q .at)) T) o
+  ask-left : (g : Stage) (q : Change) (o : Operation) (e : Entry) (m : Maps) (T : List ℕ) → left m T (changes.ask g q (crossing o) e) ≡ asked g (changes.counted q (q .at)) m (entered e (changes.counted q (q .at)) T) o
   unfolding changes.ask flatOf
   ask-left g q o e m T = ap (λ (m : Maps). asked g (changes.counted q (q .at)) m (entered e (changes.counted q (q .at)) T) o) (at.none-written (flagsOf (q .flags)) m)
 
-  keep-left : (g : Stage) (q : Change) (o : Operation) (m : Maps) (T : List ℕ) → left m T (changes.ask g q o Keep) ≡ asked g (changes.counted q (q .at)) m T o
+  keep-left : (g : Stage) (q : Change) (o : Operation) (m : Maps) (T : List ℕ) → left m T (changes.ask g q (crossing o) Keep) ≡ asked g (changes.counted q (q .at)) m T o
   unfolding entered
   keep-left g q o m T = ask-left g q o Keep m T
 
   module _ (m : Maps) (T : List ℕ) (f : fit m T ≡ true) where
     last-one : (c : ℕ) (q : Change) → q .n ≤ 512 → q .count ≡ c % 2 ^ 64 → (gs : List Given)
-        → Same c (inTurn (protecting tr) (TlbWait (q .vtl) ∷ []) m gs ended) T (follow (left m T (changes.ask stage.TlbWait q (TlbWait (q .vtl)) Keep)) gs)
+        → Same c (inTurn (protecting tr) (TlbWait (q .vtl) ∷ []) m gs ended) T (follow (left m T (changes.ask stage.TlbWait q (crossing (TlbWait (q .vtl))) Keep)) gs)
     unfolding inTurn changes.doneOf
     last-one c q h e gs =
         subst (λ (o : Outcome). Same c (one (TlbWait (q .vtl)) m gs (λ gs. ended m gs) (λ code k gs. stands m Halts)) T (follow o gs)) (sym (keep-left stage.TlbWait q (TlbWait (q .vtl)) m T))
@@ -185,7 +183,7 @@ module _ (tail t : List ℕ) (long : length tail ≡ 114) where
         (λ gs. done-over (c + 1) ((q .count + 1) % 2 ^ 64) m T f (at.once c (q .count) e) gs) (λ code k gs z. false≢true z) (λ code k gs z. refl) gs)
 
     last-two : (c : ℕ) (q : Change) → q .n ≤ 512 → q .count ≡ c % 2 ^ 64 → (gs : List Given)
-        → Same c (inTurn (protecting tr) (Flush (q .flush) ∷ TlbWait (q .vtl) ∷ []) m gs ended) T (follow (left m T (changes.ask stage.Flush q (Flush (q .flush)) Keep)) gs)
+        → Same c (inTurn (protecting tr) (Flush (q .flush) ∷ TlbWait (q .vtl) ∷ []) m gs ended) T (follow (left m T (changes.ask stage.Flush q (crossing (Flush (q .flush))) Keep)) gs)
     unfolding inTurn changes.doneOf
     last-two c q h e gs =
         subst (λ (o : Outcome). Same c (one (Flush (q .flush)) m gs (λ gs. inTurn (protecting tr) (TlbWait (q .vtl) ∷ []) m gs ended) (λ code k gs. stands m Halts)) T (follow o gs)) (sym (keep-left stage.Flush q (Flush (q .flush)) m T))

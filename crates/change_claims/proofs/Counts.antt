@@ -16,9 +16,7 @@ use Rattle.pages.specs.Runs.{run, runsOf}
 use Rattle.pages.specs.Runs as runs
 use Rattle.defaults.specs.Pieces.{nextOf}
 use Rattle.defaults.specs.Visit.{piecesFrom}
-use Rattle.acceptor.specs.declared.Operation.{Operation}
-use Rattle.acceptor.specs.declared.Operation.the-variants.{Protect}
-use Rattle.visibility_claims.specs.Whole.{Given, Succeeds, Fails, FailedAt, Halts, Whole, stands, fails, one, inTurn, perRun, protecting}
+use Rattle.visibility_claims.specs.Whole.{Operation, Protect, Given, Succeeds, Fails, FailedAt, Halts, Whole, stands, fails, one, inTurn, perRun, protecting}
 use Rattle.visibility_claims.specs.Runs.{told, after, whole}
 use Rattle.visibility_claims.specs.Calls.{Told}
 use Rattle.change_claims.specs.Whole.{closing, ended, runOperations, wholeRuns, wholeEntry, protectingPage, denied, wholeOverlay}

@@ -15,12 +15,11 @@ use Rattle.pages.specs.declared.PageRun.{PageRun}
 use Rattle.pages.specs.Pages.{pagesOf}
 use Rattle.pages.specs.Runs.{run, runsOf}
 use Rattle.overlays.specs.declared.OverlayPage.{OverlayPage}
-use Rattle.acceptor.specs.declared.Operation.the-variants.{Protect}
 use Rattle.protector_state.specs.State.{entriesIn}
 use Rattle.protector_state.specs.Reply.{finished, flatOf}
 use Rattle.protector.specs.World.{World}
 use Rattle.overlay_pages.specs.Calls.{entryIn}
-use Rattle.visibility_claims.specs.Whole.{Given, Fails, Stand, Ok, FailedAt, Whole, stands, one, protecting}
+use Rattle.visibility_claims.specs.Whole.{Operation, Protect, Given, Fails, Stand, Ok, FailedAt, Whole, stands, one, protecting}
 use Rattle.visibility_claims.specs.Runs.{told, whole}
 use Rattle.visibility_claims.specs.Calls.{Told, Says}
 use Rattle.change_claims.specs.Whole.{Change, change, closing, ended, runOperations, ramRuns, wholeRuns, wholeEntry, protectingPage, denied, wholeOverlay}

@@ -19,10 +19,8 @@ use Rattle.pages.specs.declared.PageRun.{PageRun}
 use Rattle.pages.specs.Pages.{among}
 use Rattle.pages.specs.Runs.{run, runsOf}
 use Rattle.defaults.specs.Visit.{upTo, pagesIn}
-use Rattle.acceptor.specs.declared.Operation.{Operation}
-use Rattle.acceptor.specs.declared.Operation.the-variants.{Wait, FlushAll}
 use Rattle.acceptor.specs.declared.Settings.{Settings}
-use Rattle.visibility_claims.specs.Whole.{Given, Succeeds, Fails, Stand, Waits, Ok, StoppedAt, FailedAt, Halts, Whole, stands, asking, fails, one, inTurn, perRun, flushes, accepts, defaults, shareOperations, withPrivate, withShared, forbidden, protecting, writingNone, clearedBy, wholeShare, returned, modified, wholeReturn}
+use Rattle.visibility_claims.specs.Whole.{Operation, Wait, FlushAll, Given, Succeeds, Fails, Stand, Waits, Ok, StoppedAt, FailedAt, Halts, Whole, stands, asking, fails, one, inTurn, perRun, flushes, accepts, defaults, shareOperations, withPrivate, withShared, forbidden, protecting, writingNone, clearedBy, wholeShare, returned, modified, wholeReturn}
 use Rattle.visibility_claims.specs.Operations.{past, processed}
 use Rattle.change_claims.specs.Whole.{ended, runOperations, wholeRuns, wholePages, wholeRam, protectingPage}
 use Rattle.change_claims.specs.Pages.{within, Permits, PermitsFor, Leaves}

@@ -20,13 +20,12 @@ use Rattle.permissions.specs.Flags.{vtlOf, boolOf, flagsOf, noFlags, fitVtl, fi
 use Rattle.mapping.specs.Maps.{Permissions, Maps, marksFit, permissionLen, permissionsFit}
 use Rattle.pages.specs.Pages.{among, repeats, pagesOf, isLong, isRagged}
 use Rattle.request.specs.Request.{pick, wanted}
-use Rattle.acceptor.specs.declared.Operation.the-variants.{Wait}
 use Rattle.acceptor.specs.declared.Settings.{Settings}
 use Rattle.protector_state.specs.State.{stateLen, settingsOf, ramOf, entriesIn}
 use Rattle.protector.specs.World.{World, pagesLen, tablesLen, overlaysOf, locksOf, fits, statusIn}
 use Rattle.protector.specs.Calls.{pageRefusal, firstRefusal, visibilityRefusal, stopOf, askedFor}
 use Rattle.vtl_protections.specs.Calls.{protectionRefusal, eachRefusal}
-use Rattle.visibility_claims.specs.Whole.{Given, Succeeds, Fails, flushes}
+use Rattle.visibility_claims.specs.Whole.{Wait, Given, Succeeds, Fails, flushes}
 use Rattle.visibility_claims.specs.Calls.{placesFor, wholeOf}
 use Rattle.visibility_claims.specs.Operations.{past, processed}
 use Rattle.visibility_claims.proofs.Calls.{visibility-is-whole}

@@ -15,11 +15,10 @@ use Rattle.pages.specs.declared.PageRun.{PageRun}
 use Rattle.pages.specs.Pages.{among, strict}
 use Rattle.defaults.specs.Visit.{upTo, pick, pagesIn}
 use Rattle.defaults.proofs.Visits.{visits, ascends}
-use Rattle.acceptor.specs.declared.Operation.{Operation}
 use Rattle.protector_state.specs.State.{settingsOf, entriesIn}
 use Rattle.protector_state.specs.Reply.{askedOf}
 use Rattle.protector.specs.World.{World, overlaysOf}
-use Rattle.visibility_claims.specs.Whole.{Given, Ok, perRun}
+use Rattle.visibility_claims.specs.Whole.{Operation, Given, Ok, perRun}
 use Rattle.visibility_claims.specs.Calls.{Told, replies}
 use Rattle.visibility_claims.specs.Ends.{pageEnd}
 use Rattle.change_claims.specs.Whole.{Change, runOperations, ramRuns}

@@ -26,8 +26,7 @@ use Rattle.pages.specs.Pages.{among}
 use Rattle.pages.specs.Runs.{run, before, runsOf}
 use Rattle.defaults.specs.Pieces.{pageUp}
 use Rattle.defaults.specs.Visit.{upTo, pick, pagesIn}
-use Rattle.acceptor.specs.declared.Operation.{Operation}
-use Rattle.visibility_claims.specs.Whole.{perRun, defaults, withPermissions, protecting}
+use Rattle.visibility_claims.specs.Whole.{Operation, perRun, defaults, withPermissions, protecting}
 use Rattle.change_claims.specs.Whole.{runOperations, entryPages, isProtected, ramRuns}
 use Rattle.change_claims.specs.Claims.{takenRam}
 use Rattle.change_claims.specs.Pages.{Sets, within, Permits, PermitsFor}

@@ -18,8 +18,6 @@ use Rattle.permissions.specs.Flags.{vtlOf, vtlNumber, flagsOf}
 use Rattle.layout.specs.declared.MemoryRangeWithNode.{MemoryRangeWithNode}
 use Rattle.mapping.specs.Maps.{Maps, Permissions}
 use Rattle.pages.specs.declared.PageRun.{PageRun}
-use Rattle.acceptor.specs.declared.Operation.{Operation}
-use Rattle.acceptor.specs.declared.Operation.the-variants.{Wait, FlushAll, Protect, Invalidate, Release, Modify, Accept, Zero, Flush, TlbWait}
 use Rattle.acceptor.specs.declared.Answer.the-variants.{Halted}
 use Rattle.acceptor.specs.declared.Settings.{Settings}
 use Rattle.changes.specs.declared.Stage.{Stage}
@@ -33,9 +31,9 @@ use Rattle.protector_state.specs.Reply.{askedOf, flatOf}
 use Rattle.change_state.specs.State.{stageNumber, stageOf, changeIn, changeWords}
 use Rattle.protector.specs.World.{World, world, Outcome, overlaysOf, fits, takesAt, permittedRun, entered}
 use Rattle.protector.specs.Calls.{withPermissions, carriedChange, answerRefusal, pieceAfter, afterDone, afterFailed, answerDone, answerFailed}
-use Rattle.visibility_claims.specs.Whole.{Given, Succeeds, Fails, Whole, fails, one}
+use Rattle.visibility_claims.specs.Whole.{Operation, Wait, FlushAll, Protect, Invalidate, Release, Modify, Accept, Zero, Flush, TlbWait, Given, Succeeds, Fails, Whole, fails, one}
 use Rattle.visibility_claims.specs.Runs.{told, after}
-use Rattle.visibility_claims.specs.Calls.{asksIn, Told, follow, replies, Says}
+use Rattle.visibility_claims.specs.Calls.{asksIn, Told, follow, crossing, replies, Says}
 use Rattle.change_claims.specs.Calls.{Agrees}
 
 -- a count of 64 bits, once more
@@ -81,27 +79,27 @@ none-written f m = ap (λ (p : Permissions). record { private = m .private; shar
 
 -- ---- replies
 
-asked-one : (i : IsolationType) (o : Operation) → asksIn (askedOf i o) ≡ askedOf i o ∷ []
+asked-one : (i : IsolationType) (o : Operation) → asksIn (askedOf i (crossing o)) ≡ askedOf i (crossing o) ∷ []
 unfolding askedOf
 asked-one i Wait = refl
 asked-one i FlushAll = refl
 asked-one i (Protect v f r) = refl
 asked-one i (Invalidate r) = refl
 asked-one i (Release r) = refl
-asked-one i (Modify share n) = refl
+asked-one i (Modify share ps) = refl
 asked-one i (Accept r) = refl
 asked-one i (Zero r) = refl
 asked-one i (Flush v) = refl
 asked-one i (TlbWait v) = refl
 
-outstanding : (i : IsolationType) (o : Operation) → eqb (askedOf i o .operation) 0 ≡ false
+outstanding : (i : IsolationType) (o : Operation) → eqb (askedOf i (crossing o) .operation) 0 ≡ false
 unfolding askedOf
 outstanding i Wait = refl
 outstanding i FlushAll = refl
 outstanding i (Protect v f r) = refl
 outstanding i (Invalidate r) = refl
 outstanding i (Release r) = refl
-outstanding i (Modify share n) = refl
+outstanding i (Modify share ps) = refl
 outstanding i (Accept r) = refl
 outstanding i (Zero r) = refl
 outstanding i (Flush v) = refl
@@ -168,7 +166,7 @@ module _ (tail t : List ℕ) where
 
     -- one more of the whole call
     more : (c : ℕ) (o : Operation) (w : Whole) (T : List ℕ) (x : Told) → Same (c + 1) w T x
-        → Same c (record { asked = o ∷ w .asked; maps = w .maps; stand = w .stand }) T (record { asked = asksIn (askedOf (settings .isolation) o) ++ x .asked; last = x .last })
+        → Same c (record { asked = o ∷ w .asked; maps = w .maps; stand = w .stand }) T (record { asked = asksIn (askedOf (settings .isolation) (crossing o)) ++ x .asked; last = x .last })
     unfolding replies
     more c o w T x k =
         let d : c + 1 + length (w .asked) ≡ c + suc (length (w .asked)) = omega arith in
@@ -182,7 +180,7 @@ module _ (tail t : List ℕ) where
         }
 
     abbrev told-more : Operation → Told → Told
-    told-more o x = record { asked = asksIn (askedOf (settings .isolation) o) ++ x .asked; last = x .last }
+    told-more o x = record { asked = asksIn (askedOf (settings .isolation) (crossing o)) ++ x .asked; last = x .last }
 
     abbrev whole-more : Operation → Whole → Whole
     whole-more o w = record { asked = o ∷ w .asked; maps = w .maps; stand = w .stand }
@@ -199,7 +197,7 @@ module _ (tail t : List ℕ) where
         → ((gs : List Given) → Same (c + 1) (follows gs) (Tf (Succeeds ∷ gs)) (follow (left m T (changes.doneOf (settings .tracked) g q t (next g q m T))) gs))
         → ((code k : ℕ) (gs : List Given) → fails o ≡ true → Same (c + 1) (failed code k gs) (Tf (Fails code k ∷ gs)) (follow (left m T (changes.failedOf g q)) gs))
         → ((code k : ℕ) (gs : List Given) → fails o ≡ false → Tf (Fails code k ∷ gs) ≡ Tf gs)
-        → (gs : List Given) → Same c (one o m gs follows failed) (Tf gs) (follow (record { world = held g q m T; reply = askedOf (settings .isolation) o }) gs)
+        → (gs : List Given) → Same c (one o m gs follows failed) (Tf gs) (follow (record { world = held g q m T; reply = askedOf (settings .isolation) (crossing o) }) gs)
     unfolding one follow replies
     asks c g q o m T follows failed Tf a b h f z done bad same [] =
         record {
@@ -211,19 +209,19 @@ module _ (tail t : List ℕ) where
           same-rest = refl;
         }
     asks c g q o m T follows failed Tf a b h f z done bad same (Succeeds ∷ gs) =
-        let o₀ : Outcome = record { world = held g q m T; reply = askedOf (settings .isolation) o } in
+        let o₀ : Outcome = record { world = held g q m T; reply = askedOf (settings .isolation) (crossing o) } in
         let x : Told = follow (answerDone (held g q m T)) gs in
         chosen true _ (whole-more o (follows gs)) (follows gs) c (Tf (Succeeds ∷ gs)) (told-more o x) (follow o₀ gs) (taken g q m T a h f false ∙ a)
         (λ _. more c o (follows gs) (Tf (Succeeds ∷ gs)) x
         (subst (λ (x : Outcome). Same (c + 1) (follows gs) (Tf (Succeeds ∷ gs)) (follow x gs)) (sym (done-left g q m T a h f)) (done gs)))
         (λ e. false≢true (sym e))
     asks c g q o m T follows failed Tf a b h f z done bad same (Fails code k ∷ gs) =
-        let o₀ : Outcome = record { world = held g q m T; reply = askedOf (settings .isolation) o } in
+        let o₀ : Outcome = record { world = held g q m T; reply = askedOf (settings .isolation) (crossing o) } in
         let x : Told = follow (answerFailed (held g q m T) code k) gs in
         chosen (fails o) _ (whole-more o (failed code k gs)) (one o m gs follows failed) c (Tf (Fails code k ∷ gs)) (told-more o x) (follow o₀ gs) (taken g q m T a h f true ∙ b)
         (λ e. more c o (failed code k gs) (Tf (Fails code k ∷ gs)) x
         (subst (λ (x : Outcome). Same (c + 1) (failed code k gs) (Tf (Fails code k ∷ gs)) (follow x gs)) (sym (failed-left g q m T a h f code k (b ∙ e))) (bad code k gs e)))
-        (λ e. subst (λ (T′ : List ℕ). Same c (one o m gs follows failed) T′ (follow (record { world = held g q m T; reply = askedOf (settings .isolation) o }) gs)) (sym (same code k gs e))
+        (λ e. subst (λ (T′ : List ℕ). Same c (one o m gs follows failed) T′ (follow (record { world = held g q m T; reply = askedOf (settings .isolation) (crossing o) }) gs)) (sym (same code k gs e))
         (asks c g q o m T follows failed Tf a b h f z done bad same gs))
 
     -- ---- the end: no answer is taken any more

@@ -5,10 +5,10 @@ use mathlib.Core.List.{List, [], _∷_, _++_}
 use Prim.Native.Nat.{ℕ}
 use Rattle.laws.specs.Bools.{false≢true}
 use Rattle.mapping.specs.Maps.{Maps}
-use Rattle.acceptor.specs.declared.Operation.{Operation}
-use Rattle.visibility_claims.specs.Whole.{Given, Succeeds, Fails, Stand, Waits, Ok, StoppedAt, FailedAt, Halts, Whole, stands, asking, fails, one, inTurn}
+use Rattle.visibility_claims.specs.Whole.{Operation, Given, Succeeds, Fails, Stand, Denied, Waits, Ok, StoppedAt, FailedAt, Halts, Whole, stands, asking, fails, one, inTurn}
 
 abbrev pub isOk : Stand → Bool
+isOk (Denied n) = false
 isOk Waits = false
 isOk Ok = true
 isOk (StoppedAt i) = false
@@ -17,6 +17,7 @@ isOk Halts = false
 
 -- with Ok, 15 or 16
 abbrev pub isEnd : Stand → Bool
+isEnd (Denied n) = false
 isEnd Waits = false
 isEnd Ok = true
 isEnd (StoppedAt i) = true

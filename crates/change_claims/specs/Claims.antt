@@ -17,7 +17,6 @@ use Rattle.mapping.specs.Maps.{Maps}
 use Rattle.pages.specs.Pages.{among, strict, pagesOf}
 use Rattle.pages.specs.Runs.{runsOf}
 use Rattle.defaults.specs.Visit.{upTo, pick}
-use Rattle.acceptor.specs.declared.Operation.the-variants.{Wait}
 use Rattle.acceptor.specs.declared.Settings.{Settings}
 use Rattle.protector_state.specs.State.{settingsOf, ramOf, entriesIn}
 use Rattle.protector_state.specs.declared.Reply.{Reply}
@@ -29,7 +28,7 @@ use Rattle.vtl1_protections.specs.Calls.{enableOf}
 use Rattle.vtl_protections.specs.Calls.{protectionRefusal, allListed, protectionOf, defaultRefusal, stored, barred, defaultOf}
 use Rattle.overlay_tests.specs.Refusals.{registerRefusal, unregisterRefusal}
 use Rattle.overlay_pages.specs.Calls.{entryIn, currentIn, registerOf, unregisterOf}
-use Rattle.visibility_claims.specs.Whole.{Given, Fails, Ok, FailedAt, flushes, wholeShare, wholeReturn}
+use Rattle.visibility_claims.specs.Whole.{Wait, Given, Fails, Ok, FailedAt, flushes, wholeShare, wholeReturn}
 use Rattle.visibility_claims.specs.Runs.{whole}
 use Rattle.visibility_claims.specs.Calls.{wholeOf, Told, follow}
 use Rattle.visibility_claims.specs.Operations.{past, processed}

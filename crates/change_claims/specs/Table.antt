@@ -17,12 +17,11 @@ use Rattle.defaults.specs.Visit.{upTo, pick}
 use Rattle.locks.specs.Locks.{total}
 use Rattle.locked_pages.specs.Calls.{ended, lockRefusal, lockOf}
 use Rattle.locked_pages.specs.Lists.{Lists, listsAt, withLists, Holds, Makes}
-use Rattle.acceptor.specs.declared.Operation.the-variants.{Wait, Protect, Flush, TlbWait}
 use Rattle.protector_state.specs.Reply.{finished}
 use Rattle.protector.specs.World.{World, world, overlaysOf}
 use Rattle.overlay_tests.specs.Refusals.{currentOf}
 use Rattle.overlay_pages.specs.Calls.{registerOf}
-use Rattle.visibility_claims.specs.Whole.{Succeeds, Fails, Ok, FailedAt, Halts, one, inTurn, perRun}
+use Rattle.visibility_claims.specs.Whole.{Wait, Protect, Flush, TlbWait, Succeeds, Fails, Ok, FailedAt, Halts, one, inTurn, perRun}
 use Rattle.visibility_claims.specs.Table.{page, dones, fresh}
 use Rattle.change_claims.specs.Whole.{Change, wholeRuns, ramRuns, wholeEntry, wholeOverlay}
 use Rattle.change_claims.specs.Calls.{protectionWhole, defaultWhole, registerWhole, unregisterWhole}

@@ -13,9 +13,7 @@ use Rattle.pages.specs.declared.PageRun.{PageRun}
 use Rattle.pages.specs.Runs.{run, runsOf}
 use Rattle.defaults.specs.Pieces.{pageUp}
 use Rattle.defaults.specs.Visit.{upTo, pick}
-use Rattle.acceptor.specs.declared.Operation.{Operation}
-use Rattle.acceptor.specs.declared.Operation.the-variants.{Wait, Protect, Flush, TlbWait}
-use Rattle.visibility_claims.specs.Whole.{Given, Succeeds, Fails, Ok, FailedAt, Whole, stands, one, inTurn, perRun, protecting}
+use Rattle.visibility_claims.specs.Whole.{Operation, Wait, Protect, Flush, TlbWait, Given, Succeeds, Fails, Ok, FailedAt, Whole, stands, one, inTurn, perRun, protecting}
 
 -- a call with the tables of overlays and locks that it leaves
 pub record Change : Type 0 where

@@ -7,9 +7,9 @@ use native.Mathlib.Omega.{arith}
 use lib.ListN.{length, getD, take, set, length-take}
 use lib.Seq.{getD-take, getD-set-other, drop-set-lt}
 use lib.Dec.{eqb, ltb}
-use borrow.Author.Tests.{eqb-true, eqb-false, ltb-false}
+use borrow.Author.Tests.{eqb-true, ltb-false}
 use Rattle.laws.specs.Bools.{false≢true}
-use Rattle.laws.specs.Refusal.{unless, passed}
+use Rattle.laws.specs.Refusal.{passed}
 use Rattle.layout.specs.declared.MemoryRangeWithNode.{MemoryRangeWithNode}
 use Rattle.layout.specs.Layout.{isRam}
 use Rattle.permissions.specs.declared.GuestVtl.{GuestVtl}
@@ -28,6 +28,7 @@ use Rattle.change_state.specs.State.{isChanging}
 use Rattle.protector.specs.World.{World, world, Outcome, overlaysOf, locksOf, fits, statusIn, applied}
 use Rattle.protector.specs.Calls.{refusedBy, decided, carriedOut, carriedChange, pageRefusal, firstRefusal, visibilityRefusal, stopOf, askedFor, tableFor, visibilityTaken, visibilityOf}
 use Rattle.visibility_claims.proofs.Calls.{modify-pages}
+pub use Rattle.visibility_claims.proofs.Calls.{status}
 use Rattle.history.specs.Seen.{underWayNumber, haltedNumber, Seen, asks, seesCall}
 use Rattle.history.proofs.Took.{sharedIn}
 use Rattle.history.proofs.Bits.{among-own}
@@ -35,13 +36,6 @@ use Rattle.history.proofs.Right.{opened, Right}
 use Rattle.history.proofs.Start.{among-take, repeats-take, among-pick, repeats-pick, holds, places-apart, first-all, ram-page, start-right}
 use Rattle.history.proofs.World.{Stands, settled, stops, quiet-names, idle-shut, stands-step, stands-change}
 use Rattle.history.proofs.Answers.{Told}
-
-pub status : (n rest : ℕ) → unless (eqb n 0) n rest ≡ 0 → (n ≡ 0) × (rest ≡ 0)
-status n rest h = go (eqb n 0) refl h
-  where
-    go : (b : Bool) → eqb n 0 ≡ b → cond b rest n ≡ 0 → (n ≡ 0) × (rest ≡ 0)
-    go true e h = (eqb-true n 0 e, h)
-    go false e h = absurd (eqb-false n 0 e h)
 
 pub not-true : (b : Bool) → not b ≡ true → b ≡ false
 not-true true h = false≢true h

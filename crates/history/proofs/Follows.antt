@@ -24,7 +24,7 @@ use Rattle.visibility_claims.specs.Whole.{Given}
 use Rattle.visibility_claims.specs.Calls.{answerOf, takenBy, asksIn, Told, follow}
 use Rattle.visibility_claims.specs.Ends.{pageEnd}
 use Rattle.visibility_claims.proofs.Ends as claims
-use Rattle.visibility_claims.proofs.Calls.{visibility-is-whole}
+use Rattle.visibility_claims.proofs.Calls.{taken-input, visibility-is-whole}
 use Rattle.change_claims.proofs.Calls.{protection-is-whole, register-is-whole, unregister-is-whole}
 use Rattle.change_claims.proofs.Default.{default-is-whole}
 use Rattle.history.specs.Seen.{Seen, asks, isWaiting, isTaken, seesTaken, seesCall, seesAnswer}
@@ -190,7 +190,7 @@ outcomeOf d u = given (givesWriter d u .world) (givesWriter d u .answer)
 
 follows-whole : (d : Writer) (u : World) → pageEnd (entriesIn (u .state)) ≤ 2 ^ 52 → asks (givesWriter d u .answer) ≡ true → (gs : List Given) → WholeOf d u gs (follow (outcomeOf d u) gs)
 unfolding visibilityOf protectionOf registerOf unregisterOf
-follows-whole (Visibility vtl share list) u e a gs = visibility-is-whole u vtl share list gs (decided-taken u _ (visibilityTaken u (vtlOf vtl) (boolOf share) list) a)
+follows-whole (Visibility vtl share list) u e a gs = visibility-is-whole u vtl share list gs (taken-input u vtl share list (decided-taken u _ (visibilityTaken u (vtlOf vtl) (boolOf share) list) a))
 follows-whole (Protection vtl flags list) u e a gs = protection-is-whole u vtl flags list (decided-taken u _ (protectionTaken u (vtlOf vtl) flags list) a) gs
 follows-whole (Default vtl flags) u e a gs = let z = default-free u vtl flags a in default-is-whole u vtl flags gs (z .0) (z .1) e
 follows-whole (Register vtl page source checked new) u e a gs = register-is-whole u vtl page source checked new (decided-taken u _ (registerTaken u (vtlOf vtl) page source new) a) gs

@@ -4,7 +4,7 @@ use mathlib.Core.List.{map}
 use Rattle.permissions.specs.declared.IsolationType.the-variants.{Snp}
 use Rattle.pages.specs.Pages.{among}
 use Rattle.protector_state.specs.Reply.{askedOf}
-use Rattle.visibility_claims.specs.Table.{visibility}
+use Rattle.visibility_claims.proofs.Table.{visibility}
 use Rattle.history.specs.SeenTable.{done, SeenTable}
 
 pub seen-table : SeenTable

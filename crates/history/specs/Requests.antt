@@ -9,11 +9,10 @@ use Rattle.permissions.specs.Flags.{vtlOf, boolOf}
 use Rattle.protector_state.specs.declared.Reply.{Reply}
 use Rattle.protector_state.specs.State.{settingsOf}
 use Rattle.protector.specs.World.{World}
-use Rattle.protector.specs.Calls.{tableFor}
 use Rattle.vtl_protections.specs.Calls.{stored, allListed}
 use Rattle.visibility_claims.specs.Whole.{Given}
 use Rattle.visibility_claims.specs.Runs.{whole}
-use Rattle.visibility_claims.specs.Calls.{asksIn, Told, wholeOf, Match}
+use Rattle.visibility_claims.specs.Calls.{wholeOf, pagesFor, asksIn, Told, Match}
 use Rattle.change_claims.specs.Whole.{Change}
 use Rattle.change_claims.specs.Calls.{protectionWhole, defaultWhole, registerWhole, unregisterWhole, Agrees}
 use Rattle.history.specs.Seen.{Seen, asks, isWaiting}
@@ -46,7 +45,7 @@ AgreesIn w t c x = Agrees (drop 14 (w .state)) t (settingsOf (w .state) .isolati
 
 abbrev pub WholeOf : Writer → World → List Given → Told → Type 0
 WholeOf (Visibility vtl share list) u gs x =
-    Match (u .tables) (drop 10 (u .state)) (tableFor u (vtlOf vtl) (boolOf share) list) (settingsOf (u .state) .isolation)
+    Match (u .tables) (drop 10 (u .state)) (pagesFor u (vtlOf vtl) (boolOf share) list) (settingsOf (u .state) .isolation)
     (whole (wholeOf u (vtlOf vtl) (boolOf share) list gs)) x
 WholeOf (Protection vtl flags list) u gs x = AgreesIn u (allListed list (u .pages)) (protectionWhole u (vtlOf vtl) flags list gs) x
 WholeOf (Default vtl flags) u gs x = AgreesIn (stored u (vtlOf vtl) flags) (u .pages) (defaultWhole (stored u (vtlOf vtl) flags) (vtlOf vtl) flags gs) x

@@ -6,66 +6,116 @@ use mathlib.Core.List.{List, [], _∷_, _++_}
 use Prim.Native.Nat.{ℕ, _≤_, min}
 use lib.Dec.{eqb, leb, ltb}
 use lib.ListN.{length, take, drop, length-take, length-drop}
-use lib.Seq.{getD-drop, drop-drop}
-use borrow.Author.Tests.{eqb-true, eqb-false, eq-eqb, le-ltb, ltb-false}
+use lib.Seq.{getD-drop, drop-drop, length-take-le}
+use borrow.Author.Tests.{eqb-true, eqb-false, eq-eqb, ne-eqb, le-ltb, ltb-false}
 use Rattle.laws.specs.Bools.{false≢true, digit, and-left, and-right}
 use Rattle.laws.specs.Refusal.{unless, passed}
 use Rattle.bitmap.proofs.Map.{length-written}
 use Rattle.permissions.specs.declared.GuestVtl.{GuestVtl}
 use Rattle.permissions.specs.declared.GuestVtl.the-variants.{Vtl0, Vtl1}
 use Rattle.permissions.specs.declared.IsolationType.{IsolationType}
-use Rattle.permissions.specs.Flags.{vtlOf, vtlNumber, boolOf}
+use Rattle.permissions.specs.Flags.{fitVtl, vtlOf, vtlNumber, fitBool, boolOf}
 use Rattle.layout.specs.Layout.{mapLen}
-use Rattle.mapping.specs.Maps.{Maps, marksFit, permissionLen, permissionsFit}
-use Rattle.pages.specs.Pages.{pagesOf, isLong}
-use Rattle.request.specs.Request.{put, wanted}
+use Rattle.mapping.specs.Maps.{Maps, Permissions, marksFit, permissionLen, permissionsFit}
+use Rattle.pages.specs.declared.PageRun.{PageRun}
+use Rattle.pages.specs.Pages.{pagesOf, isLong, repeats, isRagged}
+use Rattle.request.specs.Request.{pickPlaces, put, wanted}
 use Rattle.request.proofs.Table.{in-use, length-table, length-pick, place-of, pages-few, stop-unasked}
 use Rattle.acceptor.specs.declared.Phase.{Phase}
 use Rattle.acceptor.specs.declared.Phase.the-variants as at
-use Rattle.acceptor.specs.declared.Operation.{Operation}
-use Rattle.acceptor.specs.declared.Operation.the-variants.{Wait, FlushAll, Protect, Invalidate, Release, Modify, Accept, Zero, Flush, TlbWait}
+use Rattle.acceptor.specs.declared.Operation as declared
+use Rattle.acceptor.specs.declared.Operation.the-variants as crossed
 use Rattle.acceptor.specs.declared.Answer.{Answer}
 use Rattle.acceptor.specs.declared.Answer.the-variants.{Done, AccessDenied, Failed, Halted, Ask, Refused}
 use Rattle.acceptor.specs.declared.Settings.{Settings}
 use Rattle.acceptor.specs.declared.Request.{Request}
 use Rattle.acceptor.specs.declared.Writes.{Writes}
 use Rattle.acceptor.specs.declared.Step.{Step}
-use Rattle.acceptor.specs.Steps.{ask, noRequest, end, halt, doneOf, failedOf, startOf}
+use Rattle.acceptor.specs.Steps.{runOf, operationOn, operationOf, counted, ask, noRequest, end, halt, doneOf, failedOf, startOf}
 use Rattle.protector_state.specs.declared.Reply.{Reply}
 use Rattle.protector_state.specs.State.{stateLen, phaseNumber, firstPhases, phaseOf, phaseIn, requestOf, requestWords, settingsOf, entriesIn}
-use Rattle.protector_state.specs.Reply.{askedOf, flatOf}
-use Rattle.change_state.specs.State.{isChanging}
-use Rattle.protector.specs.World.{World, world, Outcome, outcome, fits, statusOf, statusIn, takes, applied}
-use Rattle.protector.specs.Calls.{carriedOut, visibilityRefusal, stopOf, askedFor, tableFor, visibilityTaken, visibilityOf, answerRefusal, answerDone, answerFailed}
-use Rattle.visibility_claims.specs.Whole.{Given, Succeeds, Fails, wholeShare, wholeReturn}
-use Rattle.visibility_claims.specs.Runs.{Ran, askedBy, lastOf, before, run, whole}
-use Rattle.visibility_claims.specs.Calls.{placesFor, wholeOf, asksIn, Told, follow, replies, Says, Match}
+use Rattle.protector_state.specs.Reply.{modifies, askedOf, flatOf}
+use Rattle.change_state.specs.State.{stageIn, isChanging}
+use Rattle.protector.specs.World.{World, world, Outcome, outcome, fits, statusOf, statusIn, takes, takesAt, takesIn, applied}
+use Rattle.protector.specs.Calls.{refusedBy, decided, carriedOut, visibilityRefusal, stopOf, askedFor, tableFor, visibilityTaken, visibilityOf, answerRefusal, answerDone, answerFailed}
+use Rattle.visibility_claims.specs.Whole.{Operation, Given, Succeeds, Fails, Stand, Denied, stands, wholeShare, wholeReturn}
+use Rattle.visibility_claims.specs.Requested.{denial, requestedOf, storedIn}
+use Rattle.visibility_claims.specs.Runs.{Ran, named, askedBy, lastOf, before, run, whole}
+use Rattle.visibility_claims.specs.Calls.{inputRefusal, wholeOn, takenBy, asksIn, Told, follow, crossing, replies, NamesAll, Says, Match, VisibilityIsWhole, VisibilityRefused}
+use Rattle.visibility_claims.proofs.Requested.{same-denial, same-pages, same-places, same-end, same-table}
 use Rattle.visibility_claims.proofs.Taken.{done-has, failed-has}
 use Rattle.visibility_claims.proofs.Counts.{share-is-whole, return-is-whole}
 
--- ---- a request keeps no more pages than it has
+-- ---- a request keeps no more pages than it has, and no Modify asks for more
+
+abbrev Small : declared.Operation → Type 0
+Small crossed.Wait = Unit {0}
+Small crossed.FlushAll = Unit {0}
+Small (crossed.Protect v f r) = Unit {0}
+Small (crossed.Invalidate r) = Unit {0}
+Small (crossed.Release r) = Unit {0}
+Small (crossed.Modify share n) = n ≤ 512
+Small (crossed.Accept r) = Unit {0}
+Small (crossed.Zero r) = Unit {0}
+Small (crossed.Flush v) = Unit {0}
+Small (crossed.TlbWait v) = Unit {0}
+
+abbrev AsksSmall : Answer → Type 0
+AsksSmall (Done n) = Unit {0}
+AsksSmall (AccessDenied i n) = Unit {0}
+AsksSmall (Failed code i n) = Unit {0}
+AsksSmall (Halted n) = Unit {0}
+AsksSmall (Ask o) = Small o
+AsksSmall (Refused n) = Unit {0}
 
 record Few (x : Step) : Type 0 where
   few : x .request .n ≤ 512
+  small : AsksSmall (x .answer)
 
 module _ (s : Settings) (t : List ℕ) where
+  small-operation : (p : Phase) (q : Request) (r : PageRun) → q .n ≤ 512 → Small (operationOn s p q r)
+  small-operation at.Idle q r h = tt
+  small-operation at.Halted q r h = tt
+  small-operation at.Wait q r h = tt
+  small-operation at.FlushAll q r h = tt
+  small-operation at.ProtectNone0 q r h = tt
+  small-operation at.ProtectNone1 q r h = tt
+  small-operation at.Invalidate q r h = tt
+  small-operation at.Release q r h = tt
+  small-operation at.Modify q r h = h
+  small-operation at.Accept q r h = tt
+  small-operation at.Zero q r h = tt
+  small-operation at.ProtectDefault0 q r h = tt
+  small-operation at.ProtectDefault1 q r h = tt
+
   few-ask : (p : Phase) (q : Request) (a : ℕ) (w : Writes) → q .n ≤ 512 → Few (ask s p q t a w)
-  unfolding ask
-  few-ask p q a w h = record { few = h }
+  unfolding ask operationOf
+  few-ask p q a w h = record { few = h; small = small-operation p (counted q a) (runOf (counted q a) t) h }
 
   few-end : (q : Request) (w : Writes) → q .n ≤ 512 → Few (end q w)
   unfolding end
-  few-end q w h = record { few = omega arith }
+  few-end q w h = record { few = omega arith; small = go (q .stopped) (q .failed) }
+    where
+      go : (a b : Bool) → AsksSmall (cond a (AccessDenied (q .index) (q .count)) (cond b (Failed (q .code) (q .index) (q .count)) (Done (q .count))))
+      go true b = tt
+      go false true = tt
+      go false false = tt
 
   few-halt : (q : Request) → q .n ≤ 512 → Few (halt q)
   unfolding halt
-  few-halt q h = record { few = h }
+  few-halt q h = record { few = h; small = tt }
+
+  done-few : (p : Phase) (q : Request) → takes p false ≡ true → q .n ≤ 512 → Few (doneOf s p q t)
+  done-few p q e h = done-has s t (λ q. q .n ≤ 512) Few few-ask few-end few-halt (λ q k code i l h. omega arith) p q e h
+
+  failed-few : (p : Phase) (q : Request) (code k : ℕ) → takes p true ≡ true → q .n ≤ 512 → Few (failedOf s p q t code k)
+  failed-few p q code k e h = failed-has s t (λ q. q .n ≤ 512) Few few-ask few-end few-halt (λ q k code i l h. omega arith) p q code k e h
 
   pub few-done : (p : Phase) (q : Request) → takes p false ≡ true → q .n ≤ 512 → doneOf s p q t .request .n ≤ 512
-  few-done p q e h = done-has s t (λ q. q .n ≤ 512) Few few-ask few-end few-halt (λ q k code i l h. omega arith) p q e h .few
+  few-done p q e h = done-few p q e h .few
 
   pub few-failed : (p : Phase) (q : Request) (code k : ℕ) → takes p true ≡ true → q .n ≤ 512 → failedOf s p q t code k .request .n ≤ 512
-  few-failed p q code k e h = failed-has s t (λ q. q .n ≤ 512) Few few-ask few-end few-halt (λ q k code i l h. omega arith) p q code k e h .few
+  few-failed p q code k e h = failed-few p q code k e h .few
 
 -- ---- what is kept is read again
 
@@ -116,26 +166,54 @@ request-read p q tail h =
 
 -- ---- replies
 
-asked-flat : (i : IsolationType) (a : Answer) → asksIn (flatOf i a) ≡ replies i (askedBy a)
-unfolding flatOf askedOf replies
-asked-flat i (Done n) = refl
-asked-flat i (AccessDenied j n) = refl
-asked-flat i (Failed code j n) = refl
-asked-flat i (Halted n) = refl
-asked-flat i (Refused n) = refl
-asked-flat i (Ask o) = go o
-  where
-    go : (o : Operation) → asksIn (askedOf i o) ≡ replies i (o ∷ [])
-    go Wait = refl
-    go FlushAll = refl
-    go (Protect v f r) = refl
-    go (Invalidate r) = refl
-    go (Release r) = refl
-    go (Modify share n) = refl
-    go (Accept r) = refl
-    go (Zero r) = refl
-    go (Flush v) = refl
-    go (TlbWait v) = refl
+-- what a step asks for crosses as it is; of Modify the table, which is long enough, names the pages
+module _ (i : IsolationType) (t : List ℕ) (wide : 512 ≤ length t) where
+  asked-flat : (a : Answer) → AsksSmall a → asksIn (flatOf i a) ≡ replies i (askedBy t a)
+  unfolding flatOf askedOf replies
+  asked-flat (Done n) h = refl
+  asked-flat (AccessDenied j n) h = refl
+  asked-flat (Failed code j n) h = refl
+  asked-flat (Halted n) h = refl
+  asked-flat (Refused n) h = refl
+  asked-flat (Ask o) h = go o h
+    where
+      go : (o : declared.Operation) → Small o → asksIn (askedOf i o) ≡ replies i (named t o ∷ [])
+      go crossed.Wait h = refl
+      go crossed.FlushAll h = refl
+      go (crossed.Protect v f r) h = refl
+      go (crossed.Invalidate r) h = refl
+      go (crossed.Release r) h = refl
+      go (crossed.Modify share n) h = ap (λ (k : ℕ). modifies share k ∷ []) (sym (length-take-le n t (omega arith)))
+      go (crossed.Accept r) h = refl
+      go (crossed.Zero r) h = refl
+      go (crossed.Flush v) h = refl
+      go (crossed.TlbWait v) h = refl
+
+  names-flat : (a : Answer) → AsksSmall a → NamesAll t (askedBy t a)
+  unfolding NamesAll
+  names-flat (Done n) h = tt
+  names-flat (AccessDenied j n) h = tt
+  names-flat (Failed code j n) h = tt
+  names-flat (Halted n) h = tt
+  names-flat (Refused n) h = tt
+  names-flat (Ask o) h = go o h
+    where
+      go : (o : declared.Operation) → Small o → NamesAll t (named t o ∷ [])
+      go crossed.Wait h = (tt, tt)
+      go crossed.FlushAll h = (tt, tt)
+      go (crossed.Protect v f r) h = (tt, tt)
+      go (crossed.Invalidate r) h = (tt, tt)
+      go (crossed.Release r) h = (tt, tt)
+      go (crossed.Modify share n) h = (ap (λ (k : ℕ). take k t) (length-take-le n t (omega arith)), tt)
+      go (crossed.Accept r) h = (tt, tt)
+      go (crossed.Zero r) h = (tt, tt)
+      go (crossed.Flush v) h = (tt, tt)
+      go (crossed.TlbWait v) h = (tt, tt)
+
+names-more : (t : List ℕ) (xs ys : List Operation) → NamesAll t xs → NamesAll t ys → NamesAll t (xs ++ ys)
+unfolding NamesAll
+names-more t [] ys h k = k
+names-more t (x ∷ xs) ys h k = (h .0, names-more t xs ys (h .1) k)
 
 says-flat : (i : IsolationType) (a : Answer) → Says i (lastOf a) (flatOf i a)
 unfolding flatOf askedOf
@@ -146,22 +224,22 @@ says-flat i (Halted n) = refl
 says-flat i (Refused n) = refl
 says-flat i (Ask o) = go o
   where
-    go : (o : Operation) → eqb (askedOf i o .operation) 0 ≡ false
-    go Wait = refl
-    go FlushAll = refl
-    go (Protect v f r) = refl
-    go (Invalidate r) = refl
-    go (Release r) = refl
-    go (Modify share n) = refl
-    go (Accept r) = refl
-    go (Zero r) = refl
-    go (Flush v) = refl
-    go (TlbWait v) = refl
+    go : (o : declared.Operation) → eqb (askedOf i o .operation) 0 ≡ false
+    go crossed.Wait = refl
+    go crossed.FlushAll = refl
+    go (crossed.Protect v f r) = refl
+    go (crossed.Invalidate r) = refl
+    go (crossed.Release r) = refl
+    go (crossed.Modify share n) = refl
+    go (crossed.Accept r) = refl
+    go (crossed.Zero r) = refl
+    go (crossed.Flush v) = refl
+    go (crossed.TlbWait v) = refl
 
 replies-more : (i : IsolationType) (xs ys : List Operation) → replies i (xs ++ ys) ≡ replies i xs ++ replies i ys
 unfolding replies
 replies-more i [] ys = refl
-replies-more i (x ∷ xs) ys = ap (λ (l : List Reply). askedOf i x ∷ l) (replies-more i xs ys)
+replies-more i (x ∷ xs) ys = ap (λ (l : List Reply). askedOf i (crossing x) ∷ l) (replies-more i xs ys)
 
 -- ---- whether an answer is taken, where what is lent fits
 
@@ -190,7 +268,7 @@ refusal-taken s p f b l c e d = rw (eq-eqb (length s) 128 l, c, e, d) (taken-at 
 
 -- ---- the world that a step leaves: the words of its request before a tail that no answer changes
 
-module _ (tail t tables : List ℕ) (long : length tail ≡ 118) where
+module _ (tail t tables : List ℕ) (long : length tail ≡ 118) (wide : 512 ≤ length t) where
   abbrev settings : Settings
   settings = settingsOf (requestWords at.Idle noRequest ++ tail)
 
@@ -242,27 +320,30 @@ module _ (tail t tables : List ℕ) (long : length tail ≡ 118) where
   Same r x = Match tables tail t (settings .isolation) r x
 
   -- one answer: taken it goes on, else nothing changes
-  answered : (a : Answer) (b c : Bool) (r r₀ : Ran) (x x₀ : Told) → c ≡ b → (b ≡ true → Same r x) → Same r₀ x₀
-      → Same (cond b (before (askedBy a) r) r₀) (cond c (record { asked = asksIn (flatOf (settings .isolation) a) ++ x .asked; last = x .last }) x₀)
-  answered a true true r r₀ x x₀ e f g =
+  answered : (a : Answer) (b c : Bool) (r r₀ : Ran) (x x₀ : Told) → AsksSmall a → c ≡ b → (b ≡ true → Same r x) → Same r₀ x₀
+      → Same (cond b (before (askedBy t a) r) r₀) (cond c (record { asked = asksIn (flatOf (settings .isolation) a) ++ x .asked; last = x .last }) x₀)
+  answered a true true r r₀ x x₀ h e f g =
       let k = f refl in
+      let i : IsolationType = settings .isolation in
       record {
-        same-asked = ap₂ (λ (l l′ : List Reply). l ++ l′) (asked-flat (settings .isolation) a) (k .same-asked) ∙ sym (replies-more (settings .isolation) (askedBy a) (r .asked));
+        same-asked = ap₂ (λ (l l′ : List Reply). l ++ l′) (asked-flat i t wide a h) (k .same-asked) ∙ sym (replies-more i (askedBy t a) (r .asked));
+        same-named = names-more (x .last .world .pages) (askedBy t a) (r .asked) (subst (λ (t′ : List ℕ). NamesAll t′ (askedBy t a)) (sym (k .same-pages)) (names-flat i t wide a h)) (k .same-named);
         same-maps = k .same-maps;
         same-reply = k .same-reply;
         same-pages = k .same-pages;
         same-tables = k .same-tables;
         same-rest = k .same-rest;
       }
-  answered a false false r r₀ x x₀ e f g = g
-  answered a true false r r₀ x x₀ e f g = false≢true e
-  answered a false true r r₀ x x₀ e f g = false≢true (sym e)
+  answered a false false r r₀ x x₀ h e f g = g
+  answered a true false r r₀ x x₀ h e f g = false≢true e
+  answered a false true r r₀ x x₀ h e f g = false≢true (sym e)
 
-  followed : (gs : List Given) (x : Step) (m : Maps) → x .request .n ≤ 512 → fit m ≡ true → Same (run settings t x m gs) (follow (left x m) gs)
+  followed : (gs : List Given) (x : Step) (m : Maps) → Few x → fit m ≡ true → Same (run settings t x m gs) (follow (left x m) gs)
   unfolding run follow
   followed [] x m h f =
       record {
-        same-asked = asked-flat (settings .isolation) (x .answer);
+        same-asked = asked-flat (settings .isolation) t wide (x .answer) (h .small);
+        same-named = names-flat (settings .isolation) t wide (x .answer) (h .small);
         same-maps = refl;
         same-reply = says-flat (settings .isolation) (x .answer);
         same-pages = refl;
@@ -272,16 +353,16 @@ module _ (tail t tables : List ℕ) (long : length tail ≡ 118) where
   followed (Succeeds ∷ gs) x m h f =
       let y : Step = doneOf settings (x .phase) (x .request) t in
       let m′ : Maps = applied t (x .writes) m in
-      answered (x .answer) (takes (x .phase) false) _ (run settings t y m′ gs) _ (follow (answerDone (left x m .world)) gs) _ (taken x m h f false)
-      (λ e. subst (λ (o : Outcome). Same (run settings t y m′ gs) (follow o gs)) (sym (done-left x m h f e))
-      (followed gs y m′ (few-done settings t (x .phase) (x .request) e h) (fit-kept (x .writes) m ∙ f)))
+      answered (x .answer) (takes (x .phase) false) _ (run settings t y m′ gs) _ (follow (answerDone (left x m .world)) gs) _ (h .small) (taken x m (h .few) f false)
+      (λ e. subst (λ (o : Outcome). Same (run settings t y m′ gs) (follow o gs)) (sym (done-left x m (h .few) f e))
+      (followed gs y m′ (done-few settings t (x .phase) (x .request) e (h .few)) (fit-kept (x .writes) m ∙ f)))
       (followed gs x m h f)
   followed (Fails code k ∷ gs) x m h f =
       let y : Step = failedOf settings (x .phase) (x .request) t code k in
       let m′ : Maps = applied t (x .writes) m in
-      answered (x .answer) (takes (x .phase) true) _ (run settings t y m′ gs) _ (follow (answerFailed (left x m .world) code k) gs) _ (taken x m h f true)
-      (λ e. subst (λ (o : Outcome). Same (run settings t y m′ gs) (follow o gs)) (sym (failed-left x m h f code k e))
-      (followed gs y m′ (few-failed settings t (x .phase) (x .request) code k e h) (fit-kept (x .writes) m ∙ f)))
+      answered (x .answer) (takes (x .phase) true) _ (run settings t y m′ gs) _ (follow (answerFailed (left x m .world) code k) gs) _ (h .small) (taken x m (h .few) f true)
+      (λ e. subst (λ (o : Outcome). Same (run settings t y m′ gs) (follow o gs)) (sym (failed-left x m (h .few) f code k e))
+      (followed gs y m′ (failed-few settings t (x .phase) (x .request) code k e (h .few)) (fit-kept (x .writes) m ∙ f)))
       (followed gs x m h f)
 
 -- ---- from the call on
@@ -297,31 +378,98 @@ fits-kept : (w : World) (p : Phase) (q : Request) (t : List ℕ) → length t �
     → fits (world (w .maps) (requestWords p q ++ drop 10 (w .state)) t (w .tables)) ≡ fits w
 fits-kept w p q t e = rw (getD-drop 10 (w .state) 7 0, getD-drop 10 (w .state) 21 0, drop-drop 22 10 (w .state), e)
 
--- a taken call: what it was found to have
+-- ---- what refuses a call: its input and the state first, then its pages
+
+chain : (t : Bool) (code rest rest′ d : ℕ) → eqb code 0 ≡ false → rest ≡ cond (eqb rest′ 0) d rest′ → unless t code rest ≡ cond (eqb (unless t code rest′) 0) d (unless t code rest′)
+chain true code rest rest′ d z h = h
+chain false code rest rest′ d z h = rw z
+
+status-chain : (n rest rest′ d : ℕ) → rest ≡ cond (eqb rest′ 0) d rest′ → unless (eqb n 0) n rest ≡ cond (eqb (unless (eqb n 0) n rest′) 0) d (unless (eqb n 0) n rest′)
+status-chain n rest rest′ d h = go (eqb n 0) refl
+  where
+    go : (b : Bool) → eqb n 0 ≡ b → cond b rest n ≡ cond (eqb (cond b rest′ n) 0) d (cond b rest′ n)
+    go true e = h
+    go false e = rw e
+
+unfit-chain : (a b c : Bool) (d : ℕ) → unless a 8 (unless b 8 (unless c 8 d)) ≡ cond (eqb (unless (a && (b && c)) 8 0) 0) d (unless (a && (b && c)) 8 0)
+unfit-chain true true true d = refl
+unfit-chain true true false d = refl
+unfit-chain true false c d = refl
+unfit-chain false b c d = refl
+
+refusal-is : (w : World) (vtl visibility : ℕ) (l : List ℕ) → visibilityRefusal (w .state) (fits w) (w .tables) vtl visibility l
+    ≡ cond (eqb (inputRefusal w vtl visibility l) 0) (denial w (vtlOf vtl) (boolOf visibility) (pagesOf l)) (inputRefusal w vtl visibility l)
+unfolding visibilityRefusal inputRefusal
+refusal-is w vtl visibility l =
+    let d : ℕ = denial w (vtlOf vtl) (boolOf visibility) (pagesOf l) in
+    chain (eqb (length (w .state)) stateLen) 4 _ _ d refl
+    (status-chain (statusIn (w .state)) _ _ d
+    (chain (fits w) 4 _ _ d refl
+    (chain (not (isLong l)) 5 _ _ d refl
+    (chain (not (repeats (pagesOf l))) 6 _ _ d refl
+    (ap (λ (n : ℕ). unless (fitVtl vtl) 8 (unless (fitBool visibility) 8 (unless (not (isRagged l)) 8 n))) (sym (same-denial w (vtlOf vtl) (boolOf visibility) (pagesOf l)))
+    ∙ unfit-chain (fitVtl vtl) (fitBool visibility) (not (isRagged l)) d)))))
+
+-- a call that is taken is refused by neither
+pub taken-input : (w : World) (vtl visibility : ℕ) (l : List ℕ) → visibilityRefusal (w .state) (fits w) (w .tables) vtl visibility l ≡ 0 → inputRefusal w vtl visibility l ≡ 0
+taken-input w vtl visibility l z = go (inputRefusal w vtl visibility l) _ (sym (refusal-is w vtl visibility l) ∙ z)
+  where
+    go : (n d : ℕ) → cond (eqb n 0) d n ≡ 0 → n ≡ 0
+    go n d h = either (eqb n 0) refl h
+      where
+        either : (b : Bool) → eqb n 0 ≡ b → cond b d n ≡ 0 → n ≡ 0
+        either true e h = eqb-true n 0 e
+        either false e h = h
+
+pub status : (n rest : ℕ) → unless (eqb n 0) n rest ≡ 0 → (n ≡ 0) × (rest ≡ 0)
+status n rest h = go (eqb n 0) refl h
+  where
+    go : (b : Bool) → eqb n 0 ≡ b → cond b rest n ≡ 0 → (n ≡ 0) × (rest ≡ 0)
+    go true e h = (eqb-true n 0 e, h)
+    go false e h = absurd (eqb-false n 0 e h)
+
+-- one whose input and state don't refuse it: what it was found to have
 record Taken (w : World) (l : List ℕ) : Type 0 where
   block : length (w .state) ≡ 128
+  idle : statusIn (w .state) ≡ 0
   fit : fits w ≡ true
   short : length l ≤ 4096
 
-taken-call : (w : World) (vtl visibility : ℕ) (l : List ℕ) → visibilityRefusal (w .state) (fits w) (w .tables) vtl visibility l ≡ 0 → Taken w l
-unfolding visibilityRefusal
+taken-call : (w : World) (vtl visibility : ℕ) (l : List ℕ) → inputRefusal w vtl visibility l ≡ 0 → Taken w l
+unfolding inputRefusal
 taken-call w vtl visibility l z =
     let a = passed (eqb (length (w .state)) stateLen) 3 _ z in
     let b = status (statusIn (w .state)) _ (a .1) in
-    let c = passed (fits w) 3 _ b in
+    let c = passed (fits w) 3 _ (b .1) in
     let d = passed (not (isLong l)) 4 _ (c .1) in
-    record { block = eqb-true _ _ (a .0); fit = c .0; short = not-long (isLong l) refl (d .0) }
+    record { block = eqb-true _ _ (a .0); idle = b .0; fit = c .0; short = not-long (isLong l) refl (d .0) }
   where
-    status : (n rest : ℕ) → unless (eqb n 0) n rest ≡ 0 → rest ≡ 0
-    status n rest h = go (eqb n 0) refl h
-      where
-        go : (b : Bool) → eqb n 0 ≡ b → cond b rest n ≡ 0 → rest ≡ 0
-        go true e h = h
-        go false e h = absurd (eqb-false n 0 e h)
-
     not-long : (b : Bool) → isLong l ≡ b → not b ≡ true → length l ≤ 4096
     not-long true e h = false≢true h
     not-long false e h = ltb-false 4096 (length l) e
+
+-- where nothing is under way no answer is taken
+idle-takes : (s : List ℕ) (b : Bool) → statusIn s ≡ 0 → takesIn s b ≡ false
+idle-takes s b e = go (isChanging s) e
+  where
+    none : (p : Phase) → statusOf p ≡ 0 → takes p b ≡ false
+    none at.Idle e = refl
+    none at.Halted e = refl
+    none at.Wait e = absurd (omega arith)
+    none at.FlushAll e = absurd (omega arith)
+    none at.ProtectNone0 e = absurd (omega arith)
+    none at.ProtectNone1 e = absurd (omega arith)
+    none at.Invalidate e = absurd (omega arith)
+    none at.Release e = absurd (omega arith)
+    none at.Modify e = absurd (omega arith)
+    none at.Accept e = absurd (omega arith)
+    none at.Zero e = absurd (omega arith)
+    none at.ProtectDefault0 e = absurd (omega arith)
+    none at.ProtectDefault1 e = absurd (omega arith)
+
+    go : (c : Bool) → cond c 19 (statusOf (phaseIn s)) ≡ 0 → cond c (takesAt (stageIn s) b) (takes (phaseIn s) b) ≡ false
+    go true e = absurd (omega arith)
+    go false e = none (phaseIn s) e
 
 -- the pages of Modify: the first of the table
 pub modify-pages : (w : World) (v : GuestVtl) (share : Bool) (l : List ℕ) → take (length (askedFor w v share l)) (tableFor w v share l) ≡ askedFor w v share l
@@ -329,7 +477,12 @@ modify-pages w v share l = in-use (wanted (w .maps .shared) share) (take (stopOf
 
 module _ (w : World) (v : GuestVtl) (l : List ℕ) (k : Taken w l) where
   pages-long : length (w .pages) ≡ 1024
-  pages-long = eqb-true _ _ (and-left _ _ (and-right (marksFit (mapLen (entriesIn (w .state))) (length (w .maps .private)) (length (w .maps .shared)) && permissionsFit (permissionLen (mapLen (entriesIn (w .state))) (settingsOf (w .state) .tracked)) (length (w .maps .permissions .read)) (length (w .maps .permissions .write)) (length (w .maps .permissions .kernel)) (length (w .maps .permissions .user))) _ (k .fit)))
+  pages-long =
+      let n : ℕ = mapLen (entriesIn (w .state)) in
+      let m : Permissions = w .maps .permissions in
+      let marks : Bool = marksFit n (length (w .maps .private)) (length (w .maps .shared)) in
+      let permits : Bool = permissionsFit (permissionLen n (settingsOf (w .state) .tracked)) (length (m .read)) (length (m .write)) (length (m .kernel)) (length (m .user)) in
+      eqb-true _ _ (and-left _ _ (and-right (marks && permits) _ (k .fit)))
 
   few-pages : (n : ℕ) → length (take n (pagesOf l)) ≤ 512
   few-pages n = omega (arith, length-take n (pagesOf l), pages-few l (k .short))
@@ -347,14 +500,16 @@ module _ (w : World) (v : GuestVtl) (l : List ℕ) (k : Taken w l) where
     few-asked : length (askedFor w v share l) ≤ 512
     few-asked = omega (arith, length-pick P ps, few-pages (stopOf w v share l))
 
+  abbrev start : Bool → Step
+  start share = startOf (settingsOf (w .state)) v share (length (askedFor w v share l)) (stopOf w v share l) (ltb (stopOf w v share l) (length (pagesOf l)))
+
   steps-whole : (share : Bool) (gs : List Given)
-      → run (settingsOf (w .state)) (tableFor w v share l) (startOf (settingsOf (w .state)) v share (length (askedFor w v share l)) (stopOf w v share l) (ltb (stopOf w v share l) (length (pagesOf l)))) (w .maps) gs
-      ≡ whole (wholeOf w v share l gs)
+      → run (settingsOf (w .state)) (tableFor w v share l) (start share) (w .maps) gs ≡ whole (wholeOn w v share (requestedOf w v share l) gs)
   steps-whole true gs =
       let s : Settings = settingsOf (w .state) in
       let stop : ℕ = stopOf w v true l in
       share-is-whole s v (length (askedFor w v true l)) stop (ltb stop (length (pagesOf l))) (tableFor w v true l) (w .maps) gs (omega (arith, table-long true, few-asked true)) (few-asked true)
-      ∙ ap (λ (ps : List ℕ). whole (wholeShare s v ps (ltb stop (length (pagesOf l))) stop (w .maps) gs)) (modify-pages w v true l)
+      ∙ ap₂ (λ (ps : List ℕ) (end : Stand). whole (wholeShare s v ps end (w .maps) gs)) (modify-pages w v true l ∙ sym (same-pages w v true l)) (sym (same-end w v true l))
   steps-whole false gs =
       let s : Settings = settingsOf (w .state) in
       let stop : ℕ = stopOf w v false l in
@@ -362,28 +517,90 @@ module _ (w : World) (v : GuestVtl) (l : List ℕ) (k : Taken w l) where
       let t : List ℕ = tableFor w v false l in
       ap (λ (b : Bool). run s t (startOf s v false n stop b) (w .maps) gs)
       (le-ltb stop (length (pagesOf l)) (omega (arith, stop-unasked (w .maps .permissions .read) (w .maps .permissions .write) false (pagesOf l) refl)))
-      ∙ return-is-whole s v n stop t (placesFor w v false l) (w .maps) gs (omega (arith, table-long false, few-asked false)) (few-asked false)
+      ∙ return-is-whole s v n stop t (pickPlaces (P false) 0 (ps false)) (w .maps) gs (omega (arith, table-long false, few-asked false)) (few-asked false)
       (λ j h. place-of (P false) (ps false) (w .pages) pages-long (few-pages stop) j h)
-      ∙ ap (λ (ps : List ℕ). whole (wholeReturn s ps (placesFor w v false l) (w .maps) gs)) (modify-pages w v false l)
+      ∙ ap₂ (λ (ps their : List ℕ). whole (wholeReturn s ps their (w .maps) gs)) (modify-pages w v false l ∙ sym (same-pages w v false l)) (sym (same-places w v false l))
+
+  abbrev Whole-of : Bool → List ℕ → Ran → Told → Type 0
+  Whole-of share t r x = Match (w .tables) (drop 10 (w .state)) t (settingsOf (w .state) .isolation) r x
 
   taken-whole : (share : Bool) (gs : List Given)
-      → Match (w .tables) (drop 10 (w .state)) (tableFor w v share l) (settingsOf (w .state) .isolation) (whole (wholeOf w v share l gs)) (follow (visibilityTaken w v share l) gs)
+      → Whole-of share (storedIn (requestedOf w v share l .listed) (w .pages)) (whole (wholeOn w v share (requestedOf w v share l) gs)) (follow (visibilityTaken w v share l) gs)
   unfolding visibilityTaken carriedOut startOf
   taken-whole share gs =
       let s : Settings = settingsOf (w .state) in
       let tail : List ℕ = drop 10 (w .state) in
       let t : List ℕ = tableFor w v share l in
-      let x : Step = startOf s v share (length (askedFor w v share l)) (stopOf w v share l) (ltb (stopOf w v share l) (length (pagesOf l))) in
+      let x : Step = start share in
       let long : length tail ≡ 118 = length-drop 10 (w .state) ∙ omega (arith, k .block) in
-      let same = followed tail t (w .tables) long gs x (w .maps) (few-asked share) (fits-kept w at.Idle noRequest t (table-long share ∙ sym pages-long) ∙ k .fit) in
-      subst (λ (r : Ran). Match (w .tables) tail t (s .isolation) r (follow (visibilityTaken w v share l) gs)) (steps-whole share gs)
+      let same = followed tail t (w .tables) long (omega (arith, table-long share)) gs x (w .maps) (record { few = few-asked share; small = tt }) (fits-kept w at.Idle noRequest t (table-long share ∙ sym pages-long) ∙ k .fit) in
+      subst (λ (t : List ℕ). Whole-of share t (whole (wholeOn w v share (requestedOf w v share l) gs)) (follow (visibilityTaken w v share l) gs)) (sym (same-table w v share l))
+      (subst (λ (r : Ran). Whole-of share t r (follow (visibilityTaken w v share l) gs)) (steps-whole share gs)
       (subst (λ (s′ : Settings). Match (w .tables) tail t (s′ .isolation) (run s′ t x (w .maps) gs) (follow (outcome (applied t (x .writes) (w .maps)) (requestWords (x .phase) (x .request) ++ tail) t (w .tables) (flatOf (s′ .isolation) (x .answer))) gs))
-      (settings-kept (w .state) at.Idle noRequest) same)
+      (settings-kept (w .state) at.Idle noRequest) same))
 
--- THE CLAIM: a call that is taken, and its answers in turn
-pub visibility-is-whole : (w : World) (vtl visibility : ℕ) (l : List ℕ) (gs : List Given) → visibilityRefusal (w .state) (fits w) (w .tables) vtl visibility l ≡ 0
-    → Match (w .tables) (drop 10 (w .state)) (tableFor w (vtlOf vtl) (boolOf visibility) l) (settingsOf (w .state) .isolation)
-    (whole (wholeOf w (vtlOf vtl) (boolOf visibility) l gs)) (follow (visibilityOf w vtl visibility l) gs)
+  -- ---- refused by a page: nothing is under way, so no answer is taken either
+
+  none : (b : Bool) → eqb (answerRefusal (w .state) (fits w) b) 0 ≡ false
+  unfolding answerRefusal
+  none b = rw (idle-takes (w .state) b (k .idle)) (go (eqb (length (w .state)) stateLen) (not (eqb (statusIn (w .state)) 20)) (fits w))
+    where
+      go : (a b c : Bool) → eqb (unless a 4 (unless b 20 (unless c 4 21))) 0 ≡ false
+      go true true true = refl
+      go true true false = refl
+      go true false c = refl
+      go false b c = refl
+
+  untaken : (g : Given) → takenBy g w ≡ false
+  untaken Succeeds = none false
+  untaken (Fails code j) = none true
+
+  denied-follow : (n : ℕ) (gs : List Given) → follow (refusedBy w n) gs ≡ record { asked = []; last = refusedBy w n }
+  unfolding follow
+  denied-follow n [] = refl
+  denied-follow n (g ∷ gs) = rw (untaken g) (denied-follow n gs)
+
+  denied-whole : (share : Bool) (n : ℕ) (gs : List Given) → Whole-of share (w .pages) (whole (stands (w .maps) (Denied n))) (follow (refusedBy w n) gs)
+  unfolding replies NamesAll flatOf
+  denied-whole share n gs =
+      subst (Whole-of share (w .pages) (whole (stands (w .maps) (Denied n)))) (sym (denied-follow n gs))
+      (record { same-asked = refl; same-named = tt; same-maps = refl; same-reply = refl; same-pages = refl; same-tables = refl; same-rest = refl })
+
+-- THE CLAIMS
+pub visibility-is-whole : VisibilityIsWhole
 unfolding visibilityOf
-visibility-is-whole w vtl visibility l gs z =
-    rw (eq-eqb (visibilityRefusal (w .state) (fits w) (w .tables) vtl visibility l) 0 z) (taken-whole w (vtlOf vtl) l (taken-call w vtl visibility l z) (boolOf visibility) gs)
+visibility-is-whole w vtl visibility l gs z = go (eqb d 0) refl
+  where
+    v : GuestVtl
+    v = vtlOf vtl
+
+    b : Bool
+    b = boolOf visibility
+
+    d : ℕ
+    d = denial w (vtlOf vtl) (boolOf visibility) (pagesOf l)
+
+    number : visibilityRefusal (w .state) (fits w) (w .tables) vtl visibility l ≡ d
+    number = refusal-is w vtl visibility l ∙ ap (λ (n : ℕ). cond (eqb n 0) d n) z
+
+    k : Taken w l
+    k = taken-call w vtl visibility l z
+
+    go : (y : Bool) → eqb d 0 ≡ y
+        → Whole-of w v l k b (cond y (storedIn (requestedOf w v b l .listed) (w .pages)) (w .pages)) (whole (cond y (wholeOn w v b (requestedOf w v b l) gs) (stands (w .maps) (Denied d))))
+        (follow (decided w (visibilityRefusal (w .state) (fits w) (w .tables) vtl visibility l) (visibilityTaken w v b l)) gs)
+    go true e =
+        subst (λ (n : ℕ). Whole-of w v l k b (storedIn (requestedOf w v b l .listed) (w .pages)) (whole (wholeOn w v b (requestedOf w v b l) gs)) (follow (decided w n (visibilityTaken w v b l)) gs))
+        (sym (number ∙ eqb-true d 0 e)) (taken-whole w v l k b gs)
+    go false e =
+        subst (λ (n : ℕ). Whole-of w v l k b (w .pages) (whole (stands (w .maps) (Denied d))) (follow (decided w n (visibilityTaken w v b l)) gs)) (sym number)
+        (subst (λ (y : Bool). Whole-of w v l k b (w .pages) (whole (stands (w .maps) (Denied d))) (follow (cond y (visibilityTaken w v b l) (refusedBy w d)) gs)) (sym e) (denied-whole w v l k b d gs))
+
+pub visibility-refused : VisibilityRefused
+unfolding visibilityOf
+visibility-refused w vtl visibility l h =
+    let n : ℕ = inputRefusal w vtl visibility l in
+    let d : ℕ = denial w (vtlOf vtl) (boolOf visibility) (pagesOf l) in
+    let e : eqb n 0 ≡ false = ne-eqb n 0 h in
+    ap (λ (n : ℕ). decided w n (visibilityTaken w (vtlOf vtl) (boolOf visibility) l)) (refusal-is w vtl visibility l ∙ ap (λ (y : Bool). cond y d n) e)
+    ∙ ap (λ (y : Bool). cond y (visibilityTaken w (vtlOf vtl) (boolOf visibility) l) (refusedBy w n)) e

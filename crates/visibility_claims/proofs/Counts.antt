@@ -17,11 +17,9 @@ use Rattle.mapping.specs.Maps.{Maps}
 use Rattle.pages.specs.declared.PageRun.{PageRun}
 use Rattle.pages.specs.Runs.{run, runsOf}
 use Rattle.pages.specs.Runs as runs
-use Rattle.acceptor.specs.declared.Operation.{Operation}
-use Rattle.acceptor.specs.declared.Operation.the-variants.{Wait, Modify}
 use Rattle.acceptor.specs.declared.Settings.{Settings}
 use Rattle.acceptor.specs.Steps.{startOf}
-use Rattle.visibility_claims.specs.Whole.{Given, Succeeds, Fails, Stand, Ok, StoppedAt, FailedAt, Halts, Whole, stands, fails, one, inTurn, perRun, flushes, unaccepts, accepts, defaults, shareOperations, withPrivate, withShared, protecting, writingNone, clearedBy, wholeShare, returned, modified, wholeReturn}
+use Rattle.visibility_claims.specs.Whole.{Operation, Wait, Modify, Given, Succeeds, Fails, Stand, Ok, StoppedAt, FailedAt, Halts, Whole, stands, fails, one, inTurn, perRun, flushes, unaccepts, accepts, defaults, shareOperations, withPrivate, withShared, protecting, writingNone, clearedBy, wholeShare, returned, modified, wholeReturn}
 use Rattle.visibility_claims.specs.Runs as steps
 use Rattle.visibility_claims.specs.Runs.{told, after, whole}
 use Rattle.visibility_claims.proofs.Steps.{share-whole, return-whole}
@@ -97,8 +95,8 @@ few-shared s ps =
     let each : List Operation = perRun (unaccepts (s .isolation) (s .release)) (runsOf ps) in
     omega (
       arith,
-      length-append (flushes (s .isolation)) (each ++ (Modify true (length ps) ∷ [])),
-      length-append each (Modify true (length ps) ∷ []),
+      length-append (flushes (s .isolation)) (each ++ (Modify true ps ∷ [])),
+      length-append each (Modify true ps ∷ []),
       few-flushes (s .isolation),
       few-each (unaccepts (s .isolation) (s .release)) 3 (few-unaccepts (s .isolation) (s .release)) (runsOf ps),
       few-runs ps,
@@ -122,11 +120,10 @@ few-returned s ps m gs end =
     )
 
 -- THE BOUNDS
-pub share-few : (s : Settings) (v : GuestVtl) (ps : List ℕ) (stopped : Bool) (i : ℕ) (m : Maps) (gs : List Given)
-    → length (wholeShare s v ps stopped i m gs .asked) ≤ 3 * length ps + 3
+pub share-few : (s : Settings) (v : GuestVtl) (ps : List ℕ) (end : Stand) (m : Maps) (gs : List Given) → length (wholeShare s v ps end m gs .asked) ≤ 3 * length ps + 3
 unfolding wholeShare
-share-few s v ps stopped i m gs =
-    omega (arith, few writingNone (shareOperations s ps) (clearedBy (s .tracked) v m ps) gs (λ m gs. stands (withShared ps true m) (cond stopped (StoppedAt i) Ok)) 0 (λ m gs. omega arith), few-shared s ps)
+share-few s v ps end m gs =
+    omega (arith, few writingNone (shareOperations s ps) (clearedBy (s .tracked) v m ps) gs (λ m gs. stands (withShared ps true m) end) 0 (λ m gs. omega arith), few-shared s ps)
 
 few-cut : (s : Settings) (ps their : List ℕ) (m : Maps) (code k : ℕ) (gs : List Given)
     → length (cond (ltb k (length ps)) (returned s (take k ps) (withShared (drop k ps) true m) gs (FailedAt code (getD their k 0))) (stands m Halts) .asked) ≤ 4 * length ps
@@ -143,7 +140,7 @@ unfolding modified
 few-modify s ps their m gs =
     omega (
       arith,
-      few-one (Modify false (length ps)) m gs (λ gs. returned s ps m gs Ok) (λ code k gs. cond (ltb k (length ps)) (returned s (take k ps) (withShared (drop k ps) true m) gs (FailedAt code (getD their k 0))) (stands m Halts)) (4 * length ps)
+      few-one (Modify false ps) m gs (λ gs. returned s ps m gs Ok) (λ code k gs. cond (ltb k (length ps)) (returned s (take k ps) (withShared (drop k ps) true m) gs (FailedAt code (getD their k 0))) (stands m Halts)) (4 * length ps)
           (λ gs. few-returned s ps m gs Ok) (λ code k gs. few-cut s ps their m code k gs),
     )
 
@@ -160,10 +157,10 @@ counted w h =
 -- THE CLAIMS: after any answers the steps have asked for the operations of the whole call, in its order, have left its maps, and have answered as it does, with
 -- the number of its operations. The pages asked for are the first n of the table
 pub share-is-whole : (s : Settings) (v : GuestVtl) (n stop : ℕ) (stopped : Bool) (t : List ℕ) (m : Maps) (gs : List Given) → n ≤ length t → n ≤ 512
-    → steps.run s t (startOf s v true n stop stopped) m gs ≡ whole (wholeShare s v (take n t) stopped stop m gs)
+    → steps.run s t (startOf s v true n stop stopped) m gs ≡ whole (wholeShare s v (take n t) (cond stopped (StoppedAt stop) Ok) m gs)
 share-is-whole s v n stop stopped t m gs l h =
     share-whole t (s .tracked) (s .enabled) (s .defaults .vtl0) (s .defaults .vtl1) v n stopped stop l (s .isolation) (s .release) m gs
-    ∙ counted (wholeShare s v (take n t) stopped stop m gs) (omega (arith, share-few s v (take n t) stopped stop m gs, length-take n t))
+    ∙ counted (wholeShare s v (take n t) (cond stopped (StoppedAt stop) Ok) m gs) (omega (arith, share-few s v (take n t) (cond stopped (StoppedAt stop) Ok) m gs, length-take n t))
 
 pub return-is-whole : (s : Settings) (v : GuestVtl) (n stop : ℕ) (t their : List ℕ) (m : Maps) (gs : List Given) → n ≤ length t → n ≤ 512
     → ((k : ℕ) → k < n → getD t (512 + k) 0 ≡ getD their k 0)

@@ -39,7 +39,7 @@ use Rattle.protector.specs.World.{World, overlaysOf, fits, statusOf, takes, tak
 use Rattle.protector.specs.Calls.{carriedOut, carriedChange, answerRefusal, pieceAfter, nextIn, afterDone, afterFailed, visibilityDone, visibilityFailed, changeDone, changeFailed, answerDone, answerFailed}
 use Rattle.visibility_claims.specs.Whole.{Given, Succeeds, Fails}
 use Rattle.visibility_claims.specs.Calls.{answerOf, takenBy}
-use Rattle.visibility_claims.specs.Ends.{left, leftAt, pageEnd, leftIn, underWay, afterAll, takenOf, unrefused}
+use Rattle.visibility_claims.specs.Ends.{left, leftAt, pageEnd, leftIn, underWay, afterAll, takenOf, unrefused, TakenLowers, UntakenKeeps, TakenEnd, EveryRequestEnds, DoneTaken}
 use Rattle.visibility_claims.proofs.Calls.{few-done, few-failed, no-change, phase-read, request-read}
 use Rattle.visibility_claims.proofs.Refusals.{answer-takes}
 
@@ -374,8 +374,8 @@ lower l w′ x e h o = omega (arith, e, h .within)
 lower-change : (w : World) (l : ℕ) (x : ChangeStep) → Least (pageEnd (entriesIn (w .state))) (l - 1) x → 0 < l → leftIn (carriedChange w (w .pages) x .world) < l
 lower-change w l x h o = omega (arith, changed-left w (w .pages) x (h .few), h .within)
 
--- THE CLAIM: a taken answer, done or failed, lowers the number
-pub taken-lowers : (w : World) (g : Given) → takenBy g w ≡ true → leftIn (answerOf g w .world) < leftIn w
+-- THE CLAIMS
+pub taken-lowers : TakenLowers
 unfolding answerDone answerFailed afterDone afterFailed
 taken-lowers w Succeeds e = rw e (go (isChanging s) refl (answer-takes s (fits w) false (eqb-true _ _ e)))
   where
@@ -441,8 +441,7 @@ some-in w e = go (isChanging (w .state)) refl e
     go true d c = changing-some s (changeIn s .n) (changeIn s .at) (pageEnd (entriesIn s)) d .0
     go false d c = some-left (phaseIn s) (requestOf s .n) (requestOf s .at) c
 
--- an answer that isn't taken changes nothing
-pub untaken-keeps : (w : World) (g : Given) → takenBy g w ≡ false → answerOf g w .world ≡ w
+pub untaken-keeps : UntakenKeeps
 unfolding answerDone answerFailed
 untaken-keeps w Succeeds e = rw e
 untaken-keeps w (Fails code k) e = rw e
@@ -457,8 +456,7 @@ all-lower w (g ∷ gs) = go (takenBy g w) refl (all-lower (answerOf g w .world) 
     go true e h = omega (arith, taken-lowers w g e)
     go false e h = let d : leftIn (answerOf g w .world) ≡ leftIn w = ap leftIn (untaken-keeps w g e) in omega arith
 
--- THE CLAIM: from any state, once so many answers were taken as the number says, nothing is under way
-pub ends : (w : World) (gs : List Given) → leftIn w ≤ takenOf w gs → underWay (afterAll w gs) ≡ false
+pub ends : TakenEnd
 ends w gs h = go (underWay (afterAll w gs)) refl
   where
     go : (b : Bool) → underWay (afterAll w gs) ≡ b → b ≡ false
@@ -492,8 +490,7 @@ none-in w e = go (isChanging (w .state)) e
     go true c = false≢true (sym c)
     go false c = none-left (phaseIn s) (requestOf s .n) (requestOf s .at) c
 
--- THE CLAIM: from any state, as many answers as the number says, none of them refused while the request is under way, end it
-pub every-request-ends : (w : World) (gs : List Given) → unrefused w gs → leftIn w ≤ length gs → underWay (afterAll w gs) ≡ false
+pub every-request-ends : EveryRequestEnds
 unfolding afterAll unrefused
 every-request-ends w [] u h = go (underWay w) refl
   where
@@ -511,8 +508,7 @@ every-request-ends w (g ∷ gs) u h = go (takenBy g w) refl (underWay w) refl (e
         let k : leftIn (answerOf g w .world) ≡ leftIn w = ap leftIn (untaken-keeps w g e) in
         more (omega (arith, z, k))
 
--- done is refused by no request that is under way, where what is lent has its lengths
-pub done-taken : (w : World) → length (w .state) ≡ stateLen → fits w ≡ true → underWay w ≡ true → takenBy Succeeds w ≡ true
+pub done-taken : DoneTaken
 unfolding answerRefusal
 done-taken w a b c = rw (eq-eqb (length (w .state)) stateLen a, b) (either (isChanging (w .state)) refl c)
   where

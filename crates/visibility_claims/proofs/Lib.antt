@@ -1,7 +1,7 @@
+pub mod Requested
 pub mod Maps
 pub mod Steps
 pub mod Counts
-pub mod Operations
 pub mod Taken
 pub mod Calls
 pub mod Refusals
@@ -9,3 +9,4 @@ pub mod Ends
 pub mod Marks
 pub mod Long
 pub mod Examples
+pub mod Table

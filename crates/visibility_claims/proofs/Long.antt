@@ -1,37 +1,27 @@
--- Document 01, "Worked": 512 listed pages are taken, 513 not. Assumes nothing.
+-- A list of 512 pages is taken, and one of 513 pages refused (5). Assumes nothing.
 use native.Mathlib.Omega.{arith}
 use mathlib.Core.Path.{_≡_, refl, ap, ap₂, _∙_}
 use mathlib.Core.Bool.{true, false, not}
 use mathlib.Core.List.{List, [], _∷_, _++_}
 use Prim.Native.Nat.{ℕ, zero, suc, _+_, _*_, _/_, _%_, _≤_, _<_}
-use lib.ListN.{length, getD, replicate}
+use lib.ListN.{length, getD}
 use lib.Seq.{getD-append-add}
 use borrow.Author.Tests.{ne-eqb, eq-eqb, le-ltb, lt-ltb}
 use Rattle.laws.specs.Ranges.{between-true}
 use Rattle.layout.specs.Layout.{entriesOf, ramByte}
 use Rattle.permissions.specs.declared.GuestVtl.the-variants.{Vtl0}
-use Rattle.mapping.specs.Maps.{maps}
 use Rattle.pages.specs.Pages.{numberOf, numberAt, numbersFrom, pagesOf, isLong, among, repeats, isRagged}
 use Rattle.overlays.specs.Overlays.{placeFrom}
 use Rattle.locks.specs.Locks.{listsFrom, held}
-use Rattle.protector_state.specs.State.{firstPhases, phaseOf, entriesIn, builtState}
-use Rattle.protector.specs.World.{World, world, overlaysOf, locksOf, fits, statusIn}
+use Rattle.protector_state.specs.State.{firstPhases, phaseOf, entriesIn}
+use Rattle.protector.specs.World.{overlaysOf, locksOf, fits, statusIn}
 use Rattle.protector.specs.Calls.{pageRefusal, firstRefusal, visibilityRefusal}
+use Rattle.visibility_claims.specs.Table.{bytesFrom, broad, Lists}
 
--- n pages from p on, and the list of their bytes, below page 65,536
+-- n pages from p on
 unfoldable upFrom : ℕ → ℕ → List ℕ
 upFrom p zero = []
 upFrom p (suc n) = p ∷ upFrom (suc p) n
-
-unfoldable pub bytesFrom : ℕ → ℕ → List ℕ
-bytesFrom p zero = []
-bytesFrom p (suc n) = p % 256 ∷ p / 256 ∷ 0 ∷ 0 ∷ 0 ∷ 0 ∷ 0 ∷ 0 ∷ bytesFrom (suc p) n
-
--- a protector on SNP with 512 pages of RAM
-abbrev pub lent : World
-lent =
-    world (maps (replicate 64 0) (replicate 64 0) (replicate 64 0) (replicate 64 0) (replicate 64 0) (replicate 64 0)) (builtState (0 ∷ 2097152 ∷ 0 ∷ []) 2 1 0)
-    (replicate 1024 0) (replicate 3460 0)
 
 -- ---- the pages are read from the bytes
 
@@ -90,7 +80,7 @@ unfolding upFrom firstRefusal
 none-refused f b zero p h l = refl
 none-refused f b (suc n) p h l = rw (h p (omega arith)) (none-refused f b n (suc p) h (omega arith))
 
-page-taken : (q : ℕ) → q < 512 → pageRefusal (entriesIn (lent .state)) (overlaysOf (lent .tables) Vtl0) (locksOf (lent .tables) Vtl0) true q ≡ 0
+page-taken : (q : ℕ) → q < 512 → pageRefusal (entriesIn (broad .state)) (overlaysOf (broad .tables) Vtl0) (locksOf (broad .tables) Vtl0) true q ≡ 0
 unfolding entriesOf ramByte placeFrom listsFrom held
 page-taken q h = rw (between-true 0 2097152 (q * 4096) (omega arith) (omega arith))
 
@@ -104,21 +94,20 @@ module _ (n : ℕ) where
   whole-pages : isRagged (bytesFrom 0 n) ≡ false
   whole-pages = ap not (eq-eqb (length (bytesFrom 0 n) % 8) 0 (omega (arith, length-bytes n 0)))
 
-lent-fits : fits lent ≡ true
+broad-fits : fits broad ≡ true
 unfolding entriesOf
-lent-fits = refl
+broad-fits = refl
 
-lent-idle : statusIn (lent .state) ≡ 0
+broad-idle : statusIn (broad .state) ≡ 0
 unfolding phaseOf firstPhases
-lent-idle = refl
+broad-idle = refl
 
 -- THE CLAIMS
-pub taken-512 : visibilityRefusal (lent .state) (fits lent) (lent .tables) 0 1 (bytesFrom 0 512) ≡ 0
+pub lists : Lists
 unfolding visibilityRefusal
-taken-512 =
-    rw (lent-fits, lent-idle, short 512 (omega arith), pages-are 512, no-repeat 512 0, whole-pages 512)
-    (none-refused (pageRefusal (entriesIn (lent .state)) (overlaysOf (lent .tables) Vtl0) (locksOf (lent .tables) Vtl0) true) 512 512 0 page-taken (omega arith))
-
-pub refused-513 : visibilityRefusal (lent .state) (fits lent) (lent .tables) 0 1 (bytesFrom 0 513) ≡ 5
-unfolding visibilityRefusal
-refused-513 = rw (lent-fits, lent-idle, lt-ltb 4096 (length (bytesFrom 0 513)) (omega (arith, length-bytes 513 0)))
+lists =
+    record {
+      taken-512 = rw (broad-fits, broad-idle, short 512 (omega arith), pages-are 512, no-repeat 512 0, whole-pages 512)
+          (none-refused (pageRefusal (entriesIn (broad .state)) (overlaysOf (broad .tables) Vtl0) (locksOf (broad .tables) Vtl0) true) 512 512 0 page-taken (omega arith));
+      refused-513 = rw (broad-fits, broad-idle, lt-ltb 4096 (length (bytesFrom 0 513)) (omega (arith, length-bytes 513 0)));
+    }

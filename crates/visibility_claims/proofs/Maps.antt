@@ -26,10 +26,9 @@ use Rattle.request.specs.Request.{runEnd, put}
 use Rattle.request.proofs.Runs.{put-none, end-le}
 use Rattle.acceptor.specs.declared.Places.{Places}
 use Rattle.acceptor.specs.declared.Writes.{Writes}
-use Rattle.acceptor.specs.declared.Operation.the-variants.{Protect}
 use Rattle.acceptor.specs.Steps.{places, writes, setPermissions, cleared}
 use Rattle.protector.specs.World.{putPlaces, putPermissions, applied}
-use Rattle.visibility_claims.specs.Whole.{marked, withPrivate, withShared, withPermissions, forbidden, protecting, clearedBy}
+use Rattle.visibility_claims.specs.Whole.{Protect, marked, withPrivate, withShared, withPermissions, forbidden, protecting, clearedBy}
 
 -- ---- the pages of a run
 

@@ -4,7 +4,7 @@ use mathlib.Core.Path.{_≡_, refl, sym, _∙_, subst}
 use mathlib.Core.Bool.{Bool, true, false, cond, _&&_}
 use mathlib.Core.List.{List, [], _∷_, _++_}
 use Prim.Native.Nat.{ℕ, _/_}
-use lib.Dec.{ltb}
+use lib.Dec.{eqb, ltb}
 use lib.ListN.{length, getD, take, drop}
 use Rattle.laws.specs.Bools.{false≢true}
 use Rattle.bitmap.specs.Pages.{bitAt}
@@ -17,16 +17,14 @@ use Rattle.permissions.specs.Flags.{vtlOf, boolOf}
 use Rattle.mapping.specs.Maps.{Maps}
 use Rattle.pages.specs.Pages.{among, pagesOf}
 use Rattle.pages.specs.Runs.{runsOf}
-use Rattle.acceptor.specs.declared.Operation.{Operation}
-use Rattle.acceptor.specs.declared.Operation.the-variants.{Wait, FlushAll, Protect, Invalidate, Release, Modify, Accept, Zero, Flush, TlbWait}
 use Rattle.acceptor.specs.declared.Settings.{Settings}
 use Rattle.protector_state.specs.State.{settingsOf}
-use Rattle.protector.specs.World.{World, fits}
-use Rattle.protector.specs.Calls.{stopOf, askedFor, visibilityRefusal, visibilityOf}
-use Rattle.visibility_claims.specs.Whole.{Given, Succeeds, Fails, Stand, Ok, StoppedAt, FailedAt, Halts, Whole, stands, asking, fails, one, inTurn, perRun, flushes, accepts, defaults, shareOperations, marked, withPrivate, withShared, protecting, writingNone, clearedBy, wholeShare, returned, modified, wholeReturn}
-use Rattle.visibility_claims.specs.Calls.{placesFor, wholeOf, follow}
-use Rattle.visibility_claims.specs.Operations.{past}
-use Rattle.visibility_claims.specs.Marks.{Grows, restored}
+use Rattle.protector.specs.World.{World}
+use Rattle.visibility_claims.specs.Whole.{Operation, Wait, FlushAll, Protect, Invalidate, Release, Modify, Accept, Zero, Flush, TlbWait, Given, Succeeds, Fails, Stand, Denied, Ok, FailedAt, Halts, Whole, stands, asking, fails}
+use Rattle.visibility_claims.specs.Whole.{one, inTurn, perRun, flushes, accepts, defaults, shareOperations, marked, withPrivate, withShared, protecting, writingNone, clearedBy, wholeShare, returned, modified, wholeReturn}
+use Rattle.visibility_claims.specs.Calls.{wholeOn, wholeOf, follow}
+use Rattle.visibility_claims.specs.Requested.{denial, Requested, requestedOf, pagesIn, placesIn}
+use Rattle.visibility_claims.specs.Marks.{Grows, past, restored, VisibilityClears, mapsAfter, VisibilitySets, SharePrivate, ReturnShared}
 use Rattle.visibility_claims.proofs.Calls.{visibility-is-whole}
 
 -- ---- marks set and cleared
@@ -65,7 +63,7 @@ protect-same false (Protect Vtl0 f r) m = same m
 protect-same tracked (Protect Vtl1 f r) m = same m
 protect-same tracked (Invalidate r) m = same m
 protect-same tracked (Release r) m = same m
-protect-same tracked (Modify share n) m = same m
+protect-same tracked (Modify share ps) m = same m
 protect-same tracked (Accept r) m = same m
 protect-same tracked (Zero r) m = same m
 protect-same tracked (Flush v) m = same m
@@ -124,57 +122,62 @@ sets-returned s ps m end =
 
 sets-modified : (s : Settings) (ps their : List ℕ) (m : Maps) → Sets m (λ gs. modified s ps their m gs)
 unfolding modified
-sets-modified s ps their m = sets-one (Modify false (length ps)) m (λ gs. returned s ps m gs Ok) _ (sets-returned s ps m Ok) (λ code k. go code k (ltb k (length ps)))
+sets-modified s ps their m = sets-one (Modify false ps) m (λ gs. returned s ps m gs Ok) _ (sets-returned s ps m Ok) (λ code k. go code k (ltb k (length ps)))
   where
     go : (code k : ℕ) (b : Bool) → Sets m (λ gs. cond b (returned s (take k ps) (withShared (drop k ps) true m) gs (FailedAt code (getD their k 0))) (stands m Halts))
     go code k true = from m (withShared (drop k ps) true m) _ (set-shared (drop k ps) m) (sets-returned s (take k ps) (withShared (drop k ps) true m) (FailedAt code (getD their k 0)))
     go code k false = sets-stand m Halts
 
-sets-share : (s : Settings) (v : GuestVtl) (ps : List ℕ) (stopped : Bool) (i : ℕ) (m : Maps) → Sets (clearedBy (s .tracked) v m ps) (λ gs. wholeShare s v ps stopped i m gs)
+sets-share : (s : Settings) (v : GuestVtl) (ps : List ℕ) (end : Stand) (m : Maps) → Sets (clearedBy (s .tracked) v m ps) (λ gs. wholeShare s v ps end m gs)
 unfolding wholeShare
-sets-share s v ps stopped i m =
-    sets-turn writingNone (λ o m. same m) (shareOperations s ps) (clearedBy (s .tracked) v m ps) (λ m gs. stands (withShared ps true m) (cond stopped (StoppedAt i) Ok))
-    (λ m. from m (withShared ps true m) _ (set-shared ps m) (sets-stand (withShared ps true m) (cond stopped (StoppedAt i) Ok)))
+sets-share s v ps end m =
+    sets-turn writingNone (λ o m. same m) (shareOperations s ps) (clearedBy (s .tracked) v m ps) (λ m gs. stands (withShared ps true m) end)
+    (λ m. from m (withShared ps true m) _ (set-shared ps m) (sets-stand (withShared ps true m) end))
 
 sets-return : (s : Settings) (ps their : List ℕ) (m : Maps) → Sets (withShared ps false m) (λ gs. wholeReturn s ps their m gs)
 unfolding wholeReturn
 sets-return s ps their m = sets-turn writingNone (λ o m. same m) (Wait ∷ flushes (s .isolation)) (withShared ps false m) (λ m gs. modified s ps their m gs) (λ m. sets-modified s ps their m)
 
-share-clears : (s : Settings) (v : GuestVtl) (ps : List ℕ) (stopped : Bool) (i : ℕ) (m : Maps) → Grows (wholeShare s v ps stopped i m [] .maps) m
+share-clears : (s : Settings) (v : GuestVtl) (ps : List ℕ) (end : Stand) (m : Maps) → Grows (wholeShare s v ps end m [] .maps) m
 unfolding wholeShare inTurn one
-share-clears s Vtl0 ps stopped i m = record { private = clear-less ps (m .private); shared = λ p e. e }
-share-clears s Vtl1 ps stopped i m = record { private = clear-less ps (m .private); shared = λ p e. e }
+share-clears s Vtl0 ps end m = record { private = clear-less ps (m .private); shared = λ p e. e }
+share-clears s Vtl1 ps end m = record { private = clear-less ps (m .private); shared = λ p e. e }
 
 return-clears : (s : Settings) (ps their : List ℕ) (m : Maps) → Grows (wholeReturn s ps their m [] .maps) m
 unfolding wholeReturn inTurn one
 return-clears s ps their m = record { private = λ p e. e; shared = clear-less ps (m .shared) }
 
--- THE CLAIMS: at the call marks are only cleared
-pub call-clears : (w : World) (v : GuestVtl) (share : Bool) (l : List ℕ) → Grows (wholeOf w v share l [] .maps) (w .maps)
-call-clears w v true l = share-clears (settingsOf (w .state)) v (askedFor w v true l) (ltb (stopOf w v true l) (length (pagesOf l))) (stopOf w v true l) (w .maps)
-call-clears w v false l = return-clears (settingsOf (w .state)) (askedFor w v false l) (placesFor w v false l) (w .maps)
+-- at the call marks are only cleared
+call-clears : (w : World) (v : GuestVtl) (share : Bool) (l : List ℕ) → Grows (wholeOf w v share l [] .maps) (w .maps)
+call-clears w v share l = go share (eqb (denial w v share (pagesOf l)) 0) (denial w v share (pagesOf l)) (requestedOf w v share l)
+  where
+    go : (share b : Bool) (n : ℕ) (x : Requested) → Grows (cond b (wholeOn w v share x []) (stands (w .maps) (Denied n)) .maps) (w .maps)
+    go true true n x = share-clears (settingsOf (w .state)) v (pagesIn (x .listed)) (x .end) (w .maps)
+    go false true n x = return-clears (settingsOf (w .state)) (pagesIn (x .listed)) (placesIn (x .listed)) (w .maps)
+    go share false n x = same (w .maps)
 
 -- and after it they are only set, by any answers gs and any more hs
-pub answers-set : (w : World) (v : GuestVtl) (share : Bool) (l : List ℕ) (gs hs : List Given) → Grows (wholeOf w v share l gs .maps) (wholeOf w v share l (gs ++ hs) .maps)
-answers-set w v true l gs hs =
-    sets-share (settingsOf (w .state)) v (askedFor w v true l) (ltb (stopOf w v true l) (length (pagesOf l))) (stopOf w v true l) (w .maps) .goes gs hs
-answers-set w v false l gs hs = sets-return (settingsOf (w .state)) (askedFor w v false l) (placesFor w v false l) (w .maps) .goes gs hs
+answers-set : (w : World) (v : GuestVtl) (share : Bool) (l : List ℕ) (gs hs : List Given) → Grows (wholeOf w v share l gs .maps) (wholeOf w v share l (gs ++ hs) .maps)
+answers-set w v share l gs hs = go share (eqb (denial w v share (pagesOf l)) 0) (denial w v share (pagesOf l)) (requestedOf w v share l)
+  where
+    go : (share b : Bool) (n : ℕ) (x : Requested)
+        → Grows (cond b (wholeOn w v share x gs) (stands (w .maps) (Denied n)) .maps) (cond b (wholeOn w v share x (gs ++ hs)) (stands (w .maps) (Denied n)) .maps)
+    go true true n x = sets-share (settingsOf (w .state)) v (pagesIn (x .listed)) (x .end) (w .maps) .goes gs hs
+    go false true n x = sets-return (settingsOf (w .state)) (pagesIn (x .listed)) (placesIn (x .listed)) (w .maps) .goes gs hs
+    go share false n x = same (w .maps)
 
--- the same of the calls
-module _ (w : World) (vtl visibility : ℕ) (l : List ℕ) (z : visibilityRefusal (w .state) (fits w) (w .tables) vtl visibility l ≡ 0) where
-  abbrev maps-after : List Given → Maps
-  maps-after gs = follow (visibilityOf w vtl visibility l) gs .last .world .maps
+-- THE CLAIMS: the same of the calls
+pub visibility-clears : VisibilityClears
+unfolding follow
+visibility-clears w vtl visibility l z =
+    subst (λ (m : Maps). Grows m (w .maps)) (sym (visibility-is-whole w vtl visibility l [] z .same-maps)) (call-clears w (vtlOf vtl) (boolOf visibility) l)
 
-  pub visibility-clears : Grows (visibilityOf w vtl visibility l .world .maps) (w .maps)
-  unfolding follow
-  visibility-clears =
-      subst (λ (m : Maps). Grows m (w .maps)) (sym (visibility-is-whole w vtl visibility l [] z .same-maps)) (call-clears w (vtlOf vtl) (boolOf visibility) l)
-
-  pub visibility-sets : (gs hs : List Given) → Grows (maps-after gs) (maps-after (gs ++ hs))
-  visibility-sets gs hs =
-      subst (λ (m : Maps). Grows m (maps-after (gs ++ hs))) (sym (visibility-is-whole w vtl visibility l gs z .same-maps))
-      (subst (λ (m : Maps). Grows (wholeOf w (vtlOf vtl) (boolOf visibility) l gs .maps) m) (sym (visibility-is-whole w vtl visibility l (gs ++ hs) z .same-maps))
-      (answers-set w (vtlOf vtl) (boolOf visibility) l gs hs))
+pub visibility-sets : VisibilitySets
+visibility-sets w vtl visibility l z gs hs =
+    let v : GuestVtl = vtlOf vtl in
+    let b : Bool = boolOf visibility in
+    subst (λ (m : Maps). Grows m (mapsAfter w vtl visibility l (gs ++ hs))) (sym (visibility-is-whole w vtl visibility l gs z .same-maps))
+    (subst (λ (m : Maps). Grows (wholeOf w v b l gs .maps) m) (sym (visibility-is-whole w vtl visibility l (gs ++ hs) z .same-maps)) (answers-set w v b l gs hs))
 
 -- ---- which marks are set again: f reads the private or the shared marks
 
@@ -198,13 +201,12 @@ module _ (f : Maps → List ℕ) (x : List ℕ) where
       kept-one o (before o m) gs (λ gs. inTurn before os (before o m) gs next) (λ code k gs. stands (before o m) Halts) (b o m ∙ e)
       (λ gs. kept-turn before b os (before o m) gs next (b o m ∙ e) a) (λ code k gs. b o m ∙ e)
 
--- THE CLAIM of a share: none, the private marks stay as the call left them
-pub share-private : (s : Settings) (v : GuestVtl) (ps : List ℕ) (stopped : Bool) (i : ℕ) (m : Maps) (gs : List Given)
-    → wholeShare s v ps stopped i m gs .maps .private ≡ marked ps false (m .private)
+-- THE CLAIM of a share
+pub share-private : SharePrivate
 unfolding wholeShare
-share-private s v ps stopped i m gs =
+share-private s v ps end m gs =
     kept-turn (λ m. m .private) (marked ps false (m .private)) writingNone (λ o m. refl) (shareOperations s ps) (clearedBy (s .tracked) v m ps) gs
-    (λ m gs. stands (withShared ps true m) (cond stopped (StoppedAt i) Ok)) (go v) (λ m gs e. e)
+    (λ m gs. stands (withShared ps true m) end) (go v) (λ m gs e. e)
   where
     go : (v : GuestVtl) → clearedBy (s .tracked) v m ps .private ≡ marked ps false (m .private)
     go Vtl0 = refl
@@ -218,7 +220,7 @@ protect-shared false (Protect Vtl0 f r) m = refl
 protect-shared tracked (Protect Vtl1 f r) m = refl
 protect-shared tracked (Invalidate r) m = refl
 protect-shared tracked (Release r) m = refl
-protect-shared tracked (Modify share n) m = refl
+protect-shared tracked (Modify share ps) m = refl
 protect-shared tracked (Accept r) m = refl
 protect-shared tracked (Zero r) m = refl
 protect-shared tracked (Flush v) m = refl
@@ -249,9 +251,8 @@ wait-one o z os m [] next F e a = sym e
 wait-one o z os m (Succeeds ∷ gs) next F e a = a gs
 wait-one o z os m (Fails code k ∷ gs) next F e a = rw z (wait-one o z os m gs next F e a)
 
--- THE CLAIM of a return: the shared ones of the pages not processed, by the answer that Modify took
-pub return-shared : (s : Settings) (ps their : List ℕ) (m : Maps) (gs : List Given)
-    → wholeReturn s ps their m gs .maps .shared ≡ restored ps (past (Wait ∷ flushes (s .isolation)) gs) (marked ps false (m .shared))
+-- THE CLAIM of a return
+pub return-shared : ReturnShared
 unfolding wholeReturn inTurn past
 return-shared s ps their m gs = go (s .isolation)
   where

@@ -36,7 +36,7 @@ use Rattle.protector.specs.World.{World, Outcome, fits, statusIn, takes, takesA
 use Rattle.protector.specs.Calls.{decided, carriedOut, carriedChange, buildTaken, buildOf, visibilityTaken, visibilityOf, answerRefusal, nextIn, afterDone, afterFailed, visibilityDone, visibilityFailed, changeDone, changeFailed, answerDone, answerFailed}
 use Rattle.queries.specs.Queries.{queryRefusal, ramBefore, visibilities, filledBy, query, queryOf}
 use Rattle.visibility_claims.specs.Whole.{Succeeds, Fails}
-use Rattle.visibility_claims.specs.Refusals.{Call, Build, ChangeVisibility, AnswerWith, QueryVisibility, Lent, gave, give, refusal, mayChange}
+use Rattle.visibility_claims.specs.Refusals.{Call, Build, ChangeVisibility, AnswerWith, QueryVisibility, Lent, gave, give, refusal, mayChange, RefusedKeeps, OtherNumbersKeep}
 use Rattle.visibility_claims.proofs.Taken.{done-has, failed-has}
 
 -- ---- what is decided
@@ -44,8 +44,8 @@ use Rattle.visibility_claims.proofs.Taken.{done-has, failed-has}
 decided-kept : (w : World) (n : ℕ) (o : Outcome) → (n ≡ 0 → ⊥) → decided w n o ≡ record { world = w; reply = finished n (codeOf n) 0 0 }
 decided-kept w n o h = rw (ne-eqb n 0 h)
 
--- THE CLAIM: a call that is refused changes nothing
-pub refused-keeps : (x : Lent) (c : Call) → (refusal x c ≡ 0 → ⊥) → give x c .lent ≡ x
+-- THE CLAIMS
+pub refused-keeps : RefusedKeeps
 unfolding give refusal buildOf visibilityOf answerDone answerFailed queryOf
 refused-keeps x (Build ram isolation tracked release) h = ap (λ (o : Outcome). gave (x .out) o .lent) (decided-kept (x .world) _ (buildTaken (x .world) ram isolation tracked release) h)
 refused-keeps x (ChangeVisibility vtl visibility l) h = ap (λ (o : Outcome). gave (x .out) o .lent) (decided-kept (x .world) _ _ h)
@@ -182,8 +182,7 @@ taken-changes x (QueryVisibility l) h =
     go n true e false h = refl
     go n false e c h = absurd (eqb-false n 0 e h)
 
--- THE CLAIM by the number alone: any but Ok, 15, 16 and 20 changes nothing
-pub other-numbers-keep : (x : Lent) (c : Call) → mayChange (give x c .reply .number) ≡ false → give x c .lent ≡ x
+pub other-numbers-keep : OtherNumbersKeep
 other-numbers-keep x c h = go (eqb (refusal x c) 0) refl
   where
     go : (b : Bool) → eqb (refusal x c) 0 ≡ b → give x c .lent ≡ x

@@ -26,8 +26,8 @@ use Rattle.request.specs.Request.{runEnd}
 use Rattle.request.proofs.Runs.{end-after}
 use Rattle.acceptor.specs.declared.Phase.{Phase}
 use Rattle.acceptor.specs.declared.Phase.the-variants as at
-use Rattle.acceptor.specs.declared.Operation.{Operation}
-use Rattle.acceptor.specs.declared.Operation.the-variants.{Wait, FlushAll, Protect, Invalidate, Release, Modify, Accept, Zero}
+use Rattle.acceptor.specs.declared.Operation as declared
+use Rattle.acceptor.specs.declared.Operation.the-variants as crossed
 use Rattle.acceptor.specs.declared.Answer.the-variants.{Ask}
 use Rattle.acceptor.specs.declared.Settings.{Settings}
 use Rattle.acceptor.specs.declared.Request.{Request}
@@ -37,8 +37,8 @@ use Rattle.acceptor.specs.declared.Step.{Step}
 use Rattle.acceptor.specs.Steps.{isSnp, isCca, releases, places, noWrites, setShared, setPermissions, step, operationOf, ask, end, halt, shareRun, defaultRun, returnRun, afterFlush, afterWait, afterModify, afterAccept, afterDefault0, failedModify, doneOf, failedOf, asked, cleared, startOf}
 use Rattle.acceptor.proofs.Laws as laws
 use Rattle.protector.specs.World.{takes, applied}
-use Rattle.visibility_claims.specs.Whole.{Given, Succeeds, Fails, Stand, Ok, StoppedAt, FailedAt, Halts, Whole, stands, fails, one, inTurn, perRun, flushes, unaccepts, accepts, defaults, withPrivate, withShared, protecting, writingNone, clearedBy, wholeShare, returned, modified, wholeReturn}
-use Rattle.visibility_claims.specs.Runs.{Last, before, run, told, after}
+use Rattle.visibility_claims.specs.Whole.{Operation, Wait, FlushAll, Protect, Invalidate, Release, Modify, Accept, Zero, Given, Succeeds, Fails, Stand, Ok, StoppedAt, FailedAt, Halts, Whole, stands, fails, one, inTurn, perRun, flushes, unaccepts, accepts, defaults, withPrivate, withShared, protecting, writingNone, clearedBy, wholeShare, returned, modified, wholeReturn}
+use Rattle.visibility_claims.specs.Runs.{Last, named, before, run, told, after}
 use Rattle.visibility_claims.proofs.Maps.{sets, setBy, applied-sets, set-none, applied-none, applied-default, applied-share, applied-return, set-shared, set-private}
 
 -- a count of 64 bits, once more
@@ -48,27 +48,27 @@ once c x e = omega arith
 -- ---- an operation asked for, and the end
 
 module _ (s : Settings) (t : List ℕ) where
-  asks : (c : ℕ) (p : Phase) (q : Request) (o : Operation) (w : Writes) (m m′ : Maps) (next : List Given → Whole) (failed : ℕ → ℕ → List Given → Whole)
-      → applied t w m ≡ m′ → takes p false ≡ true → takes p true ≡ fails o
+  asks : (c : ℕ) (p : Phase) (q : Request) (o : declared.Operation) (w : Writes) (m m′ : Maps) (next : List Given → Whole) (failed : ℕ → ℕ → List Given → Whole)
+      → applied t w m ≡ m′ → takes p false ≡ true → takes p true ≡ fails (named t o)
       → ((gs : List Given) → run s t (doneOf s p q t) m′ gs ≡ after (c + 1) (next gs))
-      → ((code k : ℕ) (gs : List Given) → fails o ≡ true → run s t (failedOf s p q t code k) m′ gs ≡ after (c + 1) (failed code k gs))
-      → (gs : List Given) → run s t (step p q (Ask o) w) m gs ≡ after c (one o m′ gs next failed)
+      → ((code k : ℕ) (gs : List Given) → fails (named t o) ≡ true → run s t (failedOf s p q t code k) m′ gs ≡ after (c + 1) (failed code k gs))
+      → (gs : List Given) → run s t (step p q (Ask o) w) m gs ≡ after c (one (named t o) m′ gs next failed)
   unfolding run one
-  asks c p q o w m m′ next failed e a b f g [] = ap (λ (x : Maps). record { asked = o ∷ []; maps = x; last = Last.Outstanding }) e
-  asks c p q o w m m′ next failed e a b f g (Succeeds ∷ gs) = rw (a, e) (ap (before (o ∷ [])) (f gs) ∙ counted (next gs))
+  asks c p q o w m m′ next failed e a b f g [] = ap (λ (x : Maps). record { asked = named t o ∷ []; maps = x; last = Last.Outstanding }) e
+  asks c p q o w m m′ next failed e a b f g (Succeeds ∷ gs) = rw (a, e) (ap (before (named t o ∷ [])) (f gs) ∙ counted (next gs))
     where
-      counted : (x : Whole) → before (o ∷ []) (after (c + 1) x) ≡ after c (record { asked = o ∷ x .asked; maps = x .maps; stand = x .stand })
-      counted x = let d : c + 1 + length (x .asked) ≡ c + suc (length (x .asked)) = omega arith in ap (λ (n : ℕ). record { asked = o ∷ x .asked; maps = x .maps; last = told (n % 2 ^ 64) (x .stand) }) d
-  asks c p q o w m m′ next failed e a b f g (Fails code k ∷ gs) = go (fails o) b (asks c p q o w m m′ next failed e a b f g gs) (g code k gs)
+      counted : (x : Whole) → before (named t o ∷ []) (after (c + 1) x) ≡ after c (record { asked = named t o ∷ x .asked; maps = x .maps; stand = x .stand })
+      counted x = let d : c + 1 + length (x .asked) ≡ c + suc (length (x .asked)) = omega arith in ap (λ (n : ℕ). record { asked = named t o ∷ x .asked; maps = x .maps; last = told (n % 2 ^ 64) (x .stand) }) d
+  asks c p q o w m m′ next failed e a b f g (Fails code k ∷ gs) = go (fails (named t o)) b (asks c p q o w m m′ next failed e a b f g gs) (g code k gs)
     where
-      go : (y : Bool) → takes p true ≡ y → run s t (step p q (Ask o) w) m gs ≡ after c (one o m′ gs next failed)
+      go : (y : Bool) → takes p true ≡ y → run s t (step p q (Ask o) w) m gs ≡ after c (one (named t o) m′ gs next failed)
           → (y ≡ true → run s t (failedOf s p q t code k) m′ gs ≡ after (c + 1) (failed code k gs))
-          → cond (takes p true) (before (o ∷ []) (run s t (failedOf s p q t code k) (applied t w m) gs)) (run s t (step p q (Ask o) w) m gs)
-          ≡ after c (cond y (record { asked = o ∷ failed code k gs .asked; maps = failed code k gs .maps; stand = failed code k gs .stand }) (one o m′ gs next failed))
+          → cond (takes p true) (before (named t o ∷ []) (run s t (failedOf s p q t code k) (applied t w m) gs)) (run s t (step p q (Ask o) w) m gs)
+          ≡ after c (cond y (record { asked = named t o ∷ failed code k gs .asked; maps = failed code k gs .maps; stand = failed code k gs .stand }) (one (named t o) m′ gs next failed))
       go true d r h =
           let x : Whole = failed code k gs in
           let i : c + 1 + length (x .asked) ≡ c + suc (length (x .asked)) = omega arith in
-          rw (d, e) (ap (before (o ∷ [])) (h refl) ∙ ap (λ (n : ℕ). record { asked = o ∷ x .asked; maps = x .maps; last = told (n % 2 ^ 64) (x .stand) }) i)
+          rw (d, e) (ap (before (named t o ∷ [])) (h refl) ∙ ap (λ (n : ℕ). record { asked = named t o ∷ x .asked; maps = x .maps; last = told (n % 2 ^ 64) (x .stand) }) i)
       go false d r h = rw d r
 
   halts : (c : ℕ) (q : Request) (m : Maps) → q .count ≡ c % 2 ^ 64 → (gs : List Given) → run s t (halt q) m gs ≡ after c (stands m Halts)
@@ -151,7 +151,7 @@ module _ (t : List ℕ) (i : IsolationType) (tr rel en : Bool) (d : HvMapGpaFlag
         let q : Request = req sh v n a₀ st fl ix cd x in
         let w : Writes = setPermissions (sets p h) a (cond tr (runEnd t n a) a) d in
         ap (λ (y : Step). run s t y m gs) (sym (laws.default-asks s q t (ask s at.ProtectDefault0 q t a w) (sets p h) a (cond tr (runEnd t n a) a) w o refl refl refl))
-        ∙ asks s t c at.ProtectDefault0 (req sh v n a st fl ix cd ((x + 1) % 2 ^ 64)) (Protect Vtl0 d r) w m (protecting tr (Protect Vtl0 d r) (setBy t p h m)) next _
+        ∙ asks s t c at.ProtectDefault0 (req sh v n a st fl ix cd ((x + 1) % 2 ^ 64)) (crossed.Protect Vtl0 d r) w m (protecting tr (Protect Vtl0 d r) (setBy t p h m)) next _
         (applied-default t n a o l tr p h d m) refl refl f (λ code k gs _. halts s t (c + 1) (req sh v n a st fl ix cd ((x + 1) % 2 ^ 64)) _ (once c x e) gs) gs
 
   -- the run at a place, where the law holds from the place after it on
@@ -194,7 +194,7 @@ module _ (t : List ℕ) (i : IsolationType) (tr rel en : Bool) (d : HvMapGpaFlag
   second-law (Some f) a on c x m gs e =
       let s : Settings = set i tr rel en d (Some f) in
       let q : Request = req sh v n a st fl ix cd ((x + 1) % 2 ^ 64) in
-      asks s t c at.ProtectDefault1 q (Protect Vtl1 f (runAt t n a)) noWrites m m (λ gs. defaulting (Some f) (runsOf (part t n (a + runAt t n a .count))) m gs) (λ code k gs. stands m Halts) (applied-none t m) refl refl
+      asks s t c at.ProtectDefault1 q (crossed.Protect Vtl1 f (runAt t n a)) noWrites m m (λ gs. defaulting (Some f) (runsOf (part t n (a + runAt t n a .count))) m gs) (λ code k gs. stands m Halts) (applied-none t m) refl refl
       (λ gs. on (c + 1) ((x + 1) % 2 ^ 64) m gs (once c x e))
       (λ code k gs _. halts s t (c + 1) q m (once c x e) gs) gs
 
@@ -272,7 +272,7 @@ module _ (t : List ℕ) (tr rel en : Bool) (d : HvMapGpaFlags) (g : OptionFlags)
   unfolding ask operationOf doneOf failedOf
   accept-here i y c x a₀ a h m e o next f gs =
       ap (λ (y : Step). run (S i) t y m gs) (sym (laws.return-asks (S i) (Q a₀ x) t (ask (S i) at.Accept (Q a₀ x) t a (sets (places 0 0) h)) (sets (places 0 0) h) a o y refl))
-      ∙ asks (S i) t c at.Accept (Q a ((x + 1) % 2 ^ 64)) (Accept (runAt t n a)) (sets (places 0 0) h) m (setBy t (places 0 0) h m) next _ (applied-sets t (places 0 0) h m) refl refl f
+      ∙ asks (S i) t c at.Accept (Q a ((x + 1) % 2 ^ 64)) (crossed.Accept (runAt t n a)) (sets (places 0 0) h) m (setBy t (places 0 0) h m) next _ (applied-sets t (places 0 0) h m) refl refl f
       (λ code k gs _. halts (S i) t (c + 1) (Q a ((x + 1) % 2 ^ 64)) _ (once c x e) gs) gs
 
   return-tdx : (a : ℕ) → a < n → On Tdx a → (c x a₀ : ℕ) (h : Places) (m : Maps) (gs : List Given) → x ≡ c % 2 ^ 64 → Returns Tdx c x a₀ a h m gs
@@ -289,7 +289,7 @@ module _ (t : List ℕ) (tr rel en : Bool) (d : HvMapGpaFlags) (g : OptionFlags)
       let z : ℕ = (x + 1) % 2 ^ 64 in
       let y : ℕ = (z + 1) % 2 ^ 64 in
       accept-here Snp refl c x a₀ a h m e o (λ gs. one (Zero (runAt t n a)) m′ gs (λ gs. accepting Snp (next-runs a) m′ gs) (λ code k gs. stands m′ Halts))
-      (asks (S Snp) t (c + 1) at.Zero (Q a y) (Zero (runAt t n a)) noWrites m′ m′ _ _ (applied-none t m′) refl refl
+      (asks (S Snp) t (c + 1) at.Zero (Q a y) (crossed.Zero (runAt t n a)) noWrites m′ m′ _ _ (applied-none t m′) refl refl
       (λ gs. return-on Snp a on (c + 1 + 1) y m′ gs (once (c + 1) z (once c x e)))
       (λ code k gs _. halts (S Snp) t (c + 1 + 1) (Q a y) m′ (once (c + 1) z (once c x e)) gs)) gs
       ∙ ap (λ (rs : List PageRun). after c (accepting Snp rs m′ gs)) (sym (runs-at t n a o (omega arith)))
@@ -320,7 +320,7 @@ module _ (t : List ℕ) (tr rel en : Bool) (d : HvMapGpaFlags) (g : OptionFlags)
   cut i m code k gs = cond (ltb k n) (returned (T i) (take k (take n t)) (withShared (drop k (take n t)) true m) gs (FailedAt code (getD their k 0))) (stands m Halts)
 
   abbrev modifying : IsolationType → Maps → List Given → Whole
-  modifying i m gs = one (Modify false n) m gs (λ gs. returned (T i) (take n t) m gs Ok) (cut i m)
+  modifying i m gs = one (Modify false (take n t)) m gs (λ gs. returned (T i) (take n t) m gs Ok) (cut i m)
 
   taken-all : (i : IsolationType) (c x a : ℕ) (m : Maps) → x ≡ c % 2 ^ 64 → (gs : List Given)
       → run (T i) t (returnRun (T i) (P a x) t 0 noWrites) m gs ≡ after c (returned (T i) (take n t) m gs Ok)
@@ -351,7 +351,7 @@ module _ (t : List ℕ) (tr rel en : Bool) (d : HvMapGpaFlags) (g : OptionFlags)
   modify-law : (i : IsolationType) (c x a : ℕ) (m : Maps) → x ≡ c % 2 ^ 64 → (gs : List Given) → run (T i) t (afterFlush (T i) (P a x) t) m gs ≡ after c (modifying i m gs)
   unfolding afterFlush ask operationOf doneOf failedOf afterModify
   modify-law i c x a m e gs =
-      asks (T i) t c at.Modify (P 0 ((x + 1) % 2 ^ 64)) (Modify false n) noWrites m m (λ gs. returned (T i) (take n t) m gs Ok) (cut i m) (applied-none t m) refl refl
+      asks (T i) t c at.Modify (P 0 ((x + 1) % 2 ^ 64)) (crossed.Modify false n) noWrites m m (λ gs. returned (T i) (take n t) m gs Ok) (cut i m) (applied-none t m) refl refl
       (λ gs. taken-all i (c + 1) ((x + 1) % 2 ^ 64) 0 m (once c x e) gs)
       (λ code k gs _. modify-failed i (c + 1) ((x + 1) % 2 ^ 64) 0 code k m (once c x e) gs) gs
 
@@ -359,7 +359,7 @@ module _ (t : List ℕ) (tr rel en : Bool) (d : HvMapGpaFlags) (g : OptionFlags)
       → run (T i) t (afterWait (T i) (P a x) t) m gs ≡ after c (inTurn writingNone (flushes i) m gs (modifying i))
   unfolding afterWait inTurn ask operationOf doneOf
   wait-law Snp c x a m e gs =
-      asks (T Snp) t c at.FlushAll (P 0 ((x + 1) % 2 ^ 64)) FlushAll noWrites m m (λ gs. modifying Snp m gs) (λ code k gs. stands m Halts) (applied-none t m) refl refl
+      asks (T Snp) t c at.FlushAll (P 0 ((x + 1) % 2 ^ 64)) crossed.FlushAll noWrites m m (λ gs. modifying Snp m gs) (λ code k gs. stands m Halts) (applied-none t m) refl refl
       (λ gs. modify-law Snp (c + 1) ((x + 1) % 2 ^ 64) 0 m (once c x e) gs) (λ code k gs z. false≢true z) gs
   wait-law Tdx c x a m e gs = modify-law Tdx c x a m e gs
   wait-law Cca c x a m e gs = modify-law Cca c x a m e gs
@@ -368,14 +368,14 @@ module _ (t : List ℕ) (tr rel en : Bool) (d : HvMapGpaFlags) (g : OptionFlags)
       → run (T i) t (startOf (T i) v false n ix false) m gs ≡ after 0 (wholeReturn (T i) (take n t) their m gs)
   unfolding startOf wholeReturn modified inTurn doneOf
   return-whole i m gs =
-      asks (T i) t 0 at.Wait (P 0 1) Wait (cleared tr v false n) m (withShared (take n t) false m)
+      asks (T i) t 0 at.Wait (P 0 1) crossed.Wait (cleared tr v false n) m (withShared (take n t) false m)
       (λ gs. inTurn writingNone (flushes i) (withShared (take n t) false m) gs (modifying i)) (λ code k gs. stands (withShared (take n t) false m) Halts) (applied-return t n tr v m) refl refl
       (λ gs. wait-law i 1 1 0 _ refl gs) (λ code k gs z. false≢true z) gs
       ∙ ap (λ (k : ℕ). after 0 (inTurn writingNone (Wait ∷ flushes i) (withShared (take n t) false m) gs (counting k))) (sym (length-take-le n t l))
     where
       counting : ℕ → Maps → List Given → Whole
       counting n′ m gs =
-          one (Modify false n′) m gs (λ gs. returned (T i) (take n t) m gs Ok)
+          one (Modify false (take n t)) m gs (λ gs. returned (T i) (take n t) m gs Ok)
           (λ code k gs. cond (ltb k n′) (returned (T i) (take k (take n t)) (withShared (drop k (take n t)) true m) gs (FailedAt code (getD their k 0))) (stands m Halts))
 
 -- ---- To shared, from the run at a place on
@@ -399,17 +399,17 @@ module _ (t : List ℕ) (tr en : Bool) (d : HvMapGpaFlags) (g : OptionFlags) (v 
   shared m gs = stands (withShared (take n t) true m) (cond st (StoppedAt ix) Ok)
 
   abbrev giving : IsolationType → Bool → List PageRun → Maps → List Given → Whole
-  giving i rel rs m gs = inTurn writingNone (perRun (unaccepts i rel) rs ++ (Modify true n ∷ [])) m gs shared
+  giving i rel rs m gs = inTurn writingNone (perRun (unaccepts i rel) rs ++ (Modify true (take n t) ∷ [])) m gs shared
 
   abbrev Shares : IsolationType → Bool → ℕ → ℕ → ℕ → ℕ → Maps → List Given → Type 0
   Shares i rel c x a₀ a m gs = run (U i rel) t (shareRun (U i rel) (R a₀ x) t a) m gs ≡ after c (giving i rel (runsOf (part t n a)) m gs)
 
   share-modify : (i : IsolationType) (rel : Bool) (c x a : ℕ) (m : Maps) → x ≡ c % 2 ^ 64 → (gs : List Given)
-      → run (U i rel) t (ask (U i rel) at.Modify (R a x) t 0 noWrites) m gs ≡ after c (inTurn writingNone (Modify true n ∷ []) m gs shared)
+      → run (U i rel) t (ask (U i rel) at.Modify (R a x) t 0 noWrites) m gs ≡ after c (inTurn writingNone (Modify true (take n t) ∷ []) m gs shared)
   unfolding inTurn ask operationOf doneOf failedOf afterModify failedModify
   share-modify i rel c x a m e gs =
       let z : ℕ = (x + 1) % 2 ^ 64 in
-      asks (U i rel) t c at.Modify (R 0 z) (Modify true n) noWrites m m (λ gs. shared m gs) (λ code k gs. stands m Halts) (applied-none t m) refl refl
+      asks (U i rel) t c at.Modify (R 0 z) (crossed.Modify true n) noWrites m m (λ gs. shared m gs) (λ code k gs. stands m Halts) (applied-none t m) refl refl
       (λ gs. ends (U i rel) t (c + 1) z true v n 0 st false ix 0 (places 0 0) (places 0 n) m (once c x e) gs
       ∙ ap (λ (y : Maps). after (c + 1) (stands y (cond st (StoppedAt ix) Ok))) (set-shared t 0 n m))
       (λ code k gs _. halts (U i rel) t (c + 1) (R 0 z) m (once c x e) gs) gs
@@ -426,7 +426,7 @@ module _ (t : List ℕ) (tr en : Bool) (d : HvMapGpaFlags) (g : OptionFlags) (v 
   share-bare i rel y z c x a₀ a m e o gs =
       ap (λ (y : Step). run (U i rel) t y m gs) (sym (laws.share-bare (U i rel) (R a₀ x) t (ask (U i rel) at.Modify (R a₀ x) t 0 noWrites) noWrites a o y z refl refl))
       ∙ share-modify i rel c x a₀ m e gs
-      ∙ ap (λ (os : List Operation). after c (inTurn writingNone (os ++ (Modify true n ∷ [])) m gs shared)) (no-unaccepts i rel y z (runsOf (part t n a)))
+      ∙ ap (λ (os : List Operation). after c (inTurn writingNone (os ++ (Modify true (take n t) ∷ [])) m gs shared)) (no-unaccepts i rel y z (runsOf (part t n a)))
 
   abbrev Onward : IsolationType → Bool → ℕ → Type 0
   Onward i rel a = (c x : ℕ) (m : Maps) (gs : List Given) → x ≡ c % 2 ^ 64 → Shares i rel c x a (runEnd t n a) m gs
@@ -436,7 +436,7 @@ module _ (t : List ℕ) (tr en : Bool) (d : HvMapGpaFlags) (g : OptionFlags) (v 
   share-tdx a o on c x a₀ m gs e =
       let z : ℕ = (x + 1) % 2 ^ 64 in
       ap (λ (y : Step). run (U Tdx true) t y m gs) (sym (laws.share-release (U Tdx true) (R a₀ x) t (ask (U Tdx true) at.Release (R a₀ x) t a noWrites) noWrites a o refl refl refl refl))
-      ∙ asks (U Tdx true) t c at.Release (R a z) (Release (runAt t n a)) noWrites m m (λ gs. giving Tdx true (runsOf (part t n (a + runAt t n a .count))) m gs) (λ code k gs. stands m Halts) (applied-none t m) refl refl
+      ∙ asks (U Tdx true) t c at.Release (R a z) (crossed.Release (runAt t n a)) noWrites m m (λ gs. giving Tdx true (runsOf (part t n (a + runAt t n a .count))) m gs) (λ code k gs. stands m Halts) (applied-none t m) refl refl
       (λ gs. on (c + 1) z m gs (once c x e)) (λ code k gs _. halts (U Tdx true) t (c + 1) (R a z) m (once c x e) gs) gs
       ∙ ap (λ (rs : List PageRun). after c (giving Tdx true rs m gs)) (sym (runs-at t n a o (omega arith)))
 
@@ -452,11 +452,11 @@ module _ (t : List ℕ) (tr en : Bool) (d : HvMapGpaFlags) (g : OptionFlags) (v 
       let e3 : x3 ≡ (c + 1 + 1 + 1) % 2 ^ 64 = once (c + 1 + 1) x2 e2 in
       let rest : Maps → List Given → Whole = λ m gs. giving Snp rel (runsOf (part t n (a + runAt t n a .count))) m gs in
       ap (λ (y : Step). run s t y m gs) (sym (laws.share-snp s (R a₀ x) t (ask s at.ProtectNone0 (R a₀ x) t a noWrites) noWrites a o refl refl refl))
-      ∙ asks s t c at.ProtectNone0 (R a x1) (Protect Vtl0 noFlags (runAt t n a)) noWrites m m
+      ∙ asks s t c at.ProtectNone0 (R a x1) (crossed.Protect Vtl0 noFlags (runAt t n a)) noWrites m m
       (λ gs. one (Protect Vtl1 noFlags (runAt t n a)) m gs (λ gs. one (Invalidate (runAt t n a)) m gs (λ gs. rest m gs) (λ code k gs. stands m Halts)) (λ code k gs. stands m Halts))
       (λ code k gs. stands m Halts) (applied-none t m) refl refl
-      (asks s t (c + 1) at.ProtectNone1 (R a x2) (Protect Vtl1 noFlags (runAt t n a)) noWrites m m (λ gs. one (Invalidate (runAt t n a)) m gs (λ gs. rest m gs) (λ code k gs. stands m Halts)) (λ code k gs. stands m Halts) (applied-none t m) refl refl
-      (asks s t (c + 1 + 1) at.Invalidate (R a x3) (Invalidate (runAt t n a)) noWrites m m (λ gs. rest m gs) (λ code k gs. stands m Halts) (applied-none t m) refl refl
+      (asks s t (c + 1) at.ProtectNone1 (R a x2) (crossed.Protect Vtl1 noFlags (runAt t n a)) noWrites m m (λ gs. one (Invalidate (runAt t n a)) m gs (λ gs. rest m gs) (λ code k gs. stands m Halts)) (λ code k gs. stands m Halts) (applied-none t m) refl refl
+      (asks s t (c + 1 + 1) at.Invalidate (R a x3) (crossed.Invalidate (runAt t n a)) noWrites m m (λ gs. rest m gs) (λ code k gs. stands m Halts) (applied-none t m) refl refl
       (λ gs. on (c + 1 + 1 + 1) x3 m gs e3)
       (λ code k gs _. halts s t (c + 1 + 1 + 1) (R a x3) m e3 gs))
       (λ code k gs _. halts s t (c + 1 + 1) (R a x2) m e2 gs))
@@ -482,21 +482,20 @@ module _ (t : List ℕ) (tr en : Bool) (d : HvMapGpaFlags) (g : OptionFlags) (v 
   flushed i rel c x a m e gs = share-law i rel n c x a 0 m e (omega arith) gs
 
   waited : (i : IsolationType) (rel : Bool) (c x a : ℕ) (m : Maps) → x ≡ c % 2 ^ 64 → (gs : List Given)
-      → run (U i rel) t (afterWait (U i rel) (R a x) t) m gs ≡ after c (inTurn writingNone (flushes i ++ (perRun (unaccepts i rel) (runsOf (take n t)) ++ (Modify true n ∷ []))) m gs shared)
+      → run (U i rel) t (afterWait (U i rel) (R a x) t) m gs ≡ after c (inTurn writingNone (flushes i ++ (perRun (unaccepts i rel) (runsOf (take n t)) ++ (Modify true (take n t) ∷ []))) m gs shared)
   unfolding afterWait inTurn ask operationOf doneOf
   waited Snp rel c x a m e gs =
       let z : ℕ = (x + 1) % 2 ^ 64 in
-      asks (U Snp rel) t c at.FlushAll (R 0 z) FlushAll noWrites m m (λ gs. giving Snp rel (runsOf (take n t)) m gs) (λ code k gs. stands m Halts) (applied-none t m) refl refl
+      asks (U Snp rel) t c at.FlushAll (R 0 z) crossed.FlushAll noWrites m m (λ gs. giving Snp rel (runsOf (take n t)) m gs) (λ code k gs. stands m Halts) (applied-none t m) refl refl
       (λ gs. flushed Snp rel (c + 1) z 0 m (once c x e) gs) (λ code k gs z. false≢true z) gs
   waited Tdx rel c x a m e gs = flushed Tdx rel c x a m e gs
   waited Cca rel c x a m e gs = flushed Cca rel c x a m e gs
 
   pub share-whole : (i : IsolationType) (rel : Bool) (m : Maps) (gs : List Given)
-      → run (U i rel) t (startOf (U i rel) v true n ix st) m gs ≡ after 0 (wholeShare (U i rel) v (take n t) st ix m gs)
+      → run (U i rel) t (startOf (U i rel) v true n ix st) m gs ≡ after 0 (wholeShare (U i rel) v (take n t) (cond st (StoppedAt ix) Ok) m gs)
   unfolding startOf wholeShare inTurn doneOf
   share-whole i rel m gs =
-      asks (U i rel) t 0 at.Wait (R 0 1) Wait (cleared tr v true n) m (clearedBy tr v m (take n t))
-      (λ gs. inTurn writingNone (flushes i ++ (perRun (unaccepts i rel) (runsOf (take n t)) ++ (Modify true n ∷ []))) (clearedBy tr v m (take n t)) gs shared)
+      asks (U i rel) t 0 at.Wait (R 0 1) crossed.Wait (cleared tr v true n) m (clearedBy tr v m (take n t))
+      (λ gs. inTurn writingNone (flushes i ++ (perRun (unaccepts i rel) (runsOf (take n t)) ++ (Modify true (take n t) ∷ []))) (clearedBy tr v m (take n t)) gs shared)
       (λ code k gs. stands (clearedBy tr v m (take n t)) Halts) (applied-share t n tr v m) refl refl
       (λ gs. waited i rel 1 1 0 _ refl gs) (λ code k gs z. false≢true z) gs
-      ∙ ap (λ (k : ℕ). after 0 (inTurn writingNone (Wait ∷ flushes i ++ (perRun (unaccepts i rel) (runsOf (take n t)) ++ (Modify true k ∷ []))) (clearedBy tr v m (take n t)) gs shared)) (sym (length-take-le n t l))

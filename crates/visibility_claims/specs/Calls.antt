@@ -1,33 +1,53 @@
 -- Calls of the protector, and a whole visibility change made of them: document 01, "The request under way".
 use mathlib.Core.Path.{_≡_}
-use mathlib.Core.Bool.{Bool, true, false, cond}
+use mathlib.Core.Bool.{Bool, true, false, cond, not, _&&_}
 use mathlib.Core.List.{List, [], _∷_, _++_}
 use Prim.Native.Nat.{ℕ}
-use lib.Dec.{eqb, ltb}
+use lib.Dec.{eqb}
 use lib.ListN.{length, drop, take}
+use Rattle.laws.specs.Refusal.{unless}
 use Rattle.permissions.specs.declared.GuestVtl.{GuestVtl}
 use Rattle.permissions.specs.declared.IsolationType.{IsolationType}
-use Rattle.pages.specs.Pages.{pagesOf}
-use Rattle.request.specs.Request.{pickPlaces, wanted}
-use Rattle.acceptor.specs.declared.Operation.{Operation}
+use Rattle.permissions.specs.Flags.{fitVtl, vtlOf, fitBool, boolOf}
+use Rattle.pages.specs.Pages.{pagesOf, isLong, repeats, isRagged}
+use Rattle.acceptor.specs.declared.Operation as declared
+use Rattle.acceptor.specs.declared.Operation.the-variants as crossed
 use Rattle.protector_state.specs.declared.Reply.{Reply}
-use Rattle.protector_state.specs.State.{settingsOf}
+use Rattle.protector_state.specs.State.{stateLen, settingsOf}
 use Rattle.protector_state.specs.Reply.{askedOf, flatOf}
-use Rattle.protector.specs.World.{World, Outcome, fits}
-use Rattle.protector.specs.Calls.{stopOf, askedFor, answerRefusal, answerDone, answerFailed}
-use Rattle.visibility_claims.specs.Whole.{Given, Succeeds, Fails, Whole, wholeShare, wholeReturn}
-use Rattle.visibility_claims.specs.Runs.{Last, Outstanding, Gives, Ran}
+use Rattle.protector.specs.World.{World, Outcome, fits, statusIn}
+use Rattle.protector.specs.Calls.{refusedBy, visibilityOf, answerRefusal, answerDone, answerFailed}
+use Rattle.visibility_claims.specs.Whole.{Operation, Wait, FlushAll, Protect, Invalidate, Release, Modify, Accept, Zero, Flush, TlbWait, Given, Succeeds, Fails, Denied, Whole, stands, wholeShare, wholeReturn}
+use Rattle.visibility_claims.specs.Requested.{denial, Requested, requestedOf, pagesIn, placesIn, storedIn}
+use Rattle.visibility_claims.specs.Runs.{Last, Outstanding, Gives, Ran, whole}
 
 -- ---- the whole call on what the protector is lent
 
--- the places of the pages asked for in the list as sent
-abbrev pub placesFor : World → GuestVtl → Bool → List ℕ → List ℕ
-placesFor w v share l = pickPlaces (wanted (w .maps .shared) share) 0 (take (stopOf w v share l) (pagesOf l))
+-- what refuses it before its pages are looked at (01, "Order"): 20 and 19, then its input by number; a state block of another length tells nothing
+unfoldable pub inputRefusal : World → ℕ → ℕ → List ℕ → ℕ
+inputRefusal w vtl visibility l =
+    unless (eqb (length (w .state)) stateLen) 4
+    (unless (eqb (statusIn (w .state)) 0) (statusIn (w .state))
+    (unless (fits w) 4
+    (unless (not (isLong l)) 5
+    (unless (not (repeats (pagesOf l))) 6
+    (unless (fitVtl vtl && (fitBool visibility && not (isRagged l))) 8
+    0)))))
 
+-- none of its pages refused: to shared or to private, of those that it asks for
+abbrev pub wholeOn : World → GuestVtl → Bool → Requested → List Given → Whole
+wholeOn w v true x gs = wholeShare (settingsOf (w .state)) v (pagesIn (x .listed)) (x .end) (w .maps) gs
+wholeOn w v false x gs = wholeReturn (settingsOf (w .state)) (pagesIn (x .listed)) (placesIn (x .listed)) (w .maps) gs
+
+-- a page that is refused (7, 10, 11) ends it: nothing is asked for and nothing changes
 abbrev pub wholeOf : World → GuestVtl → Bool → List ℕ → List Given → Whole
-wholeOf w v true l gs =
-    wholeShare (settingsOf (w .state)) v (askedFor w v true l) (ltb (stopOf w v true l) (length (pagesOf l))) (stopOf w v true l) (w .maps) gs
-wholeOf w v false l gs = wholeReturn (settingsOf (w .state)) (askedFor w v false l) (placesFor w v false l) (w .maps) gs
+wholeOf w v share l gs =
+    cond (eqb (denial w v share (pagesOf l)) 0) (wholeOn w v share (requestedOf w v share l) gs)
+    (stands (w .maps) (Denied (denial w v share (pagesOf l))))
+
+-- the lent run `pages` as it is from the call on
+abbrev pub pagesFor : World → GuestVtl → Bool → List ℕ → List ℕ
+pagesFor w v share l = cond (eqb (denial w v share (pagesOf l)) 0) (storedIn (requestedOf w v share l .listed) (w .pages)) (w .pages)
 
 -- ---- the calls, each answer given in turn
 
@@ -57,19 +77,66 @@ follow o (g ∷ gs) =
 
 -- ---- what they tell
 
+-- an operation as it crosses: of Modify the number of its pages
+abbrev pub crossing : Operation → declared.Operation
+crossing Wait = crossed.Wait
+crossing FlushAll = crossed.FlushAll
+crossing (Protect v f r) = crossed.Protect v f r
+crossing (Invalidate r) = crossed.Invalidate r
+crossing (Release r) = crossed.Release r
+crossing (Modify share ps) = crossed.Modify share (length ps)
+crossing (Accept r) = crossed.Accept r
+crossing (Zero r) = crossed.Zero r
+crossing (Flush v) = crossed.Flush v
+crossing (TlbWait v) = crossed.TlbWait v
+
 unfoldable pub replies : IsolationType → List Operation → List Reply
 replies i [] = []
-replies i (o ∷ os) = askedOf i o ∷ replies i os
+replies i (o ∷ os) = askedOf i (crossing o) ∷ replies i os
+
+-- and the pages themselves: the first words of the lent run `pages`, in order
+abbrev pub Names : List ℕ → Operation → Type 0
+Names t Wait = Unit {0}
+Names t FlushAll = Unit {0}
+Names t (Protect v f r) = Unit {0}
+Names t (Invalidate r) = Unit {0}
+Names t (Release r) = Unit {0}
+Names t (Modify share ps) = take (length ps) t ≡ ps
+Names t (Accept r) = Unit {0}
+Names t (Zero r) = Unit {0}
+Names t (Flush v) = Unit {0}
+Names t (TlbWait v) = Unit {0}
+
+unfoldable pub NamesAll : List ℕ → List Operation → Type 0
+NamesAll t [] = Unit {0}
+NamesAll t (o ∷ os) = Names t o × NamesAll t os
 
 abbrev pub Says : IsolationType → Last → Reply → Type 0
 Says i Outstanding r = eqb (r .operation) 0 ≡ false
 Says i (Gives a) r = r ≡ flatOf i a
 
--- the same operations, maps and answer; the pages of Modify stay in the table t, overlays and locks as in `tables`, settings and layout as in `rest`
+-- the same operations, maps and answer, and the run `pages` names the pages of Modify; this run stays t, overlays and locks as in `tables`, settings and layout
+-- as in `rest`
 pub record Match (tables rest t : List ℕ) (i : IsolationType) (r : Ran) (x : Told) : Type 0 where
   pub same-asked : x .asked ≡ replies i (r .asked)
+  pub same-named : NamesAll (x .last .world .pages) (r .asked)
   pub same-maps : x .last .world .maps ≡ r .maps
   pub same-reply : Says i (r .last) (x .last .reply)
   pub same-pages : x .last .world .pages ≡ t
   pub same-tables : x .last .world .tables ≡ tables
   pub same-rest : drop 10 (x .last .world .state) ≡ rest
+
+-- ---- THE CLAIMS: a visibility change that isn't refused before its pages are looked at, with its answers in turn, is the whole call; Modify being the last
+-- operation asked for, the run `pages` names its pages then
+
+abbrev pub VisibilityIsWhole : Type 0
+VisibilityIsWhole =
+    (w : World) (vtl visibility : ℕ) (l : List ℕ) (gs : List Given) → inputRefusal w vtl visibility l ≡ 0
+    → Match (w .tables) (drop 10 (w .state)) (pagesFor w (vtlOf vtl) (boolOf visibility) l) (settingsOf (w .state) .isolation)
+    (whole (wholeOf w (vtlOf vtl) (boolOf visibility) l gs)) (follow (visibilityOf w vtl visibility l) gs)
+
+-- one that is refused before gives that number, and changes nothing
+abbrev pub VisibilityRefused : Type 0
+VisibilityRefused =
+    (w : World) (vtl visibility : ℕ) (l : List ℕ) → (inputRefusal w vtl visibility l ≡ 0 → ⊥)
+    → visibilityOf w vtl visibility l ≡ refusedBy w (inputRefusal w vtl visibility l)

@@ -1,19 +1,20 @@
 -- The number that every taken answer lowers: document 01, "The request under way", on when a call is under way.
 use mathlib.Core.Path.{_≡_}
-use mathlib.Core.Bool.{Bool, true, cond}
+use mathlib.Core.Bool.{Bool, true, false, cond}
 use mathlib.Core.List.{List, [], _∷_}
-use Prim.Native.Nat.{ℕ, suc, _+_, _-_, _*_, max}
+use Prim.Native.Nat.{ℕ, suc, _+_, _-_, _*_, _≤_, _<_, max}
 use lib.Dec.{eqb}
+use lib.ListN.{length}
 use Rattle.acceptor.specs.declared.Phase.{Phase}
 use Rattle.acceptor.specs.declared.Phase.the-variants.{Idle, Halted, Wait, FlushAll, ProtectNone0, ProtectNone1, Invalidate, Release, Modify, Accept, Zero, ProtectDefault0, ProtectDefault1}
 use Rattle.layout.specs.declared.MemoryRangeWithNode.{MemoryRangeWithNode}
 use Rattle.defaults.specs.Pieces.{pageUp}
 use Rattle.changes.specs.declared.Stage.{Stage}
 use Rattle.changes.specs.declared.Stage.the-variants as stage
-use Rattle.protector_state.specs.State.{phaseIn, requestOf, entriesIn}
+use Rattle.protector_state.specs.State.{stateLen, phaseIn, requestOf, entriesIn}
 use Rattle.change_state.specs.State.{stageIn, isChanging, changeIn}
-use Rattle.protector.specs.World.{World, statusIn}
-use Rattle.visibility_claims.specs.Whole.{Given}
+use Rattle.protector.specs.World.{World, fits, statusIn}
+use Rattle.visibility_claims.specs.Whole.{Given, Succeeds}
 use Rattle.visibility_claims.specs.Calls.{answerOf, takenBy}
 
 -- no fewer than the operations to come, with the one outstanding: of n pages, the run at place a being under way
@@ -71,3 +72,25 @@ takenOf w (g ∷ gs) = cond (takenBy g w) 1 0 + takenOf (answerOf g w .world) gs
 unfoldable pub unrefused : World → List Given → Type 0
 unrefused w [] = Unit {0}
 unrefused w (g ∷ gs) = (underWay w ≡ true → takenBy g w ≡ true) × unrefused (answerOf g w .world) gs
+
+-- ---- THE CLAIMS, from any state
+
+-- a taken answer, done or failed, lowers the number
+abbrev pub TakenLowers : Type 0
+TakenLowers = (w : World) (g : Given) → takenBy g w ≡ true → leftIn (answerOf g w .world) < leftIn w
+
+-- an answer that isn't taken changes nothing
+abbrev pub UntakenKeeps : Type 0
+UntakenKeeps = (w : World) (g : Given) → takenBy g w ≡ false → answerOf g w .world ≡ w
+
+-- once so many answers were taken as the number says, nothing is under way
+abbrev pub TakenEnd : Type 0
+TakenEnd = (w : World) (gs : List Given) → leftIn w ≤ takenOf w gs → underWay (afterAll w gs) ≡ false
+
+-- as many answers as the number says, none of them refused while the request is under way, end it
+abbrev pub EveryRequestEnds : Type 0
+EveryRequestEnds = (w : World) (gs : List Given) → unrefused w gs → leftIn w ≤ length gs → underWay (afterAll w gs) ≡ false
+
+-- done is refused by no request that is under way, where what is lent has its lengths
+abbrev pub DoneTaken : Type 0
+DoneTaken = (w : World) → length (w .state) ≡ stateLen → fits w ≡ true → underWay w ≡ true → takenBy Succeeds w ≡ true

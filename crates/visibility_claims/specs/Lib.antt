@@ -1,5 +1,5 @@
 pub mod Whole
-pub mod Operations
+pub mod Requested
 pub mod Runs
 pub mod Calls
 pub mod Refusals

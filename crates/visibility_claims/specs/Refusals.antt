@@ -1,5 +1,6 @@
 -- The build, visibility changes, answers and the visibility query, each with the number that refuses it: document 01, "From the input" and "From the state".
 use mathlib.Core.Bool.{Bool, true, false, cond, _||_}
+use mathlib.Core.Path.{_≡_}
 use mathlib.Core.List.{List}
 use Prim.Native.Nat.{ℕ}
 use lib.Dec.{eqb, ltb}
@@ -52,3 +53,12 @@ refusal x (QueryVisibility l) =
 -- Ok or an operation asked for, 15, 16, 20: every other number changes nothing
 abbrev pub mayChange : ℕ → Bool
 mayChange n = eqb n 0 || (eqb n 15 || (eqb n 16 || eqb n 20))
+
+-- ---- THE CLAIMS: a call that is refused changes nothing
+
+abbrev pub RefusedKeeps : Type 0
+RefusedKeeps = (x : Lent) (c : Call) → (refusal x c ≡ 0 → ⊥) → give x c .lent ≡ x
+
+-- the same by the number alone that a call gave
+abbrev pub OtherNumbersKeep : Type 0
+OtherNumbersKeep = (x : Lent) (c : Call) → mayChange (give x c .reply .number) ≡ false → give x c .lent ≡ x

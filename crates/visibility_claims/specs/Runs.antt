@@ -2,16 +2,17 @@
 use mathlib.Core.Bool.{true, false, cond}
 use mathlib.Core.List.{List, [], _∷_, _++_}
 use Prim.Native.Nat.{ℕ, _+_, _%_, _^_}
-use lib.ListN.{length}
+use lib.ListN.{length, take}
 use Rattle.mapping.specs.Maps.{Maps}
-use Rattle.acceptor.specs.declared.Operation.{Operation}
+use Rattle.acceptor.specs.declared.Operation as declared
+use Rattle.acceptor.specs.declared.Operation.the-variants as crossed
 use Rattle.acceptor.specs.declared.Answer.{Answer}
 use Rattle.acceptor.specs.declared.Answer.the-variants.{Done, AccessDenied, Failed, Halted, Ask, Refused}
 use Rattle.acceptor.specs.declared.Settings.{Settings}
 use Rattle.acceptor.specs.declared.Step.{Step}
 use Rattle.acceptor.specs.Steps.{doneOf, failedOf}
 use Rattle.protector.specs.World.{takes, applied}
-use Rattle.visibility_claims.specs.Whole.{Given, Succeeds, Fails, Stand, Waits, Ok, StoppedAt, FailedAt, Halts, Whole}
+use Rattle.visibility_claims.specs.Whole.{Operation, Wait, FlushAll, Protect, Invalidate, Release, Modify, Accept, Zero, Flush, TlbWait, Given, Succeeds, Fails, Stand, Denied, Waits, Ok, StoppedAt, FailedAt, Halts, Whole}
 
 -- what the steps gave last: an operation that waits for its answer, or the call's answer
 pub data Last : Type 0 where
@@ -24,13 +25,26 @@ pub record Ran : Type 0 where
   pub maps : Maps
   pub last : Last
 
-abbrev pub askedBy : Answer → List Operation
-askedBy (Done n) = []
-askedBy (AccessDenied i n) = []
-askedBy (Failed code i n) = []
-askedBy (Halted n) = []
-askedBy (Ask o) = o ∷ []
-askedBy (Refused n) = []
+-- an operation of a step, whose Modify is for the first n words of the table t
+abbrev pub named : List ℕ → declared.Operation → Operation
+named t crossed.Wait = Wait
+named t crossed.FlushAll = FlushAll
+named t (crossed.Protect v f r) = Protect v f r
+named t (crossed.Invalidate r) = Invalidate r
+named t (crossed.Release r) = Release r
+named t (crossed.Modify share n) = Modify share (take n t)
+named t (crossed.Accept r) = Accept r
+named t (crossed.Zero r) = Zero r
+named t (crossed.Flush v) = Flush v
+named t (crossed.TlbWait v) = TlbWait v
+
+abbrev pub askedBy : List ℕ → Answer → List Operation
+askedBy t (Done n) = []
+askedBy t (AccessDenied i n) = []
+askedBy t (Failed code i n) = []
+askedBy t (Halted n) = []
+askedBy t (Ask o) = named t o ∷ []
+askedBy t (Refused n) = []
 
 abbrev pub lastOf : Answer → Last
 lastOf (Done n) = Gives (Done n)
@@ -45,15 +59,16 @@ before os r = record { asked = os ++ r .asked; maps = r .maps; last = r .last }
 
 -- from a step on, with the maps before it: an answer that isn't taken changes nothing
 unfoldable pub run : Settings → List ℕ → Step → Maps → List Given → Ran
-run s t x m [] = record { asked = askedBy (x .answer); maps = applied t (x .writes) m; last = lastOf (x .answer) }
+run s t x m [] = record { asked = askedBy t (x .answer); maps = applied t (x .writes) m; last = lastOf (x .answer) }
 run s t x m (Succeeds ∷ gs) =
-    cond (takes (x .phase) false) (before (askedBy (x .answer)) (run s t (doneOf s (x .phase) (x .request) t) (applied t (x .writes) m) gs)) (run s t x m gs)
+    cond (takes (x .phase) false) (before (askedBy t (x .answer)) (run s t (doneOf s (x .phase) (x .request) t) (applied t (x .writes) m) gs)) (run s t x m gs)
 run s t x m (Fails code k ∷ gs) =
-    cond (takes (x .phase) true) (before (askedBy (x .answer)) (run s t (failedOf s (x .phase) (x .request) t code k) (applied t (x .writes) m) gs)) (run s t x m gs)
+    cond (takes (x .phase) true) (before (askedBy t (x .answer)) (run s t (failedOf s (x .phase) (x .request) t code k) (applied t (x .writes) m) gs)) (run s t x m gs)
 
 -- ---- what the whole call gives, after c operations asked for before it
 
 abbrev pub told : ℕ → Stand → Last
+told n (Denied k) = Gives (Refused k)
 told n Waits = Outstanding
 told n Ok = Gives (Done n)
 told n (StoppedAt i) = Gives (AccessDenied i n)

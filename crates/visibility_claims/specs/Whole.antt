@@ -17,17 +17,29 @@ use Rattle.mapping.specs.Maps.{Maps, Permissions, perms, permitted}
 use Rattle.pages.specs.declared.PageRun.{PageRun}
 use Rattle.pages.specs.Pages.{among}
 use Rattle.pages.specs.Runs.{runsOf}
-use Rattle.acceptor.specs.declared.Operation.{Operation}
-use Rattle.acceptor.specs.declared.Operation.the-variants.{Wait, FlushAll, Protect, Invalidate, Release, Modify, Accept, Zero, Flush, TlbWait}
 use Rattle.acceptor.specs.declared.Settings.{Settings}
+
+-- an operation that a call asks for: Modify names its pages, in order
+pub data Operation : Type 0 where
+  Wait : Operation
+  FlushAll : Operation
+  Protect : GuestVtl → HvMapGpaFlags → PageRun → Operation
+  Invalidate : PageRun → Operation
+  Release : PageRun → Operation
+  Modify : Bool → List ℕ → Operation
+  Accept : PageRun → Operation
+  Zero : PageRun → Operation
+  Flush : GuestVtl → Operation
+  TlbWait : GuestVtl → Operation
 
 -- an answer of the backend: done, or failed with a code and the number of pages processed
 pub data Given : Type 0 where
   Succeeds : Given
   Fails : ℕ → ℕ → Given
 
--- how a call stands once the answers are used up: it waits for one, is Ok, or ended with 15, 16 or 20
+-- how a call stands once the answers are used up: it was refused by a number, waits for an answer, is Ok, or ended with 15, 16 or 20
 pub data Stand : Type 0 where
+  Denied : ℕ → Stand
   Waits : Stand
   Ok : Stand
   StoppedAt : ℕ → Stand
@@ -53,7 +65,7 @@ fails FlushAll = false
 fails (Protect v f r) = true
 fails (Invalidate r) = true
 fails (Release r) = true
-fails (Modify share n) = true
+fails (Modify share ps) = true
 fails (Accept r) = true
 fails (Zero r) = true
 fails (Flush v) = false
@@ -100,7 +112,7 @@ defaults f None r = Protect Vtl0 f r ∷ []
 
 abbrev pub shareOperations : Settings → List ℕ → List Operation
 shareOperations s ps =
-    Wait ∷ flushes (s .isolation) ++ (perRun (unaccepts (s .isolation) (s .release)) (runsOf ps) ++ (Modify true (length ps) ∷ []))
+    Wait ∷ flushes (s .isolation) ++ (perRun (unaccepts (s .isolation) (s .release)) (runsOf ps) ++ (Modify true ps ∷ []))
 
 -- ---- the maps
 
@@ -127,7 +139,7 @@ protecting tracked (Protect Vtl0 f r) m = cond tracked (withPermissions (permitt
 protecting tracked (Protect Vtl1 f r) m = m
 protecting tracked (Invalidate r) m = m
 protecting tracked (Release r) m = m
-protecting tracked (Modify share n) m = m
+protecting tracked (Modify share ps) m = m
 protecting tracked (Accept r) m = m
 protecting tracked (Zero r) m = m
 protecting tracked (Flush v) m = m
@@ -137,16 +149,16 @@ protecting tracked (TlbWait v) m = m
 abbrev pub writingNone : Operation → Maps → Maps
 writingNone o m = m
 
--- ---- To shared: ps are the pages asked for, of a list that stopped at place i or did not
+-- ---- To shared: ps are the pages asked for, and `end` is how the call ends once they are shared: Ok, or 15 where its list stopped
 
 abbrev pub clearedBy : Bool → GuestVtl → Maps → List ℕ → Maps
 clearedBy tracked Vtl0 m ps = withPrivate ps false (withPermissions (cond tracked (forbidden ps (m .permissions)) (m .permissions)) m)
 clearedBy tracked Vtl1 m ps = withPrivate ps false m
 
-unfoldable pub wholeShare : Settings → GuestVtl → List ℕ → Bool → ℕ → Maps → List Given → Whole
-wholeShare s v ps stopped i m gs =
+unfoldable pub wholeShare : Settings → GuestVtl → List ℕ → Stand → Maps → List Given → Whole
+wholeShare s v ps end m gs =
     inTurn writingNone (shareOperations s ps) (clearedBy (s .tracked) v m ps) gs
-    (λ m gs. stands (withShared ps true m) (cond stopped (StoppedAt i) Ok))
+    (λ m gs. stands (withShared ps true m) end)
 
 -- ---- To private: ps are the pages asked for, at these places of the list
 
@@ -160,7 +172,7 @@ returned s ps m gs end =
 -- Modify: what it didn't process is marked shared again, and the call ends with 16 at the place of the first such page
 unfoldable pub modified : Settings → List ℕ → List ℕ → Maps → List Given → Whole
 modified s ps places m gs =
-    one (Modify false (length ps)) m gs (λ gs. returned s ps m gs Ok)
+    one (Modify false ps) m gs (λ gs. returned s ps m gs Ok)
     (λ code k gs. cond (ltb k (length ps)) (returned s (take k ps) (withShared (drop k ps) true m) gs (FailedAt code (getD places k 0)))
     (stands m Halts))
 

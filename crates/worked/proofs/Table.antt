@@ -3,7 +3,7 @@ use mathlib.Core.Path.{refl}
 use Rattle.permissions.specs.Rmpadjust.{operandOf}
 use Rattle.change_claims.specs.Table.{changes}
 use Rattle.change_claims.proofs.Examples.{full}
-use Rattle.visibility_claims.specs.Table.{visibility}
+use Rattle.visibility_claims.proofs.Table.{visibility}
 use Rattle.worked.specs.Table.{Worked}
 use Rattle.worked.proofs.Builds.{builds}
 use Rattle.worked.proofs.Faults.{faults, permissions}

@@ -1,0 +1,80 @@
+-- The worked cases hold: each is computed. Assumes nothing.
+use mathlib.Core.Path.{refl}
+use Rattle.bitmap.specs.Pages.{word, writtenFrom}
+use Rattle.layout.specs.Layout.{entriesOf, ramByte}
+use Rattle.pages.specs.Pages.{numberOf, numberAt, numbersFrom, among, repeats}
+use Rattle.pages.specs.Runs.{runsOf}
+use Rattle.overlays.specs.Overlays as overlays
+use Rattle.locks.specs.Locks as locks
+use Rattle.acceptor.specs.Steps.{startOf}
+use Rattle.protector_state.specs.State.{firstPhases, phaseOf}
+use Rattle.protector_state.specs.Reply.{askedOf, flatOf}
+use Rattle.protector.specs.Calls.{carriedOut, firstRefusal, visibilityRefusal, visibilityTaken, visibilityOf}
+use Rattle.visibility_claims.specs.Whole.{one, inTurn, perRun, wholeShare, returned, modified, wholeReturn}
+use Rattle.visibility_claims.specs.Requested.{denial, requestedFrom, pagesIn, placesIn}
+use Rattle.visibility_claims.specs.Table.{Stops, Bars, Visibility}
+use Rattle.visibility_claims.proofs.Examples.{replies}
+use Rattle.visibility_claims.proofs.Long.{lists}
+
+stops : Stops
+unfolding word writtenFrom entriesOf ramByte numberOf numberAt numbersFrom among repeats runsOf overlays.placeFrom locks.listsFrom locks.held denial requestedFrom pagesIn placesIn one inTurn perRun wholeShare returned modified wholeReturn
+stops =
+    record {
+      read-only-before = refl;
+      read-only-after = refl;
+      write-only-before = refl;
+      write-only-after = refl;
+      read-only-vtl1 = refl;
+      read-only-private = refl;
+      stopped-pages = refl;
+      stopped-places = refl;
+      stopped-asked = refl;
+      stopped-stands = refl;
+      stopped-private = refl;
+      stopped-shared = refl;
+    }
+
+bars : Bars
+unfolding word writtenFrom entriesOf ramByte numberOf numberAt numbersFrom among repeats runsOf overlays.placeFrom locks.listsFrom locks.held overlays.flat overlays.tableOf locks.stream locks.tableOf phaseOf firstPhases startOf askedOf flatOf carriedOut firstRefusal visibilityRefusal visibilityTaken visibilityOf denial requestedFrom pagesIn one inTurn perRun wholeShare
+bars =
+    record {
+      overlaid-shared = refl;
+      overlaid-returned = refl;
+      locked-shared = refl;
+      locked-returned = refl;
+      hole-locked = refl;
+      locked-first = refl;
+      overlaid-first = refl;
+      hole-first = refl;
+      vtl1s-own = refl;
+      vtl0s-own = refl;
+      vtl1-overlaid = refl;
+      vtl1-locked = refl;
+    }
+
+pub visibility : Visibility
+unfolding word writtenFrom entriesOf ramByte numberOf numberAt numbersFrom among repeats runsOf overlays.placeFrom locks.listsFrom locks.held phaseOf firstPhases firstRefusal visibilityRefusal visibilityOf denial requestedFrom pagesIn placesIn one inTurn perRun wholeShare returned modified wholeReturn
+visibility =
+    record {
+      P2-asked = refl;
+      P2-counted = refl;
+      P2-private = refl;
+      P2-shared = refl;
+      P2-ok = refl;
+      P3-asked = refl;
+      P3-private = refl;
+      P3-shared = refl;
+      P3-failed = refl;
+      dropped-asked = refl;
+      dropped-failed = refl;
+      P4 = refl;
+      P5-first = refl;
+      P5-second = refl;
+      P5-vtl1-first = refl;
+      P5-vtl1-second = refl;
+      long-refused = refl;
+      replies = replies;
+      stops = stops;
+      bars = bars;
+      lists = lists;
+    }
