@@ -18,10 +18,10 @@ use std::time::SystemTime;
 const LIBRARIES: [&str; 6] = [
     "registrar",
     "underhill_mem",
-    "locked_pages",
-    "overlay_pages",
-    "vtl_protections",
-    "vtl1_protections",
+    "lock_entries",
+    "overlay_entries",
+    "protection_entries",
+    "setting_entries",
 ];
 
 /// The name of the joined archive; one of the six has it too.

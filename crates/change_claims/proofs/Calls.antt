@@ -12,31 +12,31 @@ use Rattle.laws.specs.Bools.{false≢true}
 use Rattle.laws.specs.Refusal.{unless}
 use Rattle.permissions.specs.declared.GuestVtl.{GuestVtl}
 use Rattle.permissions.specs.Flags.{vtlOf, flagsOf, bitsOf}
-use Rattle.pages.specs.Pages.{pagesOf}
-use Rattle.pages.specs.Runs.{part, runsOf, run}
-use Rattle.request.specs.Request.{pick}
-use Rattle.request.proofs.Table.{in-use, length-table, pages-few}
-use Rattle.overlays.specs.declared.OverlayPage.{OverlayPage}
-use Rattle.overlays.specs.Overlays.{isOverlay, entry, addWords}
-use Rattle.acceptor.specs.declared.Settings.{Settings}
-use Rattle.changes.specs.declared.Stage.the-variants as stage
-use Rattle.changes.specs.declared.Entry.the-variants.{Add, Remove}
-use Rattle.changes.specs.declared.ChangeStep.{ChangeStep}
-use Rattle.changes.specs.Changes as changes
+use Rattle.page_list.specs.Pages.{pagesOf}
+use Rattle.page_list.specs.Runs.{part, runsOf, run}
+use Rattle.request_pages.specs.Request.{pick}
+use Rattle.request_pages.proofs.Table.{in-use, length-table, pages-few}
+use Rattle.overlay_table.specs.declared.OverlayPage.{OverlayPage}
+use Rattle.overlay_table.specs.Overlays.{isOverlay, entry, addWords}
+use Rattle.visibility_steps.specs.declared.Settings.{Settings}
+use Rattle.change_steps.specs.declared.Stage.the-variants as stage
+use Rattle.change_steps.specs.declared.Entry.the-variants.{Add, Remove}
+use Rattle.change_steps.specs.declared.ChangeStep.{ChangeStep}
+use Rattle.change_steps.specs.Changes as changes
 use Rattle.protector_state.specs.State.{phaseIn, settingsOf, entriesIn}
 use Rattle.protector_state.specs.Reply.{flatOf}
-use Rattle.acceptor.specs.declared.Phase.{Phase}
-use Rattle.acceptor.specs.declared.Phase.the-variants as phase
+use Rattle.visibility_steps.specs.declared.Phase.{Phase}
+use Rattle.visibility_steps.specs.declared.Phase.the-variants as phase
 use Rattle.protector_state.specs.declared.Reply.{Reply}
 use Rattle.change_state.specs.State.{stageIn, isChanging}
 use Rattle.protector.specs.World.{World, world, Outcome, tablesLen, overlaysOf, withoutPage, fits, statusOf, statusIn, takes, takesAt, entered}
 use Rattle.protector.specs.Calls.{withPermissions, carriedChange, answerRefusal}
 use Rattle.protector.proofs.Laws as lengths
-use Rattle.vtl_protections.specs.Calls.{protectionRefusal, allListed, protectionTaken, protectionOf}
-use Rattle.vtl_protections.proofs.Laws.{protection-passed, table-fits}
-use Rattle.overlay_tests.specs.Refusals.{unregisterRefusal, registerRefusal}
-use Rattle.overlay_pages.specs.Calls.{counting, entryIn, currentIn, registerTaken, registerOf, unregisterTaken, unregisterOf}
-use Rattle.overlay_tests.proofs.Laws.{call-passed}
+use Rattle.protection_entries.specs.Calls.{protectionRefusal, allListed, protectionTaken, protectionOf}
+use Rattle.protection_entries.proofs.Laws.{protection-passed, table-fits}
+use Rattle.overlay_refusals.specs.Refusals.{unregisterRefusal, registerRefusal}
+use Rattle.overlay_entries.specs.Calls.{counting, entryIn, currentIn, registerTaken, registerOf, unregisterTaken, unregisterOf}
+use Rattle.overlay_refusals.proofs.Laws.{call-passed}
 use Rattle.visibility_claims.specs.Whole.{Given, Succeeds, Fails, Whole}
 use Rattle.visibility_claims.specs.Runs.{after, whole}
 use Rattle.visibility_claims.specs.Calls.{asksIn, follow, replies}

@@ -17,23 +17,23 @@ use Rattle.permissions.specs.declared.HvMapGpaFlags.{HvMapGpaFlags}
 use Rattle.permissions.specs.Flags.{flagsOf}
 use Rattle.layout.specs.declared.MemoryRangeWithNode.{MemoryRangeWithNode}
 use Rattle.mapping.specs.Maps.{Maps}
-use Rattle.pages.specs.declared.PageRun.{PageRun}
-use Rattle.pages.specs.Runs.{part, runsOf, run, runAt}
-use Rattle.pages.proofs.RunLaws.{runs-at, runs-end}
-use Rattle.request.specs.Request.{runEnd}
-use Rattle.request.proofs.Runs.{end-after}
-use Rattle.defaults.specs.Pieces.{span, pieceOf, pageUp, pieceIn, nextOf, wanted}
-use Rattle.defaults.specs.Visit.{piecesFrom}
-use Rattle.acceptor.specs.declared.Answer.{Answer}
-use Rattle.acceptor.specs.declared.Answer.the-variants.{Done, Failed, Halted}
-use Rattle.acceptor.specs.Steps.{isVtl0}
-use Rattle.changes.specs.declared.Stage.{Stage}
-use Rattle.changes.specs.declared.Stage.the-variants as stage
-use Rattle.changes.specs.declared.Entry.{Entry}
-use Rattle.changes.specs.declared.Entry.the-variants.{Keep}
-use Rattle.changes.specs.declared.Change.{Change}
-use Rattle.changes.specs.declared.ChangeStep.{ChangeStep}
-use Rattle.changes.specs.Changes as changes
+use Rattle.page_list.specs.declared.PageRun.{PageRun}
+use Rattle.page_list.specs.Runs.{part, runsOf, run, runAt}
+use Rattle.page_list.proofs.RunLaws.{runs-at, runs-end}
+use Rattle.request_pages.specs.Request.{runEnd}
+use Rattle.request_pages.proofs.Runs.{end-after}
+use Rattle.default_change.specs.Pieces.{span, pieceOf, pageUp, pieceIn, nextOf, wanted}
+use Rattle.default_change.specs.Visit.{piecesFrom}
+use Rattle.visibility_steps.specs.declared.Answer.{Answer}
+use Rattle.visibility_steps.specs.declared.Answer.the-variants.{Done, Failed, Halted}
+use Rattle.visibility_steps.specs.Steps.{isVtl0}
+use Rattle.change_steps.specs.declared.Stage.{Stage}
+use Rattle.change_steps.specs.declared.Stage.the-variants as stage
+use Rattle.change_steps.specs.declared.Entry.{Entry}
+use Rattle.change_steps.specs.declared.Entry.the-variants.{Keep}
+use Rattle.change_steps.specs.declared.Change.{Change}
+use Rattle.change_steps.specs.declared.ChangeStep.{ChangeStep}
+use Rattle.change_steps.specs.Changes as changes
 use Rattle.protector_state.specs.Reply.{askedOf, flatOf}
 use Rattle.protector.specs.World.{Outcome, overlaysOf, takesAt, entered}
 use Rattle.protector.specs.Calls.{withPermissions}

@@ -11,11 +11,11 @@ use Rattle.permissions.specs.declared.GuestVtl.{GuestVtl}
 use Rattle.permissions.specs.declared.IsolationType.{IsolationType}
 use Rattle.permissions.specs.declared.HvMapGpaFlags.{HvMapGpaFlags}
 use Rattle.mapping.specs.Maps.{Maps}
-use Rattle.pages.specs.declared.PageRun.{PageRun}
-use Rattle.pages.specs.Runs.{run, runsOf}
-use Rattle.pages.specs.Runs as runs
-use Rattle.defaults.specs.Pieces.{nextOf}
-use Rattle.defaults.specs.Visit.{piecesFrom}
+use Rattle.page_list.specs.declared.PageRun.{PageRun}
+use Rattle.page_list.specs.Runs.{run, runsOf}
+use Rattle.page_list.specs.Runs as runs
+use Rattle.default_change.specs.Pieces.{nextOf}
+use Rattle.default_change.specs.Visit.{piecesFrom}
 use Rattle.visibility_claims.specs.Whole.{Operation, Protect, Given, Succeeds, Fails, FailedAt, Halts, Whole, stands, fails, one, inTurn, perRun, protecting}
 use Rattle.visibility_claims.specs.Runs.{told, after, whole}
 use Rattle.visibility_claims.specs.Calls.{Told}

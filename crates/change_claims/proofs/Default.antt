@@ -15,18 +15,18 @@ use Rattle.layout.proofs.Laws.{ordered-cons}
 use Rattle.permissions.specs.declared.GuestVtl.{GuestVtl}
 use Rattle.permissions.specs.declared.GuestVtl.the-variants.{Vtl0, Vtl1}
 use Rattle.permissions.specs.Flags.{vtlOf, vtlNumber, flagsOf}
-use Rattle.pages.specs.declared.PageRun.{PageRun}
-use Rattle.overlays.specs.Overlays.{used, isOverlay}
-use Rattle.defaults.specs.Pieces.{wanted, nextPiece}
-use Rattle.defaults.specs.Visit.{pieces}
-use Rattle.defaults.specs.Renewed.{renewed}
-use Rattle.defaults.proofs.Table.{overlay-renewed}
-use Rattle.acceptor.specs.declared.Settings.{Settings}
-use Rattle.changes.specs.Changes as changes
+use Rattle.page_list.specs.declared.PageRun.{PageRun}
+use Rattle.overlay_table.specs.Overlays.{used, isOverlay}
+use Rattle.default_change.specs.Pieces.{wanted, nextPiece}
+use Rattle.default_change.specs.Visit.{pieces}
+use Rattle.default_change.specs.Renewed.{renewed}
+use Rattle.default_change.proofs.Table.{overlay-renewed}
+use Rattle.visibility_steps.specs.declared.Settings.{Settings}
+use Rattle.change_steps.specs.Changes as changes
 use Rattle.protector_state.specs.State.{stateLen, settingsOf, entriesIn}
 use Rattle.protector.specs.World.{World, tablesLen, overlaysOf, fits, statusIn}
-use Rattle.vtl_protections.specs.Calls.{defaultRefusal, stored, barred, renewedIn, defaultStarted, defaultTaken, defaultOf}
-use Rattle.vtl_protections.proofs.Tables.{renewed-own}
+use Rattle.protection_entries.specs.Calls.{defaultRefusal, stored, barred, renewedIn, defaultStarted, defaultTaken, defaultOf}
+use Rattle.protection_entries.proofs.Tables.{renewed-own}
 use Rattle.visibility_claims.specs.Whole.{Given}
 use Rattle.visibility_claims.specs.Runs.{after, whole}
 use Rattle.visibility_claims.specs.Calls.{follow}

@@ -11,14 +11,14 @@ use Rattle.permissions.specs.declared.IsolationType.{IsolationType}
 use Rattle.permissions.specs.declared.HvMapGpaFlags.{HvMapGpaFlags}
 use Rattle.permissions.specs.Flags.{vtlOf, flagsOf}
 use Rattle.mapping.specs.Maps.{Maps}
-use Rattle.pages.specs.declared.PageRun.{PageRun}
-use Rattle.pages.specs.Pages.{pagesOf}
-use Rattle.pages.specs.Runs.{run, runsOf}
-use Rattle.overlays.specs.declared.OverlayPage.{OverlayPage}
+use Rattle.page_list.specs.declared.PageRun.{PageRun}
+use Rattle.page_list.specs.Pages.{pagesOf}
+use Rattle.page_list.specs.Runs.{run, runsOf}
+use Rattle.overlay_table.specs.declared.OverlayPage.{OverlayPage}
 use Rattle.protector_state.specs.State.{entriesIn}
 use Rattle.protector_state.specs.Reply.{finished, flatOf}
 use Rattle.protector.specs.World.{World}
-use Rattle.overlay_pages.specs.Calls.{entryIn}
+use Rattle.overlay_entries.specs.Calls.{entryIn}
 use Rattle.visibility_claims.specs.Whole.{Operation, Protect, Given, Fails, Stand, Ok, FailedAt, Whole, stands, one, protecting}
 use Rattle.visibility_claims.specs.Runs.{told, whole}
 use Rattle.visibility_claims.specs.Calls.{Told, Says}

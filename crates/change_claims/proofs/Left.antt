@@ -5,26 +5,24 @@ use mathlib.Core.List.{List, [], _∷_}
 use Prim.Native.Nat.{ℕ}
 use lib.Dec.{eqb, ltb, lit<}
 use lib.ListN.{length, getD, take, drop}
+use borrow.Author.Tests.{ltb-true}
 use Rattle.laws.specs.Bools.{false≢true, or-swap}
 use Rattle.bitmap.specs.Pages as bits
 use Rattle.bitmap.proofs.Map.{page-law}
 use Rattle.permissions.specs.declared.GuestVtl.{GuestVtl}
 use Rattle.permissions.specs.declared.GuestVtl.the-variants.{Vtl0, Vtl1}
-use Rattle.permissions.specs.declared.IsolationType.{IsolationType}
-use Rattle.permissions.specs.declared.IsolationType.the-variants.{Snp, Tdx, Cca}
 use Rattle.permissions.specs.declared.HvMapGpaFlags.{HvMapGpaFlags}
 use Rattle.permissions.specs.Flags.{noFlags}
 use Rattle.mapping.specs.Maps.{Permissions, Maps}
-use Rattle.pages.specs.declared.PageRun.{PageRun}
-use Rattle.pages.specs.Pages.{among}
-use Rattle.pages.specs.Runs.{run, runsOf}
-use Rattle.defaults.specs.Visit.{upTo, pagesIn}
-use Rattle.acceptor.specs.declared.Settings.{Settings}
-use Rattle.visibility_claims.specs.Whole.{Operation, Wait, FlushAll, Given, Succeeds, Fails, Stand, Waits, Ok, StoppedAt, FailedAt, Halts, Whole, stands, asking, fails, one, inTurn, perRun, flushes, accepts, defaults, shareOperations, withPrivate, withShared, forbidden, protecting, writingNone, clearedBy, wholeShare, returned, modified, wholeReturn}
-use Rattle.visibility_claims.specs.Operations.{past, processed}
+use Rattle.page_list.specs.declared.PageRun.{PageRun}
+use Rattle.page_list.specs.Pages.{among}
+use Rattle.page_list.specs.Runs.{run, runsOf}
+use Rattle.default_change.specs.Visit.{upTo, pagesIn}
+use Rattle.visibility_steps.specs.declared.Settings.{Settings}
+use Rattle.visibility_claims.specs.Whole.{Operation, Wait, Given, Succeeds, Fails, Stand, Denied, Waits, Ok, StoppedAt, FailedAt, Halts, Whole, stands, asking, fails, one, inTurn, perRun, flushes, accepts, defaults, shareOperations, withPrivate, withShared, forbidden, protecting, writingNone, clearedBy, wholeShare, returned, modified, wholeReturn}
 use Rattle.change_claims.specs.Whole.{ended, runOperations, wholeRuns, wholePages, wholeRam, protectingPage}
 use Rattle.change_claims.specs.Pages.{within, Permits, PermitsFor, Leaves}
-use Rattle.change_claims.specs.Claims.{returnedBy, PermissionMaps}
+use Rattle.change_claims.specs.Claims.{DoneBefore, PermissionMaps}
 use Rattle.change_claims.proofs.Through.{isOk, isEnd, begun, Through, through}
 use Rattle.change_claims.proofs.Permits.{run-pages, ram-visits, runsIn, protectedRuns, for-runs, runs-private, change-begun, return-begun}
 
@@ -96,12 +94,12 @@ forbids ps m =
       user = λ p. page-law 8 (among ps) false (m .user) p (lit< tt);
     }
 
-share-leaves : (s : Settings) (v : GuestVtl) (ps : List ℕ) (stopped : Bool) (i : ℕ) (m : Maps) (gs : List Given)
-    → PermitsFor (s .tracked) v (within (among ps)) noFlags (m .permissions) (wholeShare s v ps stopped i m gs .maps .permissions)
+share-leaves : (s : Settings) (v : GuestVtl) (ps : List ℕ) (end : Stand) (m : Maps) (gs : List Given)
+    → PermitsFor (s .tracked) v (within (among ps)) noFlags (m .permissions) (wholeShare s v ps end m gs .maps .permissions)
 unfolding wholeShare
-share-leaves s v ps stopped i m gs =
+share-leaves s v ps end m gs =
     subst (λ (x : Permissions). PermitsFor (s .tracked) v (within (among ps)) noFlags (m .permissions) x)
-    (sym (still (clearedBy (s .tracked) v m ps .permissions) (shareOperations s ps) (clearedBy (s .tracked) v m ps) gs (λ m gs. stands (withShared ps true m) (cond stopped (StoppedAt i) Ok)) refl (λ m gs e. e)))
+    (sym (still (clearedBy (s .tracked) v m ps .permissions) (shareOperations s ps) (clearedBy (s .tracked) v m ps) gs (λ m gs. stands (withShared ps true m) end) refl (λ m gs e. e)))
     (go (s .tracked) v)
   where
     go : (tracked : Bool) (v : GuestVtl) → PermitsFor tracked v (within (among ps)) noFlags (m .permissions) (clearedBy tracked v m ps .permissions)
@@ -146,66 +144,53 @@ module _ (E : Stand → Bool) (waits : E Waits ≡ false) (halts : E Halts ≡ f
         stand = a .stand ∙ b .stand;
       }
 
-  -- Wait and a flush come first: the answers that are left are those past them
-  wait-turn : (R : List Given → Maps → Type 0) (o : Operation) → fails o ≡ false → (os : List Operation) (m : Maps) (next : Maps → List Given → Whole)
-      → ((gs : List Given) → E (inTurn writingNone os m gs next .stand) ≡ true → R (past os gs) (inTurn writingNone os m gs next .maps))
-      → (gs : List Given) → E (inTurn writingNone (o ∷ os) m gs next .stand) ≡ true → R (past (o ∷ os) gs) (inTurn writingNone (o ∷ os) m gs next .maps)
-  unfolding inTurn one past
-  wait-turn R o z os m next a [] e = false≢true (sym waits ∙ e)
-  wait-turn R o z os m next a (Succeeds ∷ gs) e = a gs e
-  wait-turn R o z os m next a (Fails code k ∷ gs) e = go (fails o) z e (wait-turn R o z os m next a gs)
-    where
-      B : Whole
-      B = one o m gs (λ gs. inTurn writingNone os m gs next) (λ code k gs. stands m Halts)
-
-      go : (y : Bool) → y ≡ false → E (cond y (asking o (stands m Halts)) B .stand) ≡ true → (E (B .stand) ≡ true → R (past (o ∷ os) gs) (B .maps)) → R (past (o ∷ os) gs) (cond y (asking o (stands m Halts)) B .maps)
-      go true z e r = false≢true (sym z)
-      go false z e r = r e
-
-  wait-return : (R : List Given → Maps → Type 0) (s : Settings) (ps places : List ℕ) (m : Maps)
-      → ((gs : List Given) → E (modified s ps places (withShared ps false m) gs .stand) ≡ true → R gs (modified s ps places (withShared ps false m) gs .maps))
-      → (gs : List Given) → E (wholeReturn s ps places m gs .stand) ≡ true → R (past (Wait ∷ flushes (s .isolation)) gs) (wholeReturn s ps places m gs .maps)
-  unfolding wholeReturn inTurn past
-  wait-return R s ps places m a gs e = go (s .isolation) e
-    where
-      n : Maps
-      n = withShared ps false m
-
-      next : Maps → List Given → Whole
-      next m gs = modified s ps places m gs
-
-      go : (i : IsolationType) → E (inTurn writingNone (Wait ∷ flushes i) n gs next .stand) ≡ true → R (past (Wait ∷ flushes i) gs) (inTurn writingNone (Wait ∷ flushes i) n gs next .maps)
-      go Snp e = wait-turn R Wait refl (FlushAll ∷ []) n next (λ gs e. wait-turn R FlushAll refl [] n next a gs e) gs e
-      go Tdx e = wait-turn R Wait refl [] n next a gs e
-      go Cca e = wait-turn R Wait refl [] n next a gs e
-
-modified-leaves : (s : Settings) (ps places : List ℕ) (m : Maps) (gs : List Given) → isEnd (modified s ps places m gs .stand) ≡ true
-    → Permitted s (processed ps gs) (m .permissions) (modified s ps places m gs .maps .permissions)
+-- Modify done, and failed
+modified-ok : (s : Settings) (ps places : List ℕ) (m : Maps) (gs : List Given) → isOk (modified s ps places m gs .stand) ≡ true → Permitted s ps (m .permissions) (modified s ps places m gs .maps .permissions)
 unfolding modified one
-modified-leaves s ps places m [] e = false≢true e
-modified-leaves s ps places m (Succeeds ∷ gs) e = returned-leaves isEnd refl refl s ps m gs Ok e .permits
-modified-leaves s ps places m (Fails code k ∷ gs) e = go (ltb k (length ps)) e
+modified-ok s ps places m [] e = false≢true e
+modified-ok s ps places m (Succeeds ∷ gs) e = returned-leaves isOk refl refl s ps m gs Ok e .permits
+modified-ok s ps places m (Fails code k ∷ gs) e = go (ltb k (length ps)) e
   where
-    go : (b : Bool) → isEnd (cond b (returned s (take k ps) (withShared (drop k ps) true m) gs (FailedAt code (getD places k 0))) (stands m Halts) .stand) ≡ true
-        → Permitted s (cond b (take k ps) ps) (m .permissions) (cond b (returned s (take k ps) (withShared (drop k ps) true m) gs (FailedAt code (getD places k 0))) (stands m Halts) .maps .permissions)
-    go true e = returned-leaves isEnd refl refl s (take k ps) (withShared (drop k ps) true m) gs (FailedAt code (getD places k 0)) e .permits
-    go false e = false≢true e
+    failed : Whole
+    failed = returned s (take k ps) (withShared (drop k ps) true m) gs (FailedAt code (getD places k 0))
 
--- Ok: Modify was done
-modified-all : (s : Settings) (ps places : List ℕ) (m : Maps) (gs : List Given) → isOk (modified s ps places m gs .stand) ≡ true → processed ps gs ≡ ps
-unfolding modified one
-modified-all s ps places m [] e = refl
-modified-all s ps places m (Succeeds ∷ gs) e = refl
-modified-all s ps places m (Fails code k ∷ gs) e = go (ltb k (length ps)) e
-  where
-    go : (b : Bool) → isOk (cond b (returned s (take k ps) (withShared (drop k ps) true m) gs (FailedAt code (getD places k 0))) (stands m Halts) .stand) ≡ true → cond b (take k ps) ps ≡ ps
+    go : (b : Bool) → isOk (cond b failed (stands m Halts) .stand) ≡ true → Permitted s ps (m .permissions) (cond b failed (stands m Halts) .maps .permissions)
     go true e = false≢true (sym (ap isOk (returned-leaves isOk refl refl s (take k ps) (withShared (drop k ps) true m) gs (FailedAt code (getD places k 0)) e .stand)) ∙ e)
     go false e = false≢true e
 
-return-leaves : (s : Settings) (ps places : List ℕ) (m : Maps) (gs : List Given) → isEnd (wholeReturn s ps places m gs .stand) ≡ true
-    → Permitted s (returnedBy s ps gs) (m .permissions) (wholeReturn s ps places m gs .maps .permissions)
-return-leaves s ps places m gs e =
-    wait-return isEnd refl refl (λ gs x. Permitted s (processed ps gs) (m .permissions) (x .permissions)) s ps places m (λ gs e. modified-leaves s ps places (withShared ps false m) gs e) gs e
+abbrev placeIn : Stand → ℕ
+placeIn (Denied n) = 0
+placeIn Waits = 0
+placeIn Ok = 0
+placeIn (StoppedAt i) = i
+placeIn (FailedAt code i) = i
+placeIn Halts = 0
+
+modified-16 : (s : Settings) (ps places : List ℕ) (m : Maps) (gs : List Given) (code i : ℕ) → modified s ps places m gs .stand ≡ FailedAt code i
+    → DoneBefore ps places i (λ qs. Permitted s qs (m .permissions) (modified s ps places m gs .maps .permissions))
+unfolding modified one
+modified-16 s ps places m [] code i e = false≢true (ap isEnd e)
+modified-16 s ps places m (Succeeds ∷ gs) code i e = false≢true (sym (ap isOk e) ∙ ap isOk (returned-leaves isEnd refl refl s ps m gs Ok (ap isEnd e) .stand))
+modified-16 s ps places m (Fails c k ∷ gs) code i e = go (ltb k (length ps)) refl e
+  where
+    failed : Whole
+    failed = returned s (take k ps) (withShared (drop k ps) true m) gs (FailedAt c (getD places k 0))
+
+    go : (b : Bool) → ltb k (length ps) ≡ b → cond b failed (stands m Halts) .stand ≡ FailedAt code i
+        → DoneBefore ps places i (λ qs. Permitted s qs (m .permissions) (cond b failed (stands m Halts) .maps .permissions))
+    go true d e =
+        let x = returned-leaves isEnd refl refl s (take k ps) (withShared (drop k ps) true m) gs (FailedAt c (getD places k 0)) (ap isEnd e) in
+        record { count = k; below = ltb-true k (length ps) d; place = ap placeIn (sym (x .stand) ∙ e); done = x .permits }
+    go false d e = false≢true (ap isEnd e)
+
+-- Wait and a flush come first
+modifies : (s : Settings) (ps places : List ℕ) (m : Maps) (gs : List Given) → isEnd (wholeReturn s ps places m gs .stand) ≡ true
+    → Through (Wait ∷ flushes (s .isolation)) (withShared ps false m) (λ m gs. modified s ps places m gs) (wholeReturn s ps places m gs)
+unfolding wholeReturn
+modifies s ps places m gs e =
+    let os : List Operation = Wait ∷ flushes (s .isolation) in
+    let next : Maps → List Given → Whole = λ m gs. modified s ps places m gs in
+    subst (λ (n : Maps). Through os n next (inTurn writingNone os (withShared ps false m) gs next)) (none-begun os (withShared ps false m)) (through isEnd refl refl writingNone os (withShared ps false m) gs next e)
 
 -- THE CLAIMS
 pub permission-maps : PermissionMaps
@@ -216,8 +201,10 @@ permission-maps =
       default = λ tracked v f es overlay m gs e.
           subst (λ (P : ℕ → Bool). Leaves tracked v (within P) f m (wholeRam tracked v f es overlay m gs .maps)) (fun-ext (ram-visits es overlay m)) (runs-leave tracked v f _ m gs e);
       return-ok = λ s ps places m gs e.
-          subst (λ (l : List ℕ). Permitted s l (m .permissions) (wholeReturn s ps places m gs .maps .permissions))
-          (wait-return isOk refl refl (λ gs x. processed ps gs ≡ ps) s ps places m (λ gs e. modified-all s ps places (withShared ps false m) gs e) gs (ap isOk e)) (return-leaves s ps places m gs (ap isEnd e));
-      return-16 = λ s ps places m gs code i e. return-leaves s ps places m gs (ap isEnd e);
+          let t = modifies s ps places m gs (ap isEnd e) in
+          subst (λ (x : Maps). Permitted s ps (m .permissions) (x .permissions)) (sym (t .maps)) (modified-ok s ps places (withShared ps false m) (t .rest) (ap isOk (sym (t .stand) ∙ e)));
+      return-16 = λ s ps places m gs code i e.
+          let t = modifies s ps places m gs (ap isEnd e) in
+          subst (λ (x : Maps). DoneBefore ps places i (λ qs. Permitted s qs (m .permissions) (x .permissions))) (sym (t .maps)) (modified-16 s ps places (withShared ps false m) (t .rest) code i (sym (t .stand) ∙ e));
       share = share-leaves;
     }

@@ -18,22 +18,23 @@ use Rattle.permissions.specs.declared.GuestVtl.the-variants.{Vtl0, Vtl1}
 use Rattle.permissions.specs.declared.HvMapGpaFlags.{HvMapGpaFlags}
 use Rattle.permissions.specs.Flags.{vtlOf, boolOf, flagsOf, noFlags, fitVtl, fitBool, fitFlags}
 use Rattle.mapping.specs.Maps.{Permissions, Maps, marksFit, permissionLen, permissionsFit}
-use Rattle.pages.specs.Pages.{among, repeats, pagesOf, isLong, isRagged}
-use Rattle.request.specs.Request.{pick, wanted}
-use Rattle.acceptor.specs.declared.Settings.{Settings}
+use Rattle.page_list.specs.Pages.{among, repeats, pagesOf, isLong, isRagged}
+use Rattle.request_pages.specs.Request.{pick, wanted}
+use Rattle.visibility_steps.specs.declared.Settings.{Settings}
 use Rattle.protector_state.specs.State.{stateLen, settingsOf, ramOf, entriesIn}
 use Rattle.protector.specs.World.{World, pagesLen, tablesLen, overlaysOf, locksOf, fits, statusIn}
-use Rattle.protector.specs.Calls.{pageRefusal, firstRefusal, visibilityRefusal, stopOf, askedFor}
-use Rattle.vtl_protections.specs.Calls.{protectionRefusal, eachRefusal}
-use Rattle.visibility_claims.specs.Whole.{Wait, Given, Succeeds, Fails, flushes}
-use Rattle.visibility_claims.specs.Calls.{placesFor, wholeOf}
-use Rattle.visibility_claims.specs.Operations.{past, processed}
-use Rattle.visibility_claims.proofs.Calls.{visibility-is-whole}
-use Rattle.vtl_protections.proofs.Laws.{protection-passed}
+use Rattle.protector.specs.Calls.{pageRefusal, firstRefusal, visibilityRefusal, stopOf}
+use Rattle.protection_entries.specs.Calls.{protectionRefusal, eachRefusal}
+use Rattle.visibility_claims.specs.Whole.{Given, Denied, Whole, stands}
+use Rattle.visibility_claims.specs.Requested.{denial, requestedOf}
+use Rattle.visibility_claims.specs.Calls.{wholeOn, wholeOf}
+use Rattle.visibility_claims.proofs.Requested.{same-pages}
+use Rattle.visibility_claims.proofs.Calls.{taken-input, taken-pages, visibility-is-whole}
+use Rattle.protection_entries.proofs.Laws.{protection-passed}
 use Rattle.change_claims.specs.Whole.{isProtected}
 use Rattle.change_claims.specs.Calls.{trackedIn, overlayIn, defaultWhole}
 use Rattle.change_claims.specs.Pages.{Sets, all, within, PermitsFor, Leaves}
-use Rattle.change_claims.specs.Claims.{TakesProtection, storedIn, TakesVisibility, visibilityCall, FitLayout, takenRam, returnedBy, PermissionsLeft}
+use Rattle.change_claims.specs.Claims.{TakesProtection, storedIn, TakesVisibility, visibilityCall, requestedPages, requestedPlaces, FitLayout, takenRam, PermissionsLeft}
 use Rattle.change_claims.proofs.Calls.{protection-is-whole}
 use Rattle.change_claims.proofs.Default.{both-zero, tracked-stored, entries-stored, default-passed, default-is-whole}
 use Rattle.change_claims.proofs.Left.{permission-maps}
@@ -128,44 +129,44 @@ shown-ram w vtl visibility l z =
 one-more : (p q : ℕ) (ps qs : List ℕ) → (among ps p ≡ true → among qs p ≡ true) → (eqb p q || among ps p) ≡ true → (eqb p q || among qs p) ≡ true
 one-more p q ps qs f h = ⊎-elim (λ (e : eqb p q ≡ true). or-left (eqb p q) (among qs p) e) (λ (e : among ps p ≡ true). or-right (eqb p q) (among qs p) (f e)) (or-true (eqb p q) (among ps p) h)
 
-among-part : (n : ℕ) (ps : List ℕ) (p : ℕ) → among (take n ps) p ≡ true → among ps p ≡ true
+pub among-take : (n : ℕ) (ps : List ℕ) (p : ℕ) → among (take n ps) p ≡ true → among ps p ≡ true
 unfolding among
-among-part zero ps p h = false≢true h
-among-part (suc n) [] p h = h
-among-part (suc n) (q ∷ ps) p h = one-more p q (take n ps) ps (among-part n ps p) h
+among-take zero ps p h = false≢true h
+among-take (suc n) [] p h = h
+among-take (suc n) (q ∷ ps) p h = one-more p q (take n ps) ps (among-take n ps p) h
 
-among-picked : (P : ℕ → Bool) (ps : List ℕ) (p : ℕ) → among (pick P ps) p ≡ true → among ps p ≡ true
+pub among-pick : (P : ℕ → Bool) (ps : List ℕ) (p : ℕ) → among (pick P ps) p ≡ true → among ps p ≡ true
 unfolding among pick
-among-picked P [] p h = h
-among-picked P (q ∷ ps) p h = go (P q) h (among-picked P ps p)
+among-pick P [] p h = h
+among-pick P (q ∷ ps) p h = go (P q) h (among-pick P ps p)
   where
     go : (b : Bool) → among (cond b (q ∷ pick P ps) (pick P ps)) p ≡ true → (among (pick P ps) p ≡ true → among ps p ≡ true) → (eqb p q || among ps p) ≡ true
     go true h f = one-more p q (pick P ps) ps f h
     go false h f = or-right (eqb p q) (among ps p) (f h)
 
-among-processed : (ps : List ℕ) (gs : List Given) (p : ℕ) → among (processed ps gs) p ≡ true → among ps p ≡ true
-among-processed ps [] p h = h
-among-processed ps (Succeeds ∷ gs) p h = h
-among-processed ps (Fails code k ∷ gs) p h = go (ltb k (length ps)) h
-  where
-    go : (b : Bool) → among (cond b (take k ps) ps) p ≡ true → among ps p ≡ true
-    go true h = among-part k ps p h
-    go false h = h
-
 module _ (w : World) (vtl visibility : ℕ) (l : List ℕ) (gs : List Given) (z : TakesVisibility w vtl visibility l) (h : FitLayout w) where
   as-whole : (b : Bool) → boolOf visibility ≡ b → wholeOf w (vtlOf vtl) b l gs .maps .permissions ≡ visibilityCall w vtl visibility l gs .last .world .maps .permissions
-  as-whole b e = sym (ap (λ (m : Maps). m .permissions) (visibility-is-whole w vtl visibility l gs z .same-maps) ∙ ap (λ (b : Bool). wholeOf w (vtlOf vtl) b l gs .maps .permissions) e)
+  as-whole b e = sym (ap (λ (m : Maps). m .permissions) (visibility-is-whole w vtl visibility l gs (taken-input w vtl visibility l z) .same-maps) ∙ ap (λ (b : Bool). wholeOf w (vtlOf vtl) b l gs .maps .permissions) e)
+
+  -- none of its pages refuses it
+  undenied : (b : Bool) → boolOf visibility ≡ b → wholeOf w (vtlOf vtl) b l gs ≡ wholeOn w (vtlOf vtl) b (requestedOf w (vtlOf vtl) b l) gs
+  undenied b e =
+      ap (λ (n : ℕ). cond (eqb n 0) (wholeOn w (vtlOf vtl) b (requestedOf w (vtlOf vtl) b l) gs) (stands (w .maps) (Denied n)))
+      (subst (λ (b : Bool). denial w (vtlOf vtl) b (pagesOf l) ≡ 0) e (taken-pages w vtl visibility l z))
 
   -- of some of the pages asked for
-  part-left : (share : Bool) → boolOf visibility ≡ share → (v : GuestVtl) (ps : List ℕ) (f : HvMapGpaFlags) → ((p : ℕ) → among ps p ≡ true → among (askedFor w (vtlOf vtl) share l) p ≡ true)
-      → PermitsFor (trackedIn w) v (within (among ps)) f (w .maps .permissions) (wholeOf w (vtlOf vtl) share l gs .maps .permissions)
+  part-left : (share : Bool) → boolOf visibility ≡ share → (v : GuestVtl) (ps : List ℕ) (f : HvMapGpaFlags) → ((p : ℕ) → among ps p ≡ true → among (requestedPages w (vtlOf vtl) share l) p ≡ true)
+      → PermitsFor (trackedIn w) v (within (among ps)) f (w .maps .permissions) (wholeOn w (vtlOf vtl) share (requestedOf w (vtlOf vtl) share l) gs .maps .permissions)
       → PermitsFor (trackedIn w) v (all (among ps)) f (w .maps .permissions) (visibilityCall w vtl visibility l gs .last .world .maps .permissions)
   part-left share e v ps f part k =
       let r = shown-ram w vtl visibility l z in
       let n : ℕ = stopOf w (vtlOf vtl) share l in
+      let listed : (p : ℕ) → among (requestedPages w (vtlOf vtl) share l) p ≡ true → among (pagesOf l) p ≡ true
+      = λ p d. among-take n (pagesOf l) p (among-pick (wanted (w .maps .shared) share) (take n (pagesOf l)) p (subst (λ (qs : List ℕ). among qs p ≡ true) (same-pages w (vtlOf vtl) share l) d)) in
       subst (PermitsFor (trackedIn w) v (all (among ps)) f (w .maps .permissions)) (as-whole share e)
       (for-all (trackedIn w) v (among ps) f (mapLen (entriesIn (w .state))) (w .maps .permissions) _ (maps-long w (r .0))
-      (λ p d. page-in-map (ramOf (w .state)) p (fit (ramOf (w .state)) h) (r .1 p (among-part n (pagesOf l) p (among-picked (wanted (w .maps .shared) share) (take n (pagesOf l)) p (part p d))))) k)
+      (λ p d. page-in-map (ramOf (w .state)) p (fit (ramOf (w .state)) h) (r .1 p (listed p (part p d))))
+      (subst (λ (x : Whole). PermitsFor (trackedIn w) v (within (among ps)) f (w .maps .permissions) (x .maps .permissions)) (sym (undenied share e)) k))
 
 -- THE CLAIMS
 pub permissions-left : PermissionsLeft
@@ -189,14 +190,19 @@ permissions-left =
           (permission-maps .default (trackedIn x) v (flagsOf flags) (entriesIn (x .state)) (overlayIn (w .tables) v) (w .maps) gs e))));
       return-ok = λ w vtl visibility l gs z h b e.
           let s : Settings = settingsOf (w .state) in
-          let ps : List ℕ = askedFor w (vtlOf vtl) false l in
-          part-left w vtl visibility l gs z h false b Vtl0 ps (s .defaults .vtl0) (λ p d. d) (permission-maps .return-ok s ps (placesFor w (vtlOf vtl) false l) (w .maps) gs e);
+          let ps : List ℕ = requestedPages w (vtlOf vtl) false l in
+          part-left w vtl visibility l gs z h false b Vtl0 ps (s .defaults .vtl0) (λ p d. d) (permission-maps .return-ok s ps (requestedPlaces w (vtlOf vtl) false l) (w .maps) gs (sym (ap (λ (x : Whole). x .stand) (undenied w vtl visibility l gs z h false b)) ∙ e));
       return-16 = λ w vtl visibility l gs code i z h b e.
           let s : Settings = settingsOf (w .state) in
-          let ps : List ℕ = askedFor w (vtlOf vtl) false l in
-          part-left w vtl visibility l gs z h false b Vtl0 (returnedBy s ps gs) (s .defaults .vtl0) (λ p d. among-processed ps (past (Wait ∷ flushes (s .isolation)) gs) p d)
-          (permission-maps .return-16 s ps (placesFor w (vtlOf vtl) false l) (w .maps) gs code i e);
+          let ps : List ℕ = requestedPages w (vtlOf vtl) false l in
+          let k = permission-maps .return-16 s ps (requestedPlaces w (vtlOf vtl) false l) (w .maps) gs code i (sym (ap (λ (x : Whole). x .stand) (undenied w vtl visibility l gs z h false b)) ∙ e) in
+          record {
+            count = k .count;
+            below = k .below;
+            place = k .place;
+            done = part-left w vtl visibility l gs z h false b Vtl0 (take (k .count) ps) (s .defaults .vtl0) (λ p d. among-take (k .count) ps p d) (k .done);
+          };
       share = λ w vtl visibility l gs z h b.
-          let ps : List ℕ = askedFor w (vtlOf vtl) true l in
-          part-left w vtl visibility l gs z h true b (vtlOf vtl) ps noFlags (λ p d. d) (permission-maps .share (settingsOf (w .state)) (vtlOf vtl) ps _ _ (w .maps) gs);
+          let ps : List ℕ = requestedPages w (vtlOf vtl) true l in
+          part-left w vtl visibility l gs z h true b (vtlOf vtl) ps noFlags (λ p d. d) (permission-maps .share (settingsOf (w .state)) (vtlOf vtl) ps _ (w .maps) gs);
     }

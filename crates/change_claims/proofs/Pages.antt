@@ -11,10 +11,10 @@ use Rattle.permissions.specs.declared.GuestVtl.{GuestVtl}
 use Rattle.permissions.specs.declared.IsolationType.{IsolationType}
 use Rattle.permissions.specs.declared.HvMapGpaFlags.{HvMapGpaFlags}
 use Rattle.permissions.specs.Flags.{vtlOf, flagsOf}
-use Rattle.pages.specs.declared.PageRun.{PageRun}
-use Rattle.pages.specs.Pages.{among, strict}
-use Rattle.defaults.specs.Visit.{upTo, pick, pagesIn}
-use Rattle.defaults.proofs.Visits.{visits, ascends}
+use Rattle.page_list.specs.declared.PageRun.{PageRun}
+use Rattle.page_list.specs.Pages.{among, strict}
+use Rattle.default_change.specs.Visit.{upTo, pick, pagesIn}
+use Rattle.default_change.proofs.Visits.{visits, ascends}
 use Rattle.protector_state.specs.State.{settingsOf, entriesIn}
 use Rattle.protector_state.specs.Reply.{askedOf}
 use Rattle.protector.specs.World.{World, overlaysOf}

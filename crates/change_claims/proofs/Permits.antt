@@ -21,11 +21,11 @@ use Rattle.permissions.specs.declared.OptionFlags.{OptionFlags}
 use Rattle.permissions.specs.declared.OptionFlags.the-variants.{Some, None}
 use Rattle.mapping.specs.Maps.{Permissions, Maps, perms, permitted}
 use Rattle.mapping.proofs.Marks.{permitted-page, entry-pages}
-use Rattle.pages.specs.declared.PageRun.{PageRun}
-use Rattle.pages.specs.Pages.{among}
-use Rattle.pages.specs.Runs.{run, before, runsOf}
-use Rattle.defaults.specs.Pieces.{pageUp}
-use Rattle.defaults.specs.Visit.{upTo, pick, pagesIn}
+use Rattle.page_list.specs.declared.PageRun.{PageRun}
+use Rattle.page_list.specs.Pages.{among}
+use Rattle.page_list.specs.Runs.{run, before, runsOf}
+use Rattle.default_change.specs.Pieces.{pageUp}
+use Rattle.default_change.specs.Visit.{upTo, pick, pagesIn}
 use Rattle.visibility_claims.specs.Whole.{Operation, perRun, defaults, withPermissions, protecting}
 use Rattle.change_claims.specs.Whole.{runOperations, entryPages, isProtected, ramRuns}
 use Rattle.change_claims.specs.Claims.{takenRam}

@@ -10,13 +10,13 @@ use Rattle.layout.specs.declared.MemoryRangeWithNode.{MemoryRangeWithNode}
 use Rattle.layout.specs.Layout.{ordered}
 use Rattle.layout.proofs.Laws.{ordered-cons}
 use Rattle.mapping.specs.Maps.{Maps}
-use Rattle.pages.specs.declared.PageRun.{PageRun}
-use Rattle.pages.specs.Runs.{run, before, runsOf}
-use Rattle.overlays.specs.Overlays.{isOverlay}
-use Rattle.defaults.specs.Pieces.{span, non, startOf, lenOf, pageUp, pieceIn, nextOf}
-use Rattle.defaults.specs.Visit.{upTo, pick, piecesFrom, pieces}
-use Rattle.defaults.proofs.Spans.{span-hit}
-use Rattle.defaults.proofs.Whole.{piece-within, piece-short, piece-before, piece-holds, none-left}
+use Rattle.page_list.specs.declared.PageRun.{PageRun}
+use Rattle.page_list.specs.Runs.{run, before, runsOf}
+use Rattle.overlay_table.specs.Overlays.{isOverlay}
+use Rattle.default_change.specs.Pieces.{span, non, startOf, lenOf, pageUp, pieceIn, nextOf}
+use Rattle.default_change.specs.Visit.{upTo, pick, piecesFrom, pieces}
+use Rattle.default_change.proofs.Spans.{span-hit}
+use Rattle.default_change.proofs.Whole.{piece-within, piece-short, piece-before, piece-holds, none-left}
 use Rattle.visibility_claims.specs.Ends.{pageEnd}
 use Rattle.change_claims.specs.Whole.{isProtected, ramRuns}
 use Rattle.change_claims.proofs.Changes.{none-past, next-ahead}

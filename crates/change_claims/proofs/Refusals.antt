@@ -13,32 +13,32 @@ use Rattle.laws.specs.Refusal.{unless}
 use Rattle.permissions.specs.declared.GuestVtl.{GuestVtl}
 use Rattle.permissions.specs.declared.IsolationType.{IsolationType}
 use Rattle.permissions.specs.Flags.{fitVtl, fitFlags, vtlOf, bitsOf}
-use Rattle.pages.specs.declared.PageRun.{PageRun}
-use Rattle.pages.specs.Pages.{pagesOf}
-use Rattle.pages.specs.Runs.{runAt, run}
-use Rattle.overlays.specs.Overlays.{isOverlay}
-use Rattle.acceptor.specs.declared.Operation.{Operation}
-use Rattle.acceptor.specs.declared.Operation.the-variants.{Wait, FlushAll, Protect, Invalidate, Release, Modify, Accept, Zero, Flush, TlbWait}
-use Rattle.acceptor.specs.declared.Phase.{Phase}
-use Rattle.acceptor.specs.declared.Phase.the-variants as phase
-use Rattle.changes.specs.declared.Stage.{Stage}
-use Rattle.changes.specs.declared.Stage.the-variants as stage
-use Rattle.changes.specs.declared.Entry.{Entry}
-use Rattle.changes.specs.declared.Entry.the-variants.{Keep, Add}
-use Rattle.changes.specs.declared.Change.{Change}
-use Rattle.changes.specs.declared.ChangeStep.{ChangeStep}
-use Rattle.changes.specs.Changes as changes
+use Rattle.page_list.specs.declared.PageRun.{PageRun}
+use Rattle.page_list.specs.Pages.{pagesOf}
+use Rattle.page_list.specs.Runs.{runAt, run}
+use Rattle.overlay_table.specs.Overlays.{isOverlay}
+use Rattle.visibility_steps.specs.declared.Operation.{Operation}
+use Rattle.visibility_steps.specs.declared.Operation.the-variants.{Wait, FlushAll, Protect, Invalidate, Release, Modify, Accept, Zero, Flush, TlbWait}
+use Rattle.visibility_steps.specs.declared.Phase.{Phase}
+use Rattle.visibility_steps.specs.declared.Phase.the-variants as phase
+use Rattle.change_steps.specs.declared.Stage.{Stage}
+use Rattle.change_steps.specs.declared.Stage.the-variants as stage
+use Rattle.change_steps.specs.declared.Entry.{Entry}
+use Rattle.change_steps.specs.declared.Entry.the-variants.{Keep, Add}
+use Rattle.change_steps.specs.declared.Change.{Change}
+use Rattle.change_steps.specs.declared.ChangeStep.{ChangeStep}
+use Rattle.change_steps.specs.Changes as changes
 use Rattle.protector_state.specs.State.{stateLen, phaseIn, settingsOf}
 use Rattle.permissions.specs.HvError.{codeOf}
 use Rattle.protector_state.specs.Reply.{finished, askedOf, flatOf}
 use Rattle.change_state.specs.State.{isChanging}
 use Rattle.protector.specs.World.{World, Outcome, overlaysOf, fits, statusOf, statusIn}
 use Rattle.protector.specs.Calls.{decided, refusedBy, carriedChange}
-use Rattle.locked_pages.proofs.Lists.{lock-nothing, unlock-nothing}
-use Rattle.vtl1_protections.specs.Calls.{enableRefusal, enabled, enableOf}
-use Rattle.vtl_protections.specs.Calls.{protectionRefusal, allListed, protectionTaken, protectionOf, defaultRefusal, stored, barred, renewedIn, firstPiece, defaultStarted, defaultTaken, defaultOf}
-use Rattle.overlay_tests.specs.Refusals.{registerRefusal, unregisterRefusal}
-use Rattle.overlay_pages.specs.Calls.{entryIn, counting, currentIn, registerTaken, registerOf, unregisterTaken, unregisterOf}
+use Rattle.lock_entries.proofs.Lists.{lock-nothing, unlock-nothing}
+use Rattle.setting_entries.specs.Calls.{enableRefusal, enabled, enableOf}
+use Rattle.protection_entries.specs.Calls.{protectionRefusal, allListed, protectionTaken, protectionOf, defaultRefusal, stored, barred, renewedIn, firstPiece, defaultStarted, defaultTaken, defaultOf}
+use Rattle.overlay_refusals.specs.Refusals.{registerRefusal, unregisterRefusal}
+use Rattle.overlay_entries.specs.Calls.{entryIn, counting, currentIn, registerTaken, registerOf, unregisterTaken, unregisterOf}
 use Rattle.change_claims.specs.Claims.{Refusals}
 
 -- ---- a step that asks has number 0

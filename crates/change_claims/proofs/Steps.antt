@@ -17,14 +17,14 @@ use Rattle.permissions.specs.declared.HvMapGpaFlags.{HvMapGpaFlags}
 use Rattle.permissions.specs.Flags.{vtlOf, vtlNumber, flagsOf}
 use Rattle.layout.specs.declared.MemoryRangeWithNode.{MemoryRangeWithNode}
 use Rattle.mapping.specs.Maps.{Maps, Permissions}
-use Rattle.pages.specs.declared.PageRun.{PageRun}
-use Rattle.acceptor.specs.declared.Answer.the-variants.{Halted}
-use Rattle.acceptor.specs.declared.Settings.{Settings}
-use Rattle.changes.specs.declared.Stage.{Stage}
-use Rattle.changes.specs.declared.Stage.the-variants as stage
-use Rattle.changes.specs.declared.Change.{Change}
-use Rattle.changes.specs.declared.ChangeStep.{ChangeStep}
-use Rattle.changes.specs.Changes as changes
+use Rattle.page_list.specs.declared.PageRun.{PageRun}
+use Rattle.visibility_steps.specs.declared.Answer.the-variants.{Halted}
+use Rattle.visibility_steps.specs.declared.Settings.{Settings}
+use Rattle.change_steps.specs.declared.Stage.{Stage}
+use Rattle.change_steps.specs.declared.Stage.the-variants as stage
+use Rattle.change_steps.specs.declared.Change.{Change}
+use Rattle.change_steps.specs.declared.ChangeStep.{ChangeStep}
+use Rattle.change_steps.specs.Changes as changes
 use Rattle.protector_state.specs.declared.Reply.{Reply}
 use Rattle.protector_state.specs.State.{firstPhases, phaseOf, settingsOf, entriesIn}
 use Rattle.protector_state.specs.Reply.{askedOf, flatOf}

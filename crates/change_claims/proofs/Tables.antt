@@ -13,10 +13,10 @@ use Rattle.layout.specs.declared.MemoryRangeWithNode.{MemoryRangeWithNode}
 use Rattle.permissions.specs.declared.GuestVtl.{GuestVtl}
 use Rattle.permissions.specs.declared.GuestVtl.the-variants.{Vtl0, Vtl1}
 use Rattle.permissions.specs.Flags.{vtlNumber}
-use Rattle.overlays.specs.declared.OverlayPage.{OverlayPage}
-use Rattle.overlays.specs.Overlays.{used, wordsOf, isOverlay, placeOf, addWords, removeWords, previousWords}
-use Rattle.defaults.specs.Pieces.{privateRam}
-use Rattle.defaults.specs.Renewed.{renewedAt, renewedFrom, renewed}
+use Rattle.overlay_table.specs.declared.OverlayPage.{OverlayPage}
+use Rattle.overlay_table.specs.Overlays.{used, wordsOf, isOverlay, placeOf, addWords, removeWords, previousWords}
+use Rattle.default_change.specs.Pieces.{privateRam}
+use Rattle.default_change.specs.Renewed.{renewedAt, renewedFrom, renewed}
 use Rattle.protector.specs.World.{tablesLen, overlaysOf, withOverlays, withoutPage}
 
 module _ (t : List ℕ) (e : length t ≡ tablesLen) where

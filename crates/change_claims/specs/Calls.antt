@@ -8,13 +8,13 @@ use lib.ListN.{drop}
 use Rattle.permissions.specs.declared.GuestVtl.{GuestVtl}
 use Rattle.permissions.specs.declared.IsolationType.{IsolationType}
 use Rattle.permissions.specs.Flags.{flagsOf, bitsOf}
-use Rattle.pages.specs.Pages.{pagesOf}
-use Rattle.overlays.specs.declared.OverlayPage.{OverlayPage}
-use Rattle.overlays.specs.Overlays.{isOverlay, entry, addWords}
+use Rattle.page_list.specs.Pages.{pagesOf}
+use Rattle.overlay_table.specs.declared.OverlayPage.{OverlayPage}
+use Rattle.overlay_table.specs.Overlays.{isOverlay, entry, addWords}
 use Rattle.protector_state.specs.State.{settingsOf, entriesIn}
 use Rattle.protector.specs.World.{World, overlaysOf, withOverlays, withoutPage}
-use Rattle.vtl_protections.specs.Calls.{renewedTables}
-use Rattle.overlay_pages.specs.Calls.{entryIn, recounted, currentIn}
+use Rattle.protection_entries.specs.Calls.{renewedTables}
+use Rattle.overlay_entries.specs.Calls.{entryIn, recounted, currentIn}
 use Rattle.visibility_claims.specs.Whole.{Given, Ok, stands}
 use Rattle.visibility_claims.specs.Runs.{Ran}
 use Rattle.visibility_claims.specs.Calls.{Told, replies, Says}

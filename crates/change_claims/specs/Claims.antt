@@ -3,9 +3,9 @@
 use mathlib.Core.Path.{_≡_}
 use mathlib.Core.Bool.{Bool, true, false, _&&_}
 use mathlib.Core.List.{List, _∷_}
-use Prim.Native.Nat.{ℕ, _+_}
+use Prim.Native.Nat.{ℕ, _+_, _<_}
 use lib.Dec.{eqb, ltb}
-use lib.ListN.{length, drop}
+use lib.ListN.{length, getD, take, drop}
 use Rattle.bitmap.specs.Pages as bits
 use Rattle.layout.specs.declared.MemoryRangeWithNode.{MemoryRangeWithNode}
 use Rattle.layout.specs.Layout.{isRam, ordered, refusalOf}
@@ -14,24 +14,24 @@ use Rattle.permissions.specs.declared.GuestVtl.the-variants.{Vtl0}
 use Rattle.permissions.specs.declared.HvMapGpaFlags.{HvMapGpaFlags}
 use Rattle.permissions.specs.Flags.{vtlOf, boolOf, flagsOf, noFlags}
 use Rattle.mapping.specs.Maps.{Maps}
-use Rattle.pages.specs.Pages.{among, strict, pagesOf}
-use Rattle.pages.specs.Runs.{runsOf}
-use Rattle.defaults.specs.Visit.{upTo, pick}
-use Rattle.acceptor.specs.declared.Settings.{Settings}
+use Rattle.page_list.specs.Pages.{among, strict, pagesOf}
+use Rattle.page_list.specs.Runs.{runsOf}
+use Rattle.default_change.specs.Visit.{upTo, pick}
+use Rattle.visibility_steps.specs.declared.Settings.{Settings}
 use Rattle.protector_state.specs.State.{settingsOf, ramOf, entriesIn}
 use Rattle.protector_state.specs.declared.Reply.{Reply}
 use Rattle.protector_state.specs.Reply.{finished}
 use Rattle.protector.specs.World.{World, fits}
-use Rattle.protector.specs.Calls.{askedFor, visibilityRefusal, visibilityOf}
-use Rattle.locked_pages.specs.Calls.{lockOf, unlockOf}
-use Rattle.vtl1_protections.specs.Calls.{enableOf}
-use Rattle.vtl_protections.specs.Calls.{protectionRefusal, allListed, protectionOf, defaultRefusal, stored, barred, defaultOf}
-use Rattle.overlay_tests.specs.Refusals.{registerRefusal, unregisterRefusal}
-use Rattle.overlay_pages.specs.Calls.{entryIn, currentIn, registerOf, unregisterOf}
-use Rattle.visibility_claims.specs.Whole.{Wait, Given, Fails, Ok, FailedAt, flushes, wholeShare, wholeReturn}
+use Rattle.protector.specs.Calls.{visibilityRefusal, visibilityOf}
+use Rattle.lock_entries.specs.Calls.{lockOf, unlockOf}
+use Rattle.setting_entries.specs.Calls.{enableOf}
+use Rattle.protection_entries.specs.Calls.{protectionRefusal, allListed, protectionOf, defaultRefusal, stored, barred, defaultOf}
+use Rattle.overlay_refusals.specs.Refusals.{registerRefusal, unregisterRefusal}
+use Rattle.overlay_entries.specs.Calls.{entryIn, currentIn, registerOf, unregisterOf}
+use Rattle.visibility_claims.specs.Whole.{Given, Fails, Stand, Ok, FailedAt, wholeShare, wholeReturn}
 use Rattle.visibility_claims.specs.Runs.{whole}
+use Rattle.visibility_claims.specs.Requested.{requestedOf, pagesIn, placesIn}
 use Rattle.visibility_claims.specs.Calls.{wholeOf, Told, follow}
-use Rattle.visibility_claims.specs.Operations.{past, processed}
 use Rattle.visibility_claims.specs.Ends.{pageEnd}
 use Rattle.change_claims.specs.Whole.{Change, isProtected, ramRuns, wholePages, wholeRam}
 use Rattle.change_claims.specs.Calls.{trackedIn, overlayIn, protectionWhole, defaultWhole, newWhole, registerWhole, oldWhole, unregisterWhole, Agrees}
@@ -74,6 +74,13 @@ TakesVisibility w vtl visibility l = visibilityRefusal (w .state) (fits w) (w .t
 
 abbrev pub visibilityCall : World → ℕ → ℕ → List ℕ → List Given → Told
 visibilityCall w vtl visibility l gs = follow (visibilityOf w vtl visibility l) gs
+
+-- the pages that a visibility change asks for, and their places in the list as sent
+abbrev pub requestedPages : World → GuestVtl → Bool → List ℕ → List ℕ
+requestedPages w v share l = pagesIn (requestedOf w v share l .listed)
+
+abbrev pub requestedPlaces : World → GuestVtl → Bool → List ℕ → List ℕ
+requestedPlaces w v share l = placesIn (requestedOf w v share l .listed)
 
 -- a layout that a build takes, and its entries in order alone
 abbrev pub FitLayout : World → Type 0
@@ -154,23 +161,26 @@ DefaultVisits =
 
 -- ---- the permission maps page by page, of whole calls on any maps
 
--- the pages that Modify processed, by the answer that it took
-abbrev pub returnedBy : Settings → List ℕ → List Given → List ℕ
-returnedBy s ps gs = processed ps (past (Wait ∷ flushes (s .isolation)) gs)
+-- a return of ps that failed at place i of its list (16): the page there wasn't processed, those before it were
+pub record DoneBefore (ps places : List ℕ) (i : ℕ) (holds : List ℕ → Type 0) : Type 0 where
+  pub count : ℕ
+  pub below : count < length ps
+  pub place : getD places count 0 ≡ i
+  pub done : holds (take count ps)
 
 pub record PermissionMaps : Type 0 where
   pub protection : (tracked : Bool) (v : GuestVtl) (f : HvMapGpaFlags) (ps : List ℕ) (m : Maps) (gs : List Given) → wholePages tracked v f ps m gs .stand ≡ Ok
       → Leaves tracked v (within (among ps)) f m (wholePages tracked v f ps m gs .maps)
   pub default : (tracked : Bool) (v : GuestVtl) (f : HvMapGpaFlags) (es : List MemoryRangeWithNode) (overlay : ℕ → Bool) (m : Maps) (gs : List Given)
       → wholeRam tracked v f es overlay m gs .stand ≡ Ok → Leaves tracked v (within (takenRam es (m .private) overlay)) f m (wholeRam tracked v f es overlay m gs .maps)
-  -- a return that ends in Ok or 16 leaves VTL0's default at the pages that Modify processed
+  -- a return that ends in Ok or 16 leaves VTL0's default at the pages that were processed
   pub return-ok : (s : Settings) (ps places : List ℕ) (m : Maps) (gs : List Given) → wholeReturn s ps places m gs .stand ≡ Ok
       → PermitsFor (s .tracked) Vtl0 (within (among ps)) (s .defaults .vtl0) (m .permissions) (wholeReturn s ps places m gs .maps .permissions)
   pub return-16 : (s : Settings) (ps places : List ℕ) (m : Maps) (gs : List Given) (code i : ℕ) → wholeReturn s ps places m gs .stand ≡ FailedAt code i
-      → PermitsFor (s .tracked) Vtl0 (within (among (returnedBy s ps gs))) (s .defaults .vtl0) (m .permissions) (wholeReturn s ps places m gs .maps .permissions)
+      → DoneBefore ps places i (λ qs. PermitsFor (s .tracked) Vtl0 (within (among qs)) (s .defaults .vtl0) (m .permissions) (wholeReturn s ps places m gs .maps .permissions))
   -- a share clears, at the call, and its Protects write none: under any answers
-  pub share : (s : Settings) (v : GuestVtl) (ps : List ℕ) (stopped : Bool) (i : ℕ) (m : Maps) (gs : List Given)
-      → PermitsFor (s .tracked) v (within (among ps)) noFlags (m .permissions) (wholeShare s v ps stopped i m gs .maps .permissions)
+  pub share : (s : Settings) (v : GuestVtl) (ps : List ℕ) (end : Stand) (m : Maps) (gs : List Given)
+      → PermitsFor (s .tracked) v (within (among ps)) noFlags (m .permissions) (wholeShare s v ps end m gs .maps .permissions)
 
 -- and of calls as they are made in a layout that fits: there the maps have every page of RAM, and any other page is refused by 7
 
@@ -182,14 +192,14 @@ pub record PermissionsLeft : Type 0 where
       (defaultCall w vtl flags gs .last .world .maps)
   pub return-ok : (w : World) (vtl visibility : ℕ) (l : List ℕ) (gs : List Given) → TakesVisibility w vtl visibility l → FitLayout w → boolOf visibility ≡ false
       → wholeOf w (vtlOf vtl) false l gs .stand ≡ Ok
-      → PermitsFor (trackedIn w) Vtl0 (all (among (askedFor w (vtlOf vtl) false l))) (settingsOf (w .state) .defaults .vtl0) (w .maps .permissions)
+      → PermitsFor (trackedIn w) Vtl0 (all (among (requestedPages w (vtlOf vtl) false l))) (settingsOf (w .state) .defaults .vtl0) (w .maps .permissions)
       (visibilityCall w vtl visibility l gs .last .world .maps .permissions)
   pub return-16 : (w : World) (vtl visibility : ℕ) (l : List ℕ) (gs : List Given) (code i : ℕ) → TakesVisibility w vtl visibility l → FitLayout w → boolOf visibility ≡ false
       → wholeOf w (vtlOf vtl) false l gs .stand ≡ FailedAt code i
-      → PermitsFor (trackedIn w) Vtl0 (all (among (returnedBy (settingsOf (w .state)) (askedFor w (vtlOf vtl) false l) gs))) (settingsOf (w .state) .defaults .vtl0) (w .maps .permissions)
-      (visibilityCall w vtl visibility l gs .last .world .maps .permissions)
+      → DoneBefore (requestedPages w (vtlOf vtl) false l) (requestedPlaces w (vtlOf vtl) false l) i
+      (λ qs. PermitsFor (trackedIn w) Vtl0 (all (among qs)) (settingsOf (w .state) .defaults .vtl0) (w .maps .permissions) (visibilityCall w vtl visibility l gs .last .world .maps .permissions))
   pub share : (w : World) (vtl visibility : ℕ) (l : List ℕ) (gs : List Given) → TakesVisibility w vtl visibility l → FitLayout w → boolOf visibility ≡ true
-      → PermitsFor (trackedIn w) (vtlOf vtl) (all (among (askedFor w (vtlOf vtl) true l))) noFlags (w .maps .permissions)
+      → PermitsFor (trackedIn w) (vtlOf vtl) (all (among (requestedPages w (vtlOf vtl) true l))) noFlags (w .maps .permissions)
       (visibilityCall w vtl visibility l gs .last .world .maps .permissions)
 
 -- ---- an overlay call whose Protect fails: 16, OperationDenied, one operation; the entries are unchanged; of guest memory (source 0) the permission maps are written, a Dma

@@ -11,7 +11,7 @@ use Rattle.permissions.specs.declared.GuestVtl.{GuestVtl}
 use Rattle.permissions.specs.declared.GuestVtl.the-variants.{Vtl0, Vtl1}
 use Rattle.permissions.specs.declared.HvMapGpaFlags.{HvMapGpaFlags}
 use Rattle.mapping.specs.Maps.{Permissions, Maps}
-use Rattle.defaults.specs.Visit.{upTo}
+use Rattle.default_change.specs.Visit.{upTo}
 use Rattle.protector_state.specs.declared.Reply.{Reply}
 
 -- ---- the pages of the Protects among replies, in order

@@ -9,18 +9,18 @@ use Rattle.layout.specs.Layout.{entriesOf, ramByte}
 use Rattle.permissions.specs.declared.GuestVtl.the-variants.{Vtl0, Vtl1}
 use Rattle.permissions.specs.Flags.{vtlOf, flagsOf}
 use Rattle.permissions.specs.HvError.{codeOf}
-use Rattle.pages.specs.Pages.{pagesOf, numberOf, numberAt, numbersFrom}
-use Rattle.pages.specs.Runs.{run, runsOf}
-use Rattle.overlays.specs.Overlays.{placeFrom}
-use Rattle.defaults.specs.Renewed.{renewedFrom}
-use Rattle.defaults.specs.Visit.{upTo, pick}
-use Rattle.locks.specs.Locks.{total}
-use Rattle.locked_pages.specs.Calls.{ended, lockRefusal, lockOf}
-use Rattle.locked_pages.specs.Lists.{Lists, listsAt, withLists, Holds, Makes}
+use Rattle.page_list.specs.Pages.{pagesOf, numberOf, numberAt, numbersFrom}
+use Rattle.page_list.specs.Runs.{run, runsOf}
+use Rattle.overlay_table.specs.Overlays.{placeFrom}
+use Rattle.default_change.specs.Renewed.{renewedFrom}
+use Rattle.default_change.specs.Visit.{upTo, pick}
+use Rattle.lock_table.specs.Locks.{total}
+use Rattle.lock_entries.specs.Calls.{ended, lockRefusal, lockOf}
+use Rattle.lock_entries.specs.Lists.{Lists, listsAt, withLists, Holds, Makes}
 use Rattle.protector_state.specs.Reply.{finished}
 use Rattle.protector.specs.World.{World, world, overlaysOf}
-use Rattle.overlay_tests.specs.Refusals.{currentOf}
-use Rattle.overlay_pages.specs.Calls.{registerOf}
+use Rattle.overlay_refusals.specs.Refusals.{currentOf}
+use Rattle.overlay_entries.specs.Calls.{registerOf}
 use Rattle.visibility_claims.specs.Whole.{Wait, Protect, Flush, TlbWait, Succeeds, Fails, Ok, FailedAt, Halts, one, inTurn, perRun}
 use Rattle.visibility_claims.specs.Table.{page, dones, fresh}
 use Rattle.change_claims.specs.Whole.{Change, wholeRuns, ramRuns, wholeEntry, wholeOverlay}

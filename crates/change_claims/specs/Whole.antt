@@ -9,10 +9,10 @@ use Rattle.permissions.specs.declared.GuestVtl.the-variants.{Vtl0}
 use Rattle.permissions.specs.declared.HvMapGpaFlags.{HvMapGpaFlags}
 use Rattle.layout.specs.declared.MemoryRangeWithNode.{MemoryRangeWithNode}
 use Rattle.mapping.specs.Maps.{Maps}
-use Rattle.pages.specs.declared.PageRun.{PageRun}
-use Rattle.pages.specs.Runs.{run, runsOf}
-use Rattle.defaults.specs.Pieces.{pageUp}
-use Rattle.defaults.specs.Visit.{upTo, pick}
+use Rattle.page_list.specs.declared.PageRun.{PageRun}
+use Rattle.page_list.specs.Runs.{run, runsOf}
+use Rattle.default_change.specs.Pieces.{pageUp}
+use Rattle.default_change.specs.Visit.{upTo, pick}
 use Rattle.visibility_claims.specs.Whole.{Operation, Wait, Protect, Flush, TlbWait, Given, Succeeds, Fails, Ok, FailedAt, Whole, stands, one, inTurn, perRun, protecting}
 
 -- a call with the tables of overlays and locks that it leaves

@@ -10,9 +10,9 @@ use Rattle.abi.specs.Phases as phase
 use Rattle.abi.specs.Places as place
 use Rattle.abi.specs.Stages as stage
 use Rattle.permissions.specs.Flags.{vtlOf, vtlNumber}
-use Rattle.changes.specs.declared.Stage.{Stage}
-use Rattle.changes.specs.declared.Stage.the-variants.{Idle, Halted, ProtectPages, ProtectRam, ProtectNew, ProtectOld, Wait, Flush, TlbWait}
-use Rattle.changes.specs.declared.Change.{Change}
+use Rattle.change_steps.specs.declared.Stage.{Stage}
+use Rattle.change_steps.specs.declared.Stage.the-variants.{Idle, Halted, ProtectPages, ProtectRam, ProtectNew, ProtectOld, Wait, Flush, TlbWait}
+use Rattle.change_steps.specs.declared.Change.{Change}
 
 abbrev pub stageNumber : Stage → ℕ
 stageNumber Idle = phase.idle

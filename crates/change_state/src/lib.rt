@@ -7,8 +7,8 @@ use abi::limit;
 use abi::phase;
 use abi::place;
 use abi::stage;
-use changes::Change;
-use changes::Stage;
+use change_steps::Change;
+use change_steps::Stage;
 
 fn stage_number(stage: Stage) -> u64
     ensures { λ r. ⌜ r ≡ stageNumber stage ⌝ }

@@ -17,19 +17,19 @@ use Rattle.permissions.specs.declared.IsolationType.{IsolationType}
 use Rattle.permissions.specs.declared.IsolationType.the-variants.{Snp, Tdx, Cca}
 use Rattle.permissions.specs.declared.OptionFlags.{OptionFlags}
 use Rattle.permissions.specs.declared.OptionFlags.the-variants.{Some, None}
-use Rattle.pages.specs.Pages.{among}
-use Rattle.pages.specs.Runs.{part, neighbours, runAt, run}
-use Rattle.pages.specs.declared.PageRun.{PageRun}
-use Rattle.pages.proofs.RunLaws.{run-here, run-none, part-next}
-use Rattle.request.specs.Request.{runEnd, put}
-use Rattle.request.proofs.Runs.{end-le, end-none, run-places}
-use Rattle.acceptor.specs.declared.Phase.{Phase}
-use Rattle.acceptor.specs.declared.Phase.the-variants as at
-use Rattle.acceptor.specs.declared.Settings.{Settings}
-use Rattle.acceptor.specs.declared.Request.{Request}
-use Rattle.acceptor.specs.declared.Writes.{Writes}
-use Rattle.acceptor.specs.declared.Step.{Step}
-use Rattle.acceptor.specs.Steps.{isSnp, isCca, releases, noWrites, setShared, setPrivate, ask, end, halt, shareRun, defaultRun, returnRun, afterFlush, afterWait, afterModify, afterAccept, afterDefault0, cutAt, failedModify, doneOf, failedOf}
+use Rattle.page_list.specs.Pages.{among}
+use Rattle.page_list.specs.Runs.{part, neighbours, runAt, run}
+use Rattle.page_list.specs.declared.PageRun.{PageRun}
+use Rattle.page_list.proofs.RunLaws.{run-here, run-none, part-next}
+use Rattle.request_pages.specs.Request.{runEnd, put}
+use Rattle.request_pages.proofs.Runs.{end-le, end-none, run-places}
+use Rattle.visibility_steps.specs.declared.Phase.{Phase}
+use Rattle.visibility_steps.specs.declared.Phase.the-variants as at
+use Rattle.visibility_steps.specs.declared.Settings.{Settings}
+use Rattle.visibility_steps.specs.declared.Request.{Request}
+use Rattle.visibility_steps.specs.declared.Writes.{Writes}
+use Rattle.visibility_steps.specs.declared.Step.{Step}
+use Rattle.visibility_steps.specs.Steps.{isSnp, isCca, releases, noWrites, setShared, setPrivate, ask, end, halt, shareRun, defaultRun, returnRun, afterFlush, afterWait, afterModify, afterAccept, afterDefault0, cutAt, failedModify, doneOf, failedOf}
 use Rattle.protector.specs.World.{takes, putPlaces}
 use Rattle.visibility_claims.specs.Whole.{Given, Succeeds, Fails}
 use Rattle.history.specs.Seen.{Age, Never, Returned, Validated, Zeroed, processed, accepted, zeroed, isDone}

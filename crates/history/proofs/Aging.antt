@@ -13,28 +13,28 @@ use Rattle.layout.specs.declared.MemoryRangeWithNode.{MemoryRangeWithNode}
 use Rattle.permissions.specs.declared.GuestVtl.{GuestVtl}
 use Rattle.permissions.specs.declared.GuestVtl.the-variants.{Vtl0, Vtl1}
 use Rattle.permissions.specs.Flags.{vtlOf, vtlNumber, isolationOf, boolOf, bitsOf}
-use Rattle.pages.specs.Pages.{pagesOf}
-use Rattle.overlays.specs.Overlays.{isOverlay}
-use Rattle.request.specs.Request.{wanted, put}
-use Rattle.request.proofs.Table.{length-table, pages-few}
-use Rattle.acceptor.specs.declared.Phase.{Phase}
-use Rattle.acceptor.specs.declared.Phase.the-variants as at
-use Rattle.acceptor.specs.declared.Request.{Request}
-use Rattle.acceptor.specs.declared.Settings.{Settings}
-use Rattle.acceptor.specs.declared.Step.{Step}
-use Rattle.acceptor.specs.Steps as acceptor
-use Rattle.acceptor.specs.Steps.{isSnp, runOf, asked, cleared, startOf}
-use Rattle.changes.specs.declared.ChangeStep.{ChangeStep}
-use Rattle.changes.specs.Changes.{startNew, startOld}
+use Rattle.page_list.specs.Pages.{pagesOf}
+use Rattle.overlay_table.specs.Overlays.{isOverlay}
+use Rattle.request_pages.specs.Request.{wanted, put}
+use Rattle.request_pages.proofs.Table.{length-table, pages-few}
+use Rattle.visibility_steps.specs.declared.Phase.{Phase}
+use Rattle.visibility_steps.specs.declared.Phase.the-variants as at
+use Rattle.visibility_steps.specs.declared.Request.{Request}
+use Rattle.visibility_steps.specs.declared.Settings.{Settings}
+use Rattle.visibility_steps.specs.declared.Step.{Step}
+use Rattle.visibility_steps.specs.Steps as visibilitySteps
+use Rattle.visibility_steps.specs.Steps.{isSnp, runOf, asked, cleared, startOf}
+use Rattle.change_steps.specs.declared.ChangeStep.{ChangeStep}
+use Rattle.change_steps.specs.Changes.{startNew, startOld}
 use Rattle.protector_state.specs.declared.Reply.{Reply}
 use Rattle.protector_state.specs.State.{phaseIn, requestOf, withRequest, settingsOf}
 use Rattle.protector_state.specs.Reply.{modifies, onRun, flatOf, askedOf}
 use Rattle.change_state.specs.State.{stageIn, isChanging, changeIn}
 use Rattle.protector.specs.World.{World, world, Outcome, overlaysOf, fits, applied}
 use Rattle.protector.specs.Calls.{refusedBy, carriedOut, carriedChange, visibilityRefusal, stopOf, askedFor, tableFor, visibilityTaken, visibilityOf, afterDone, afterFailed, visibilityDone, visibilityFailed, changeDone, changeFailed, answerDone, answerFailed}
-use Rattle.vtl_protections.specs.Calls.{defaultRefusal, storedDefault, stored, barred, renewedTables, renewedIn, defaultStep, defaultStarted, defaultTaken, defaultOf, protectionRefusal, allListed, protectionStep, protectionTaken, protectionOf}
-use Rattle.overlay_tests.specs.Refusals.{unregisterRefusal, registerRefusal}
-use Rattle.overlay_pages.specs.Calls.{entryIn, counting, unregisterTaken, unregisterOf, currentIn, registerTaken, registerOf}
+use Rattle.protection_entries.specs.Calls.{defaultRefusal, storedDefault, stored, barred, renewedTables, renewedIn, defaultStep, defaultStarted, defaultTaken, defaultOf, protectionRefusal, allListed, protectionStep, protectionTaken, protectionOf}
+use Rattle.overlay_refusals.specs.Refusals.{unregisterRefusal, registerRefusal}
+use Rattle.overlay_entries.specs.Calls.{entryIn, counting, unregisterTaken, unregisterOf, currentIn, registerTaken, registerOf}
 use Rattle.visibility_claims.specs.Whole.{Given, Succeeds, Fails}
 use Rattle.visibility_claims.specs.Calls.{answerOf}
 use Rattle.visibility_claims.proofs.Calls.{phase-read, request-read, few-done, few-failed}
@@ -211,13 +211,13 @@ module _ (es : List MemoryRangeWithNode) (w : World) (o : Seen) (k : Stands es w
       (λ free t. either Snp w o (k .halts) a Succeeds (isChanging (w .state)) (changeDone w) (visibilityDone w) refl
       (λ c. changed Succeeds c _ (done-told (s .isolation) (s .tracked) (stageIn (w .state)) (changeIn (w .state)) (w .pages) _ (takes-change w true false c t)))
       (λ c. let y = takes-change w false false c t in
-      visible Succeeds (acceptor.doneOf s p q (w .pages)) (done-fits s p q (w .pages) y) (done-ages s (a .snp) (w .maps .private) q (w .pages) (o .age) p y (a .ages)) (few-done s (w .pages) p q y few-here)))
+      visible Succeeds (visibilitySteps.doneOf s p q (w .pages)) (done-fits s p q (w .pages) y) (done-ages s (a .snp) (w .maps .private) q (w .pages) (o .age) p y (a .ages)) (few-done s (w .pages) p q y few-here)))
   answer-aged (Fails code n) =
       answered Snp w o (k .halts) a (Fails code n) true (cond (isChanging (w .state)) (changeFailed w) (visibilityFailed w code n))
       (λ free t. either Snp w o (k .halts) a (Fails code n) (isChanging (w .state)) (changeFailed w) (visibilityFailed w code n) refl
       (λ c. changed (Fails code n) c _ (failed-told (s .isolation) (stageIn (w .state)) (changeIn (w .state)) (takes-change w true true c t)))
       (λ c. let y = takes-change w false true c t in
-      visible (Fails code n) (acceptor.failedOf s p q (w .pages) code n) (failed-fits s p q (w .pages) code n y) (failed-ages s (a .snp) (w .maps .private) q (w .pages) (o .age) p code n y) (few-failed s (w .pages) p q code n y few-here)))
+      visible (Fails code n) (visibilitySteps.failedOf s p q (w .pages) code n) (failed-fits s p q (w .pages) code n y) (failed-ages s (a .snp) (w .maps .private) q (w .pages) (o .age) p code n y) (few-failed s (w .pages) p q code n y few-here)))
 
 -- ---- every call
 

@@ -6,24 +6,25 @@ use mathlib.Core.Bool.{Bool, true, false, not, cond, _&&_}
 use native.Mathlib.Omega.{arith}
 use lib.ListN.{length}
 use lib.Dec.{eqb, ltb}
+use Rattle.abi.specs.Refusals as refusal
 use Rattle.laws.specs.Bools.{false≢true, or-right}
 use Rattle.laws.specs.Refusal.{unless}
 use Rattle.layout.specs.declared.MemoryRangeWithNode.{MemoryRangeWithNode}
 use Rattle.layout.specs.Layout.{isRam}
 use Rattle.permissions.specs.declared.GuestVtl.{GuestVtl}
 use Rattle.permissions.specs.declared.IsolationType.{IsolationType}
-use Rattle.pages.specs.declared.PageRun.{PageRun}
-use Rattle.request.specs.Request.{runEnd}
-use Rattle.acceptor.specs.declared.Phase.{Phase}
-use Rattle.acceptor.specs.declared.Request.{Request}
-use Rattle.acceptor.specs.declared.Step.{Step}
-use Rattle.acceptor.specs.Steps as acceptor
-use Rattle.changes.specs.declared.Stage.{Stage}
-use Rattle.changes.specs.declared.Stage.the-variants as stage
-use Rattle.changes.specs.declared.Entry.{Entry}
-use Rattle.changes.specs.declared.Change.{Change}
-use Rattle.changes.specs.declared.ChangeStep.{ChangeStep}
-use Rattle.changes.specs.Changes.{protect, ask, wait, finish, halt, protectPages, protectRam, doneOf, failedOf, startPages, startRam, startNew, startOld, changeOf}
+use Rattle.page_list.specs.declared.PageRun.{PageRun}
+use Rattle.request_pages.specs.Request.{runEnd}
+use Rattle.visibility_steps.specs.declared.Phase.{Phase}
+use Rattle.visibility_steps.specs.declared.Request.{Request}
+use Rattle.visibility_steps.specs.declared.Step.{Step}
+use Rattle.visibility_steps.specs.Steps as visibilitySteps
+use Rattle.change_steps.specs.declared.Stage.{Stage}
+use Rattle.change_steps.specs.declared.Stage.the-variants as stage
+use Rattle.change_steps.specs.declared.Entry.{Entry}
+use Rattle.change_steps.specs.declared.Change.{Change}
+use Rattle.change_steps.specs.declared.ChangeStep.{ChangeStep}
+use Rattle.change_steps.specs.Changes.{protect, ask, wait, finish, halt, protectPages, protectRam, doneOf, failedOf, startPages, startRam, startNew, startOld, changeOf}
 use Rattle.protector_state.specs.declared.Reply.{Reply}
 use Rattle.protector_state.specs.State.{stateLen, phaseIn, requestOf, settingsOf}
 use Rattle.protector_state.specs.Reply.{askedOf, flatOf}
@@ -33,7 +34,7 @@ use Rattle.protector.specs.Calls.{refusedBy, decided, carriedOut, carriedChange
 use Rattle.visibility_claims.specs.Whole.{Given, Succeeds, Fails}
 use Rattle.visibility_claims.specs.Calls.{answerOf, takenBy}
 use Rattle.visibility_claims.proofs.Calls.{few-done, few-failed}
-use Rattle.history.specs.Seen.{wrongLength, haltedNumber, nothingAsked, Seen, asks, lastAfter, isTaken, goesOn, seesTaken, seesAnswer}
+use Rattle.history.specs.Seen.{Seen, asks, lastAfter, isTaken, goesOn, seesTaken, seesAnswer}
 use Rattle.history.proofs.Took.{isShared, sharedIn}
 use Rattle.history.proofs.Right.{opened, isHalted, isQuiet, Right, Fits, Moves, made-right}
 use Rattle.history.proofs.Steps.{after, done-fits, failed-fits, done-moves, failed-moves}
@@ -42,9 +43,9 @@ use Rattle.history.proofs.World.{Stands, settled, right-same, quiet-las
 -- ---- what a step of another change tells: nothing that Modify, Accept or Zero would
 
 pub record Told (i : IsolationType) (x : ChangeStep) : Type 0 where
-  pub not4 : eqb (flatOf i (x .answer) .number) wrongLength ≡ false
-  pub not21 : eqb (flatOf i (x .answer) .number) nothingAsked ≡ false
-  pub halts : eqb (flatOf i (x .answer) .number) haltedNumber ≡ stops (x .stage)
+  pub not4 : eqb (flatOf i (x .answer) .number) refusal.wrongLength ≡ false
+  pub not21 : eqb (flatOf i (x .answer) .number) refusal.nothingAsked ≡ false
+  pub halts : eqb (flatOf i (x .answer) .number) refusal.halted ≡ stops (x .stage)
   pub waits : asks (flatOf i (x .answer)) ≡ goes (x .stage)
   pub quiet : isQuiet (flatOf i (x .answer)) ≡ true
 
@@ -110,10 +111,10 @@ module _ (i : IsolationType) where
 -- ---- the refusals of an answer: a: the state block is whole, h: halted, c: what is lent fits, d: an answer is waited for
 
 abbrev pub chain : Bool → Bool → Bool → Bool → ℕ
-chain a h c d = unless a wrongLength (unless (not h) haltedNumber (unless c wrongLength (unless d nothingAsked 0)))
+chain a h c d = unless a refusal.wrongLength (unless (not h) refusal.halted (unless c refusal.wrongLength (unless d refusal.nothingAsked 0)))
 
 abbrev pub counts : Bool → ℕ → Bool
-counts h n = not h && (not (eqb n wrongLength) && not (eqb n nothingAsked))
+counts h n = not h && (not (eqb n refusal.wrongLength) && not (eqb n refusal.nothingAsked))
 
 pub chain-untaken : (a h c d : Bool) → eqb (chain a h c d) 0 ≡ false → counts h (chain a h c d) ≡ false
 chain-untaken false true c d e = refl
@@ -132,18 +133,18 @@ chain-taken true false true true e = (refl, refl)
 
 -- a taken answer that leads to T, which keeps K
 pub record Leads (K : World → Seen → Type 0) (o : Seen) (g : Given) (T : Outcome) : Type 0 where
-  pub not4 : eqb (T .reply .number) wrongLength ≡ false
-  pub not21 : eqb (T .reply .number) nothingAsked ≡ false
+  pub not4 : eqb (T .reply .number) refusal.wrongLength ≡ false
+  pub not21 : eqb (T .reply .number) refusal.nothingAsked ≡ false
   pub stands : K (T .world) (seesTaken g (T .reply) (T .world .pages) o)
 
-module _ (K : World → Seen → Type 0) (w : World) (o : Seen) (halts : o .halted ≡ eqb (statusIn (w .state)) haltedNumber) (k : K w o) where
+module _ (K : World → Seen → Type 0) (w : World) (o : Seen) (halts : o .halted ≡ eqb (statusIn (w .state)) refusal.halted) (k : K w o) where
   pub answered : (g : Given) (failed : Bool) (T : Outcome) → (o .halted ≡ false → takesIn (w .state) failed ≡ true → Leads K o g T)
       → let X = decided w (answerRefusal (w .state) (fits w) failed) T in K (X .world) (seesAnswer g (X .reply) (X .world .pages) o)
   unfolding answerRefusal
   answered g failed T f = go (eqb n 0) refl
     where
       h : Bool
-      h = eqb (statusIn (w .state)) haltedNumber
+      h = eqb (statusIn (w .state)) refusal.halted
 
       n : ℕ
       n = chain (eqb (length (w .state)) stateLen) h (fits w) (takesIn (w .state) failed)
@@ -166,7 +167,7 @@ module _ (K : World → Seen → Type 0) (w : World) (o : Seen) (halts : o .halt
   told g failed T f = go (eqb n 0) refl
     where
       h : Bool
-      h = eqb (statusIn (w .state)) haltedNumber
+      h = eqb (statusIn (w .state)) refusal.halted
 
       n : ℕ
       n = chain (eqb (length (w .state)) stateLen) h (fits w) (takesIn (w .state) failed)
@@ -242,9 +243,9 @@ module _ (es : List MemoryRangeWithNode) (w : World) (o : Seen) (k : Stands es w
       let p′ = phaseIn (w .state) in
       let q′ = requestOf (w .state) in
       either (Stands es) w o (k .halts) k Succeeds (isChanging (w .state)) (changeDone w) (visibilityDone w) refl
-      (λ c. changed Succeeds (acceptor.halt q′) free c _ (done-told (s .isolation) (s .tracked) (stageIn (w .state)) (changeIn (w .state)) (w .pages) _ (takes-change w true false c t)))
+      (λ c. changed Succeeds (visibilitySteps.halt q′) free c _ (done-told (s .isolation) (s .tracked) (stageIn (w .state)) (changeIn (w .state)) (w .pages) _ (takes-change w true false c t)))
       (λ c. let y = takes-change w false false c t in
-      visible Succeeds (acceptor.doneOf s p′ q′ (w .pages)) free (done-fits s p′ q′ (w .pages) y) (done-moves s q′ (w .pages) (sharedIn o) p′ y (λ j e h d. k .right .toward e j h d))
+      visible Succeeds (visibilitySteps.doneOf s p′ q′ (w .pages)) free (done-fits s p′ q′ (w .pages) y) (done-moves s q′ (w .pages) (sharedIn o) p′ y (λ j e h d. k .right .toward e j h d))
       (few-done s (w .pages) p′ q′ y few))
 
   failed-leads : (code n : ℕ) → o .halted ≡ false → takesIn (w .state) true ≡ true → Leads (Stands es) o (Fails code n) (cond (isChanging (w .state)) (changeFailed w) (visibilityFailed w code n))
@@ -254,9 +255,9 @@ module _ (es : List MemoryRangeWithNode) (w : World) (o : Seen) (k : Stands es w
       let p′ = phaseIn (w .state) in
       let q′ = requestOf (w .state) in
       either (Stands es) w o (k .halts) k (Fails code n) (isChanging (w .state)) (changeFailed w) (visibilityFailed w code n) refl
-      (λ c. changed (Fails code n) (acceptor.halt q′) free c _ (failed-told (s .isolation) (stageIn (w .state)) (changeIn (w .state)) (takes-change w true true c t)))
+      (λ c. changed (Fails code n) (visibilitySteps.halt q′) free c _ (failed-told (s .isolation) (stageIn (w .state)) (changeIn (w .state)) (takes-change w true true c t)))
       (λ c. let y = takes-change w false true c t in
-      visible (Fails code n) (acceptor.failedOf s p′ q′ (w .pages) code n) free (failed-fits s p′ q′ (w .pages) code n y)
+      visible (Fails code n) (visibilitySteps.failedOf s p′ q′ (w .pages) code n) free (failed-fits s p′ q′ (w .pages) code n y)
       (failed-moves s q′ (w .pages) (sharedIn o) p′ code n y (λ j e h d. k .right .toward e j h d) (λ e. k .right .once e)) (few-failed s (w .pages) p′ q′ code n y few))
 
   pub answer-stands : (g : Given) → Stands es (answerOf g w .world) (seesAnswer g (answerOf g w .reply) (answerOf g w .world .pages) o)

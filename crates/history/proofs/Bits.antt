@@ -10,9 +10,9 @@ use lib.Dec.{eqb, ltb, lit<}
 use borrow.Author.Tests.{eqb-true, eq-eqb, ltb-false, lt-ltb}
 use Rattle.bitmap.specs.Pages.{bitAt, written}
 use Rattle.bitmap.proofs.Map.{page-law, page-past}
-use Rattle.pages.specs.Pages.{among}
-use Rattle.pages.specs.Runs.{part}
-use Rattle.request.specs.Request.{wanted}
+use Rattle.page_list.specs.Pages.{among}
+use Rattle.page_list.specs.Runs.{part}
+use Rattle.request_pages.specs.Request.{wanted}
 
 abbrev pub Has : List ℕ → ℕ → Type 0
 Has m q = bitAt 8 m q ≡ true

@@ -8,19 +8,20 @@ use lib.ListN.{length, getD, take, set, length-take}
 use lib.Seq.{getD-take, getD-set-other, drop-set-lt}
 use lib.Dec.{eqb, ltb}
 use borrow.Author.Tests.{eqb-true, ltb-false}
+use Rattle.abi.specs.Refusals as refusal
 use Rattle.laws.specs.Bools.{false≢true}
 use Rattle.laws.specs.Refusal.{passed}
 use Rattle.layout.specs.declared.MemoryRangeWithNode.{MemoryRangeWithNode}
 use Rattle.layout.specs.Layout.{isRam}
 use Rattle.permissions.specs.declared.GuestVtl.{GuestVtl}
 use Rattle.permissions.specs.Flags.{fitVtl, vtlOf, fitBool, boolOf}
-use Rattle.pages.specs.Pages.{pagesOf, isLong, isRagged, among, repeats}
-use Rattle.request.specs.Request.{wanted}
-use Rattle.request.proofs.Table.{length-pick, pages-few}
-use Rattle.acceptor.specs.declared.Phase.the-variants as at
-use Rattle.acceptor.specs.declared.Settings.{Settings}
-use Rattle.acceptor.specs.Steps.{asked, startOf}
-use Rattle.changes.specs.declared.ChangeStep.{ChangeStep}
+use Rattle.page_list.specs.Pages.{pagesOf, isLong, isRagged, among, repeats}
+use Rattle.request_pages.specs.Request.{wanted}
+use Rattle.request_pages.proofs.Table.{length-pick, pages-few}
+use Rattle.visibility_steps.specs.declared.Phase.the-variants as at
+use Rattle.visibility_steps.specs.declared.Settings.{Settings}
+use Rattle.visibility_steps.specs.Steps.{asked, startOf}
+use Rattle.change_steps.specs.declared.ChangeStep.{ChangeStep}
 use Rattle.protector_state.specs.declared.Reply.{Reply}
 use Rattle.protector_state.specs.State.{stateLen, phaseIn, requestOf, settingsOf, entriesIn}
 use Rattle.protector_state.specs.Reply.{askedOf, flatOf}
@@ -29,7 +30,7 @@ use Rattle.protector.specs.World.{World, world, Outcome, overlaysOf, locksOf, f
 use Rattle.protector.specs.Calls.{refusedBy, decided, carriedOut, carriedChange, pageRefusal, firstRefusal, visibilityRefusal, stopOf, askedFor, tableFor, visibilityTaken, visibilityOf}
 use Rattle.visibility_claims.proofs.Calls.{modify-pages}
 pub use Rattle.visibility_claims.proofs.Calls.{status}
-use Rattle.history.specs.Seen.{underWayNumber, haltedNumber, Seen, asks, seesCall}
+use Rattle.history.specs.Seen.{Seen, asks, seesCall}
 use Rattle.history.proofs.Took.{sharedIn}
 use Rattle.history.proofs.Bits.{among-own}
 use Rattle.history.proofs.Right.{opened, Right}
@@ -91,7 +92,7 @@ module _ (es : List MemoryRangeWithNode) (w : World) (o : Seen) (k : Stands es w
     shut = idle-shut (isChanging (w .state)) (phaseIn (w .state)) idle
 
     free : o .halted ≡ false
-    free = k .halts ∙ ap (λ (n : ℕ). eqb n haltedNumber) idle
+    free = k .halts ∙ ap (λ (n : ℕ). eqb n refusal.halted) idle
 
     settled-right : Right (isRam es) (w .maps .private) (w .maps .shared) (phaseIn (w .state)) (requestOf (w .state)) (w .pages) false (o .listed) (sharedIn o)
     settled-right = subst (λ (h : Bool). Right (isRam es) (w .maps .private) (w .maps .shared) (phaseIn (w .state)) (requestOf (w .state)) (w .pages) h (o .listed) (sharedIn o)) free (k .right)
@@ -118,7 +119,7 @@ module _ (es : List MemoryRangeWithNode) (w : World) (o : Seen) (k : Stands es w
         go false d =
             stands-change es (T .world .maps) s t (T .world .tables) o (x .stage) (x .change) (e ∙ k .layout)
             (λ p q h. settled (sharedIn o) p q t (o .listed) (o .halted) shut h (λ z. refl) settled-right) (free ∙ sym on)
-            (k .waits ∙ ap (λ (n : ℕ). eqb n underWayNumber) idle ∙ sym d ∙ told .waits) (quiet-names (phaseIn (w .state)) (requestOf (w .state)) (w .pages) (o .op) shut (k .names))
+            (k .waits ∙ ap (λ (n : ℕ). eqb n refusal.busy) idle ∙ sym d ∙ told .waits) (quiet-names (phaseIn (w .state)) (requestOf (w .state)) (w .pages) (o .op) shut (k .names))
 
 -- ---- a visibility change
 

@@ -20,9 +20,9 @@ use Rattle.permissions.specs.declared.GuestVtl.the-variants.{Vtl0, Vtl1}
 use Rattle.permissions.specs.Flags.{fitIsolation, fitBool, boolOf}
 use Rattle.mapping.specs.Maps.{Permissions, fresh, marksFit, permissionLen, permissionsFit}
 use Rattle.mapping.proofs.Marks.{fresh-page}
-use Rattle.overlays.specs.Overlays as overlays
-use Rattle.overlays.specs.Overlays.{flat}
-use Rattle.locked_pages.proofs.Limits.{none-locked}
+use Rattle.overlay_table.specs.Overlays as overlays
+use Rattle.overlay_table.specs.Overlays.{flat}
+use Rattle.lock_entries.proofs.Limits.{none-locked}
 use Rattle.protector_state.specs.declared.Reply.{Reply}
 use Rattle.protector_state.specs.State.{stateLen, firstPhases, phaseOf, builtState, settingsOf, ramOf, entriesIn}
 use Rattle.protector.specs.World.{World, Outcome, pagesLen, tablesLen, overlaysOf, locksOf}

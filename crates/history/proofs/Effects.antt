@@ -1,5 +1,5 @@
 -- What each call does to the entries and the lists of a world whose tables are such, as those of every stop are: what leaves the tables alone, what an answer and a
--- default change do, and the laws of `overlay_pages` and `locked_pages`, which ask for no more than `TablesFit` has. Assumes nothing.
+-- default change do, and the laws of `overlay_entries` and `lock_entries`, which ask for no more than `TablesFit` has. Assumes nothing.
 use native.Mathlib.Omega.{arith}
 use mathlib.Core.Path.{_≡_, refl, sym, ap, _∙_, subst}
 use mathlib.Core.Bool.{Bool, true, false, cond}
@@ -12,34 +12,34 @@ use Rattle.layout.specs.declared.MemoryRangeWithNode.{MemoryRangeWithNode}
 use Rattle.permissions.specs.declared.GuestVtl.{GuestVtl}
 use Rattle.permissions.specs.declared.GuestVtl.the-variants.{Vtl0, Vtl1}
 use Rattle.permissions.specs.Flags.{vtlOf, bitsOf}
-use Rattle.pages.specs.declared.PageRun.{PageRun}
-use Rattle.pages.specs.Pages.{pagesOf}
-use Rattle.pages.specs.Runs.{runAt}
-use Rattle.overlays.specs.declared.OverlayPage.{OverlayPage}
-use Rattle.overlays.specs.Overlays.{knows, entry, entryOf, changed, withCount, dropFirst, tableOf, used}
-use Rattle.locks.specs.Locks as locks
-use Rattle.locks.specs.Locks.{roomFor, unlocked}
-use Rattle.request.specs.Request.{runEnd}
-use Rattle.defaults.specs.Renewed.{renewedEntries, renewed}
-use Rattle.defaults.proofs.Table.{table-renewed}
-use Rattle.changes.specs.declared.Stage.{Stage}
-use Rattle.changes.specs.declared.Stage.the-variants as stage
-use Rattle.changes.specs.declared.Entry.the-variants.{Keep}
-use Rattle.changes.specs.declared.Change.{Change}
-use Rattle.changes.specs.declared.ChangeStep.{ChangeStep}
-use Rattle.changes.specs.Changes.{protect, ask, wait, finish, halt, keep, changeOf, protectPages, protectRam, doneOf, failedOf}
+use Rattle.page_list.specs.declared.PageRun.{PageRun}
+use Rattle.page_list.specs.Pages.{pagesOf}
+use Rattle.page_list.specs.Runs.{runAt}
+use Rattle.overlay_table.specs.declared.OverlayPage.{OverlayPage}
+use Rattle.overlay_table.specs.Overlays.{knows, entry, entryOf, changed, withCount, dropFirst, tableOf, used}
+use Rattle.lock_table.specs.Locks as locks
+use Rattle.lock_table.specs.Locks.{roomFor, unlocked}
+use Rattle.request_pages.specs.Request.{runEnd}
+use Rattle.default_change.specs.Renewed.{renewedEntries, renewed}
+use Rattle.default_change.proofs.Table.{table-renewed}
+use Rattle.change_steps.specs.declared.Stage.{Stage}
+use Rattle.change_steps.specs.declared.Stage.the-variants as stage
+use Rattle.change_steps.specs.declared.Entry.the-variants.{Keep}
+use Rattle.change_steps.specs.declared.Change.{Change}
+use Rattle.change_steps.specs.declared.ChangeStep.{ChangeStep}
+use Rattle.change_steps.specs.Changes.{protect, ask, wait, finish, halt, keep, changeOf, protectPages, protectRam, doneOf, failedOf}
 use Rattle.protector_state.specs.State.{settingsOf, entriesIn}
 use Rattle.change_state.specs.State.{stageIn, isChanging, changeIn}
 use Rattle.protector.specs.World.{World, overlaysOf, fits, entered}
 use Rattle.protector.specs.Calls.{refusedBy, carriedOut, carriedChange, visibilityRefusal, visibilityTaken, visibilityOf, answerRefusal, nextIn, afterDone, afterFailed, visibilityDone, visibilityFailed, changeDone, changeFailed, answerDone, answerFailed}
-use Rattle.vtl_protections.specs.Calls.{protectionRefusal, protectionTaken, protectionOf, defaultRefusal, stored, barred, renewedIn, firstPiece, defaultStarted, defaultTaken, defaultOf}
-use Rattle.overlay_tests.specs.Refusals.{unregisterRefusal, registerRefusal}
-use Rattle.overlay_pages.specs.Calls.{currentIn, unregisterOf, registerOf}
-use Rattle.overlay_pages.proofs.Claims.{overlays-written, register-known, unregister-lowers}
-use Rattle.overlay_pages.proofs.Steps.{entered-last, taken-out, register-enters, register-protects, unregister-restores}
-use Rattle.locked_pages.specs.Calls.{lockRefusal, lockOf, unlockOf}
-use Rattle.locked_pages.specs.Lists.{Lists, lists, listsAt, withLists, Makes}
-use Rattle.locked_pages.proofs.Lists.{lock-room, unlock-found}
+use Rattle.protection_entries.specs.Calls.{protectionRefusal, protectionTaken, protectionOf, defaultRefusal, stored, barred, renewedIn, firstPiece, defaultStarted, defaultTaken, defaultOf}
+use Rattle.overlay_refusals.specs.Refusals.{unregisterRefusal, registerRefusal}
+use Rattle.overlay_entries.specs.Calls.{currentIn, unregisterOf, registerOf}
+use Rattle.overlay_entries.proofs.Claims.{overlays-written, register-known, unregister-lowers}
+use Rattle.overlay_entries.proofs.Steps.{entered-last, taken-out, register-enters, register-protects, unregister-restores}
+use Rattle.lock_entries.specs.Calls.{lockRefusal, lockOf, unlockOf}
+use Rattle.lock_entries.specs.Lists.{Lists, lists, listsAt, withLists, Makes}
+use Rattle.lock_entries.proofs.Lists.{lock-room, unlock-found}
 use Rattle.history.specs.Tables.{Tables, Pending, entryFor, TablesFit}
 use Rattle.history.proofs.Bits.{clash}
 use Rattle.history.proofs.Lengths.{renewed-long}
@@ -189,7 +189,7 @@ module _ (es : List MemoryRangeWithNode) (w : World) (k : TablesFit es w) (vtl f
       ap (λ (b : Bool). overlaysOf (cond b (defaultTaken (stored w (vtlOf vtl) flags) (vtlOf vtl) flags) (refusedBy w (defaultRefusal (w .state) (fits w) vtl flags)) .world .tables) (vtlOf vtl)) (eq-eqb _ 0 z)
       ∙ started-renews es (stored w (vtlOf vtl) flags) (k .tables) (vtlOf vtl) flags free
 
--- ---- the calls on overlay pages that are taken: the laws of `overlay_pages`, of the entries here
+-- ---- the calls on overlay pages that are taken: the laws of `overlay_entries`, of the entries here
 
 module _ (es : List MemoryRangeWithNode) (w : World) (k : TablesFit es w) (vtl p : ℕ) where
   abbrev v : GuestVtl
@@ -225,7 +225,7 @@ module _ (es : List MemoryRangeWithNode) (w : World) (k : TablesFit es w) (vtl p
     pub unregister-waits : entryOf own p .«ref_count» ≤ 1 → unregisterOf w vtl p .world .tables ≡ w .tables
     unregister-waits c = unregister-restores w vtl p z own few (k .tables .long) is h c .0
 
--- ---- the calls on locks that are taken: those of `locked_pages`
+-- ---- the calls on locks that are taken: those of `lock_entries`
 
 module _ (es : List MemoryRangeWithNode) (w : World) (k : TablesFit es w) (vtl : ℕ) (l : List ℕ) (z : lockRefusal (w .state) (length (w .tables)) vtl l ≡ 0) where
   abbrev x : Lists

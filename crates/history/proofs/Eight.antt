@@ -8,24 +8,24 @@ use Rattle.bitmap.specs.Pages.{word, writtenFrom}
 use Rattle.words.specs.Words.{closed, closedTo}
 use Rattle.layout.specs.Layout.{entriesOf, ordered, aligned, refusalOf, ramByte}
 use Rattle.mapping.specs.Maps.{maps}
-use Rattle.pages.specs.Pages.{numberOf, numberAt, numbersFrom, among, repeats}
-use Rattle.pages.specs.Runs.{neighbours, runAt}
-use Rattle.request.specs.Request.{pick, tableOf, stopAt, put}
-use Rattle.overlays.specs.Overlays.{placeFrom}
-use Rattle.locks.specs.Locks.{listsFrom, held}
-use Rattle.defaults.specs.Pieces.{span, nextOf}
-use Rattle.defaults.specs.Barred.{anyOf, anyIn}
-use Rattle.defaults.specs.Renewed.{renewedFrom}
-use Rattle.acceptor.specs.Steps.{operationOf, ask, cleared, startOf}
-use Rattle.changes.specs.Changes as changes
+use Rattle.page_list.specs.Pages.{numberOf, numberAt, numbersFrom, among, repeats}
+use Rattle.page_list.specs.Runs.{neighbours, runAt}
+use Rattle.request_pages.specs.Request.{pick, tableOf, stopAt, put}
+use Rattle.overlay_table.specs.Overlays.{placeFrom}
+use Rattle.lock_table.specs.Locks.{listsFrom, held}
+use Rattle.default_change.specs.Pieces.{span, nextOf}
+use Rattle.default_change.specs.Barred.{anyOf, anyIn}
+use Rattle.default_change.specs.Renewed.{renewedFrom}
+use Rattle.visibility_steps.specs.Steps.{operationOf, ask, cleared, startOf}
+use Rattle.change_steps.specs.Changes as changes
 use Rattle.protector_state.specs.State.{firstPhases, phaseOf}
 use Rattle.protector_state.specs.Reply.{askedOf, flatOf}
 use Rattle.change_state.specs.State.{stageOf}
 use Rattle.protector.specs.World.{World, world, Outcome, applied, entered}
 use Rattle.protector.specs.Calls.{carriedOut, carriedChange, firstRefusal, visibilityRefusal, visibilityTaken, visibilityOf, answerRefusal, afterDone, answerDone, buildRefusal, buildTaken, buildOf}
-use Rattle.vtl_protections.specs.Calls.{protectionRefusal, protectionTaken, protectionOf, defaultRefusal, defaultStarted, defaultTaken, defaultOf}
-use Rattle.overlay_tests.specs.Refusals.{callRefusal, within, knownRefusal, guestRefusal, dmaRefusal, pageRefusal, registerRefusal, currentOf, unregisterRefusal}
-use Rattle.overlay_pages.specs.Calls.{registerTaken, registerOf, unregisterTaken, unregisterOf}
+use Rattle.protection_entries.specs.Calls.{protectionRefusal, protectionTaken, protectionOf, defaultRefusal, defaultStarted, defaultTaken, defaultOf}
+use Rattle.overlay_refusals.specs.Refusals.{callRefusal, within, knownRefusal, guestRefusal, dmaRefusal, pageRefusal, registerRefusal, currentOf, unregisterRefusal}
+use Rattle.overlay_entries.specs.Calls.{registerTaken, registerOf, unregisterTaken, unregisterOf}
 use Rattle.visibility_claims.specs.Ends.{afterAll}
 use Rattle.visibility_claims.specs.Table.{page, dones}
 use Rattle.history.specs.Seen.{Seen, unseen, asks}

@@ -9,12 +9,12 @@ use lib.ListN.{length, length-append}
 use borrow.Author.Tests.{eqb-true, eq-eqb, ne-eqb, lt-ltb}
 use Rattle.laws.specs.Bools.{false≢true, or-false}
 use Rattle.layout.specs.declared.MemoryRangeWithNode.{MemoryRangeWithNode}
-use Rattle.overlays.specs.declared.OverlayPage.{OverlayPage}
-use Rattle.overlays.specs.Overlays.{knows, entryOf, changed, dropFirst, withPrevious, withCount, tableOf, used, placeOf, isOverlay, entryAt, addWords, countWords, removeWords}
-use Rattle.overlays.proofs.Lists.{first, changed-length, drop-length, table-length, table-used, table-overlay, table-entry, table-count, table-remove, table-add}
-use Rattle.defaults.specs.Pieces.{privateRam}
-use Rattle.defaults.specs.Renewed.{renewedEntries, renewed}
-use Rattle.defaults.proofs.Table.{table-renewed}
+use Rattle.overlay_table.specs.declared.OverlayPage.{OverlayPage}
+use Rattle.overlay_table.specs.Overlays.{knows, entryOf, changed, dropFirst, withPrevious, withCount, tableOf, used, placeOf, isOverlay, entryAt, addWords, countWords, removeWords}
+use Rattle.overlay_table.proofs.Lists.{first, changed-length, drop-length, table-length, table-used, table-overlay, table-entry, table-count, table-remove, table-add}
+use Rattle.default_change.specs.Pieces.{privateRam}
+use Rattle.default_change.specs.Renewed.{renewedEntries, renewed}
+use Rattle.default_change.proofs.Table.{table-renewed}
 use Rattle.protector.specs.World.{withoutPage}
 use Rattle.history.specs.Tables.{EntryFits, EachFits, Overlays}
 

@@ -13,10 +13,10 @@ use Rattle.layout.specs.Layout.{entriesOf, refusalOf, mapLen}
 use Rattle.permissions.specs.Flags.{fitIsolation}
 use Rattle.protector.specs.World.{World, Outcome}
 use Rattle.protector.specs.Calls.{refusedBy, visibilityOf, answerDone, answerFailed, buildFits, buildRefusal, buildTaken, buildOf}
-use Rattle.vtl_protections.specs.Calls.{protectionOf, defaultOf}
-use Rattle.overlay_pages.specs.Calls.{registerOf, unregisterOf}
-use Rattle.locked_pages.specs.Calls.{Kept, lockOf, unlockOf}
-use Rattle.vtl1_protections.specs.Calls.{Enabled, enableOf}
+use Rattle.protection_entries.specs.Calls.{protectionOf, defaultOf}
+use Rattle.overlay_entries.specs.Calls.{registerOf, unregisterOf}
+use Rattle.lock_entries.specs.Calls.{Kept, lockOf, unlockOf}
+use Rattle.setting_entries.specs.Calls.{Enabled, enableOf}
 use Rattle.queries.specs.Queries as queries
 use Rattle.queries.specs.Queries.{queryOf}
 use Rattle.visibility_claims.specs.Whole.{Given, Succeeds, Fails}

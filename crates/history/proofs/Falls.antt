@@ -6,9 +6,10 @@ use mathlib.Core.List.{List}
 use mathlib.Core.Bool.{Bool, true, false, cond}
 use lib.Dec.{eqb}
 use borrow.Author.Tests.{eqb-true}
+use Rattle.abi.specs.Refusals as refusal
 use Rattle.layout.specs.declared.MemoryRangeWithNode.{MemoryRangeWithNode}
-use Rattle.acceptor.specs.declared.Phase.{Phase}
-use Rattle.acceptor.specs.declared.Phase.the-variants as phase
+use Rattle.visibility_steps.specs.declared.Phase.{Phase}
+use Rattle.visibility_steps.specs.declared.Phase.the-variants as phase
 use Rattle.protector_state.specs.declared.Reply.{Reply}
 use Rattle.protector_state.specs.State.{phaseIn}
 use Rattle.change_state.specs.State.{stageIn, isChanging}
@@ -18,7 +19,7 @@ use Rattle.visibility_claims.specs.Calls.{answerOf, takenBy}
 use Rattle.visibility_claims.specs.Ends.{leftIn, underWay}
 use Rattle.visibility_claims.proofs.Ends as claims
 use Rattle.visibility_claims.proofs.Refusals.{answer-takes}
-use Rattle.history.specs.Seen.{underWayNumber, Seen, isWaiting, isTaken}
+use Rattle.history.specs.Seen.{Seen, isWaiting, isTaken}
 use Rattle.history.specs.Call.{Write, Read, Answer, Result, Effect}
 use Rattle.history.specs.Made.{Made}
 use Rattle.history.specs.History.{History, none, call, stray, refusedBuild, Stray}
@@ -36,7 +37,7 @@ use Rattle.history.proofs.Histories.{stands-kept, history-keeps}
 pub taken-waits : (w : World) (g : Given) → takenBy g w ≡ true → underWay w ≡ true
 taken-waits w g t = by g t
   where
-    go : (b f : Bool) → cond b (takesAt (stageIn (w .state)) f) (takes (phaseIn (w .state)) f) ≡ true → eqb (cond b underWayNumber (statusOf (phaseIn (w .state)))) underWayNumber ≡ true
+    go : (b f : Bool) → cond b (takesAt (stageIn (w .state)) f) (takes (phaseIn (w .state)) f) ≡ true → eqb (cond b refusal.busy (statusOf (phaseIn (w .state)))) refusal.busy ≡ true
     go true f e = refl
     go false f e = phase-waits (phaseIn (w .state)) f e
 

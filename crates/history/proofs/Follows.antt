@@ -1,6 +1,6 @@
 -- Whatever is called between its answers, a call of a list that asks for something is the whole call as 01 writes it, under the answers that were taken: from any
 -- world that meets the invariant. Assumes nothing.
-use Prim.Native.Nat.{ℕ, _^_, _≤_}
+use Prim.Native.Nat.{ℕ}
 use mathlib.Core.Path.{_≡_, refl, sym, ap, ap₂, _∙_, subst}
 use mathlib.Core.List.{List, [], _∷_, _++_, append-nil, append-assoc}
 use mathlib.Core.Bool.{Bool, true, false, cond}
@@ -8,21 +8,21 @@ use lib.Dec.{eqb}
 use lib.ListN.{length, set}
 use borrow.Author.Tests.{eqb-true}
 use Rattle.layout.specs.declared.MemoryRangeWithNode.{MemoryRangeWithNode}
+use Rattle.layout.specs.Layout.{ordered}
 use Rattle.permissions.specs.Flags.{vtlOf, boolOf}
 use Rattle.permissions.specs.HvError.{codeOf}
-use Rattle.pages.specs.Pages.{pagesOf}
+use Rattle.page_list.specs.Pages.{pagesOf}
 use Rattle.protector_state.specs.declared.Reply.{Reply}
 use Rattle.protector_state.specs.State.{entriesIn}
 use Rattle.protector_state.specs.Reply.{finished}
 use Rattle.protector.specs.World.{World, Outcome, fits}
 use Rattle.protector.specs.Calls.{decided, refusedBy, visibilityTaken, visibilityOf}
-use Rattle.vtl_protections.specs.Calls.{protectionTaken, protectionOf, defaultRefusal, storedDefault, stored, barred, renewedIn, defaultStarted, defaultTaken, defaultOf}
-use Rattle.overlay_pages.specs.Calls.{registerTaken, registerOf, unregisterTaken, unregisterOf}
-use Rattle.locked_pages.specs.Calls.{ended, lockRefusal, lockTaken, lockOf, unlockTaken, unlockOf}
-use Rattle.vtl1_protections.specs.Calls.{enableRefusal, enabled, enableOf}
+use Rattle.protection_entries.specs.Calls.{protectionTaken, protectionOf, defaultRefusal, storedDefault, stored, barred, renewedIn, defaultStarted, defaultTaken, defaultOf}
+use Rattle.overlay_entries.specs.Calls.{registerTaken, registerOf, unregisterTaken, unregisterOf}
+use Rattle.lock_entries.specs.Calls.{ended, lockRefusal, lockTaken, lockOf, unlockTaken, unlockOf}
+use Rattle.setting_entries.specs.Calls.{enableRefusal, enabled, enableOf}
 use Rattle.visibility_claims.specs.Whole.{Given}
 use Rattle.visibility_claims.specs.Calls.{answerOf, takenBy, asksIn, Told, follow}
-use Rattle.visibility_claims.specs.Ends.{pageEnd}
 use Rattle.visibility_claims.proofs.Ends as claims
 use Rattle.visibility_claims.proofs.Calls.{taken-input, visibility-is-whole}
 use Rattle.change_claims.proofs.Calls.{protection-is-whole, register-is-whole, unregister-is-whole}
@@ -188,7 +188,7 @@ enable-silent s = go (eqb (enableRefusal s) 0)
 abbrev outcomeOf : Writer → World → Outcome
 outcomeOf d u = given (givesWriter d u .world) (givesWriter d u .answer)
 
-follows-whole : (d : Writer) (u : World) → pageEnd (entriesIn (u .state)) ≤ 2 ^ 52 → asks (givesWriter d u .answer) ≡ true → (gs : List Given) → WholeOf d u gs (follow (outcomeOf d u) gs)
+follows-whole : (d : Writer) (u : World) → ordered 0 (entriesIn (u .state)) ≡ true → asks (givesWriter d u .answer) ≡ true → (gs : List Given) → WholeOf d u gs (follow (outcomeOf d u) gs)
 unfolding visibilityOf protectionOf registerOf unregisterOf
 follows-whole (Visibility vtl share list) u e a gs = visibility-is-whole u vtl share list gs (taken-input u vtl share list (decided-taken u _ (visibilityTaken u (vtlOf vtl) (boolOf share) list) a))
 follows-whole (Protection vtl flags list) u e a gs = protection-is-whole u vtl flags list (decided-taken u _ (protectionTaken u (vtlOf vtl) flags list) a) gs
@@ -223,13 +223,13 @@ module _ {u v : World} {d : Writer} {r : Reply} (m : Made (Write d) u v r) (a : 
   made = ap (λ (X : Effect Reply). given (X .world) (X .answer)) (is m)
 
   -- from any world that meets the invariant, whatever other calls come meanwhile
-  pub whole-from : (es : List MemoryRangeWithNode) → Stands es u o → pageEnd es ≤ 2 ^ 52
+  pub whole-from : (es : List MemoryRangeWithNode) → Stands es u o → ordered 0 es ≡ true
       → {x : World} {p : Seen} (h : History v (seesWriter d r (v .pages) o) x p) → Meanwhile (courseOf h) → IsWhole d u (courseOf h)
   whole-from es k e h b =
       subst (λ (t : Told). WholeOf d u (givenIn (courseOf h)) t)
       (sym (told-follows (outcomeOf d u) (courseOf h) (steps-go es (at-stop es k (call none (Write d) r m)) h) b
       (ap (λ (r : Reply). given v r) (asks-seen d u r (ap (λ (X : Outcome). X .reply) made) a (v .pages) o) ∙ made)))
-      (follows-whole d u (subst (λ (es : List MemoryRangeWithNode). pageEnd es ≤ 2 ^ 52) (sym (k .layout)) e) (sym (ap (λ (X : Outcome). asks (X .reply)) made) ∙ a) (givenIn (courseOf h)))
+      (follows-whole d u (subst (λ (es : List MemoryRangeWithNode). ordered 0 es ≡ true) (sym (k .layout)) e) (sym (ap (λ (X : Outcome). asks (X .reply)) made) ∙ a) (givenIn (courseOf h)))
 
 -- ---- each of a list, from any world that meets the invariant, nothing being under way
 
@@ -253,7 +253,7 @@ silent-seen d r e t o = by d
     by (Unlock vtl list) = refl
     by Enable = refl
 
-module _ (es : List MemoryRangeWithNode) {w : World} {a : Seen} (k : Stands es w a) (end : pageEnd es ≤ 2 ^ 52) (free : isWaiting a ≡ false) where
+module _ (es : List MemoryRangeWithNode) {w : World} {a : Seen} (k : Stands es w a) (order : ordered 0 es ≡ true) (free : isWaiting a ≡ false) where
   -- the request's call asked for something, and no other began since
   abbrev Open : {x : World} {p : Seen} → Begun w a x p → Type 0
   Open {x} {p} nothing = isWaiting p ≡ false
@@ -330,7 +330,7 @@ module _ (es : List MemoryRangeWithNode) {w : World} {a : Seen} (k : Stands es w
 
   open-asked : {x : World} {p : Seen} (b : Begun w a x p) → Open b → AskedAt b
   open-asked nothing f = f
-  open-asked (since {u} {v} {o} g d r m h) f = whole-from m (f .0) o es (at-stop es k g) end h (f .1)
+  open-asked (since {u} {v} {o} g d r m h) f = whole-from m (f .0) o es (at-stop es k g) order h (f .1)
 
   pub asked-from : {x : World} {p : Seen} (h : History w a x p) → Asked h
   unfolding Asked

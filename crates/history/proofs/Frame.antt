@@ -12,7 +12,7 @@ use Rattle.permissions.specs.HvError.{codeOf}
 use Rattle.protector_state.specs.Reply.{finished}
 use Rattle.protector_state.specs.State.{stateLen, settingsOf}
 use Rattle.protector.specs.World.{World, world}
-use Rattle.vtl1_protections.specs.Calls.{stateRefusal, enableRefusal, enabled, enableOf}
+use Rattle.setting_entries.specs.Calls.{stateRefusal, enableRefusal, enabled, enableOf}
 use Rattle.history.specs.Seen.{Seen}
 use Rattle.history.specs.Call.{Visibility, Protection, Default, Register, Unregister, Lock, Unlock, Enable, Call, Write, Read, Answer, gives, sees}
 use Rattle.history.proofs.Bits.{clash}

@@ -6,14 +6,15 @@ use mathlib.Core.Bool.{Bool, true, false, cond, _||_}
 use mathlib.Core.List.{List, []}
 use Prim.Native.Nat.{ℕ}
 use lib.Dec.{eqb}
+use Rattle.abi.specs.Refusals as refusal
 use Rattle.layout.specs.declared.MemoryRangeWithNode.{MemoryRangeWithNode}
 use Rattle.permissions.specs.declared.IsolationType.{IsolationType}
-use Rattle.acceptor.specs.Steps.{isSnp}
-use Rattle.pages.specs.Pages.{pagesOf}
+use Rattle.visibility_steps.specs.Steps.{isSnp}
+use Rattle.page_list.specs.Pages.{pagesOf}
 use Rattle.protector_state.specs.declared.Reply.{Reply}
 use Rattle.protector.specs.World.{World, statusIn}
 use Rattle.visibility_claims.specs.Whole.{Given}
-use Rattle.history.specs.Seen.{haltedNumber, Seen, asks, isWaiting, isTaken, seesTaken, seesCall, seesAnswer}
+use Rattle.history.specs.Seen.{Seen, asks, isWaiting, isTaken, seesTaken, seesCall, seesAnswer}
 use Rattle.history.specs.Call.{Writer, Visibility, Protection, Default, Register, Unregister, Lock, Unlock, Enable, Call, Write, Read, Answer, Result, Effect, givesWriter, gives, seesWriter, sees}
 use Rattle.history.specs.History.{History, none, call, stray, refusedBuild}
 use Rattle.history.proofs.Bits.{clash}
@@ -32,7 +33,7 @@ use Rattle.history.proofs.Frame.{Framed, After, frame}
 -- ---- what every call keeps, every list of calls keeps
 
 pub record Keeps (K : World → Seen → Type 0) : Type 0 where
-  pub halts : (w : World) (o : Seen) → K w o → o .halted ≡ eqb (statusIn (w .state)) haltedNumber
+  pub halts : (w : World) (o : Seen) → K w o → o .halted ≡ eqb (statusIn (w .state)) refusal.halted
   pub step : (c : Call) (w : World) (o : Seen) → K w o → After K c w o
 
 module _ (K : World → Seen → Type 0) (f : Keeps K) where

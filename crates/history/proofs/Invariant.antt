@@ -9,14 +9,14 @@ use Rattle.layout.specs.declared.MemoryRangeWithNode.{MemoryRangeWithNode}
 use Rattle.permissions.specs.declared.GuestVtl.{GuestVtl}
 use Rattle.permissions.specs.declared.GuestVtl.the-variants.{Vtl0, Vtl1}
 use Rattle.permissions.specs.Flags.{isolationOf}
-use Rattle.acceptor.specs.declared.Phase.{Phase}
-use Rattle.acceptor.specs.declared.Request.{Request}
-use Rattle.changes.specs.declared.Stage.{Stage}
-use Rattle.changes.specs.declared.Change.{Change}
+use Rattle.visibility_steps.specs.declared.Phase.{Phase}
+use Rattle.visibility_steps.specs.declared.Request.{Request}
+use Rattle.change_steps.specs.declared.Stage.{Stage}
+use Rattle.change_steps.specs.declared.Change.{Change}
 use Rattle.protector_state.specs.State.{ramOf, withRequest}
 use Rattle.change_state.specs.State.{withChange}
 use Rattle.protector.specs.World.{World}
-use Rattle.vtl_protections.specs.Calls.{storedDefault}
+use Rattle.protection_entries.specs.Calls.{storedDefault}
 use Rattle.history.specs.Seen.{Seen}
 use Rattle.history.specs.History.{History}
 use Rattle.history.specs.Tables.{TablesFit}

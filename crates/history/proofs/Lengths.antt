@@ -12,20 +12,20 @@ use Rattle.words.proofs.Padded.{length-closed}
 use Rattle.bitmap.proofs.Map.{length-written}
 use Rattle.layout.specs.declared.MemoryRangeWithNode.{MemoryRangeWithNode}
 use Rattle.permissions.specs.Flags.{vtlNumber, boolOf}
-use Rattle.overlays.specs.declared.OverlayPage.{OverlayPage}
-use Rattle.overlays.specs.Overlays.{isOverlay, used, placeOf, wordsOf, entry, addWords}
-use Rattle.locks.specs.Locks as locks
-use Rattle.defaults.specs.Pieces.{privateRam}
-use Rattle.defaults.specs.Renewed.{renewedAt, renewedFrom}
-use Rattle.request.specs.Request.{put}
-use Rattle.acceptor.specs.declared.Phase.{Phase}
-use Rattle.acceptor.specs.declared.Request.{Request}
-use Rattle.acceptor.specs.declared.Step.{Step}
-use Rattle.changes.specs.declared.Stage.{Stage}
-use Rattle.changes.specs.declared.Entry.{Entry}
-use Rattle.changes.specs.declared.Entry.the-variants.{Keep, Add, Remove}
-use Rattle.changes.specs.declared.Change.{Change}
-use Rattle.changes.specs.declared.ChangeStep.{ChangeStep}
+use Rattle.overlay_table.specs.declared.OverlayPage.{OverlayPage}
+use Rattle.overlay_table.specs.Overlays.{isOverlay, used, placeOf, wordsOf, entry, addWords}
+use Rattle.lock_table.specs.Locks as locks
+use Rattle.default_change.specs.Pieces.{privateRam}
+use Rattle.default_change.specs.Renewed.{renewedAt, renewedFrom}
+use Rattle.request_pages.specs.Request.{put}
+use Rattle.visibility_steps.specs.declared.Phase.{Phase}
+use Rattle.visibility_steps.specs.declared.Request.{Request}
+use Rattle.visibility_steps.specs.declared.Step.{Step}
+use Rattle.change_steps.specs.declared.Stage.{Stage}
+use Rattle.change_steps.specs.declared.Entry.{Entry}
+use Rattle.change_steps.specs.declared.Entry.the-variants.{Keep, Add, Remove}
+use Rattle.change_steps.specs.declared.Change.{Change}
+use Rattle.change_steps.specs.declared.ChangeStep.{ChangeStep}
 use Rattle.protector_state.specs.State.{stateLen, requestWords, withRequest, settingsOf, entriesIn}
 use Rattle.change_state.specs.State.{changeWords, withChange}
 use Rattle.protector.specs.World.{World, world, overlaysOf, applied, withoutPage, entered}

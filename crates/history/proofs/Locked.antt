@@ -11,15 +11,15 @@ use Rattle.layout.specs.declared.MemoryRangeWithNode.{MemoryRangeWithNode}
 use Rattle.permissions.specs.declared.GuestVtl.{GuestVtl}
 use Rattle.permissions.specs.declared.GuestVtl.the-variants.{Vtl0, Vtl1}
 use Rattle.permissions.specs.Flags.{vtlOf}
-use Rattle.pages.specs.Pages.{pagesOf, isLong}
-use Rattle.request.proofs.Table.{pages-few}
-use Rattle.locks.specs.Locks as locks
-use Rattle.locks.specs.Locks.{Fit, roomFor, same, lastOf, allButLast, lastFirst, unlocked}
+use Rattle.page_list.specs.Pages.{pagesOf, isLong}
+use Rattle.request_pages.proofs.Table.{pages-few}
+use Rattle.lock_table.specs.Locks as locks
+use Rattle.lock_table.specs.Locks.{Fit, roomFor, same, lastOf, allButLast, lastFirst, unlocked}
 use Rattle.protector_state.specs.State.{stateLen}
 use Rattle.protector.specs.World.{tablesLen, overlaysOf, locksOf, statusIn}
-use Rattle.locked_pages.specs.Calls.{Kept, ended, lockRefusal, lockOf, unlockOf}
-use Rattle.locked_pages.specs.Lists.{Lists, lists, listsAt, withLists, Holds, Makes}
-use Rattle.locked_pages.proofs.Lists.{lock-room, lock-full, unlock-found, unlock-none, lock-refused, unlock-refused}
+use Rattle.lock_entries.specs.Calls.{Kept, ended, lockRefusal, lockOf, unlockOf}
+use Rattle.lock_entries.specs.Lists.{Lists, lists, listsAt, withLists, Holds, Makes}
+use Rattle.lock_entries.proofs.Lists.{lock-room, lock-full, unlock-found, unlock-none, lock-refused, unlock-refused}
 use Rattle.history.specs.Tables.{EachShort, Overlays, Tables}
 use Rattle.history.proofs.Calls.{status, not-true}
 
@@ -71,7 +71,7 @@ module _ (es : List MemoryRangeWithNode) (s t : List ℕ) (k : Tables es t) wher
   x-short Vtl0 = k .locks Vtl0 .short
   x-short Vtl1 = k .locks Vtl1 .short
 
-  -- the tables hold these lists, in the form that the laws of `locked_pages` ask for
+  -- the tables hold these lists, in the form that the laws of `lock_entries` ask for
   pub locks-held : Holds t (lists (k .locks Vtl0 .lists) (k .locks Vtl1 .lists))
   locks-held = record { long = k .long; fit = x-fit; words = x-words }
 

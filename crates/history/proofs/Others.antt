@@ -11,18 +11,18 @@ use Rattle.layout.specs.declared.MemoryRangeWithNode.{MemoryRangeWithNode}
 use Rattle.permissions.specs.declared.GuestVtl.{GuestVtl}
 use Rattle.permissions.specs.declared.GuestVtl.the-variants.{Vtl0, Vtl1}
 use Rattle.permissions.specs.Flags.{vtlOf, vtlNumber, bitsOf}
-use Rattle.pages.specs.declared.PageRun.{PageRun}
-use Rattle.pages.specs.Pages.{pagesOf}
-use Rattle.overlays.specs.Overlays.{isOverlay}
-use Rattle.changes.specs.declared.ChangeStep.{ChangeStep}
-use Rattle.changes.specs.declared.Change.{Change}
-use Rattle.changes.specs.Changes.{protect, ask, wait, protectPages, protectRam, startNew, startOld}
+use Rattle.page_list.specs.declared.PageRun.{PageRun}
+use Rattle.page_list.specs.Pages.{pagesOf}
+use Rattle.overlay_table.specs.Overlays.{isOverlay}
+use Rattle.change_steps.specs.declared.ChangeStep.{ChangeStep}
+use Rattle.change_steps.specs.declared.Change.{Change}
+use Rattle.change_steps.specs.Changes.{protect, ask, wait, protectPages, protectRam, startNew, startOld}
 use Rattle.protector_state.specs.State.{stateLen, settingsOf}
 use Rattle.protector.specs.World.{World, world, Outcome, overlaysOf, fits, statusIn}
 use Rattle.protector.specs.Calls.{refusedBy, carriedChange}
-use Rattle.vtl_protections.specs.Calls.{defaultRefusal, storedDefault, stored, barred, renewedTables, renewedIn, defaultStep, defaultStarted, defaultTaken, defaultOf, protectionRefusal, allListed, protectionStep, protectionTaken, protectionOf}
-use Rattle.overlay_tests.specs.Refusals.{callRefusal, unregisterRefusal, registerRefusal}
-use Rattle.overlay_pages.specs.Calls.{entryIn, counting, unregisterTaken, unregisterOf, currentIn, registerTaken, registerOf}
+use Rattle.protection_entries.specs.Calls.{defaultRefusal, storedDefault, stored, barred, renewedTables, renewedIn, defaultStep, defaultStarted, defaultTaken, defaultOf, protectionRefusal, allListed, protectionStep, protectionTaken, protectionOf}
+use Rattle.overlay_refusals.specs.Refusals.{callRefusal, unregisterRefusal, registerRefusal}
+use Rattle.overlay_entries.specs.Calls.{entryIn, counting, unregisterTaken, unregisterOf, currentIn, registerTaken, registerOf}
 use Rattle.history.specs.Seen.{Seen, seesCall}
 use Rattle.history.proofs.World.{Stands, stops}
 use Rattle.history.proofs.Answers.{new-told, old-told, start-pages-told, start-ram-told}

@@ -8,6 +8,7 @@ use lib.Dec.{eqb, ltb}
 use lib.ListN.{length, getD, take, set}
 use lib.Seq.{getD-take, getD-set-other}
 use borrow.Author.Tests.{eqb-true, ltb-true, ltb-false}
+use Rattle.abi.specs.Refusals as refusal
 use Rattle.laws.specs.Bools.{and-left}
 use Rattle.laws.specs.Refusal.{passed}
 use Rattle.laws.specs.Ranges.{between, between-from, between-to}
@@ -18,34 +19,34 @@ use Rattle.permissions.specs.declared.GuestVtl.{GuestVtl}
 use Rattle.permissions.specs.declared.GuestVtl.the-variants.{Vtl0, Vtl1}
 use Rattle.permissions.specs.declared.HvMapGpaFlags.{HvMapGpaFlags}
 use Rattle.permissions.specs.Flags.{fitVtl, vtlOf, fitFlags, flagsOf, bitsOf, boolOf}
-use Rattle.pages.specs.declared.PageRun.{PageRun}
-use Rattle.pages.specs.Pages.{pagesOf, among, isLong, isRagged}
-use Rattle.pages.specs.Runs.{part}
-use Rattle.request.specs.Request.{pick, put}
-use Rattle.request.proofs.Table.{in-use, length-table, pages-few}
-use Rattle.overlays.specs.declared.OverlayPage.{OverlayPage}
-use Rattle.overlays.specs.Overlays.{isOverlay}
-use Rattle.defaults.specs.Pieces.{wanted, free, nextPiece}
-use Rattle.acceptor.specs.declared.Phase.{Phase}
-use Rattle.acceptor.specs.declared.Phase.the-variants as at
-use Rattle.acceptor.specs.declared.Step.{Step}
-use Rattle.changes.specs.declared.Stage.{Stage}
-use Rattle.changes.specs.declared.Stage.the-variants as stage
-use Rattle.changes.specs.declared.Change.{Change}
-use Rattle.changes.specs.declared.ChangeStep.{ChangeStep}
-use Rattle.changes.specs.Changes.{changeOf, startNew}
+use Rattle.page_list.specs.declared.PageRun.{PageRun}
+use Rattle.page_list.specs.Pages.{pagesOf, among, isLong, isRagged}
+use Rattle.page_list.specs.Runs.{part}
+use Rattle.request_pages.specs.Request.{pick, put}
+use Rattle.request_pages.proofs.Table.{in-use, length-table, pages-few}
+use Rattle.overlay_table.specs.declared.OverlayPage.{OverlayPage}
+use Rattle.overlay_table.specs.Overlays.{isOverlay}
+use Rattle.default_change.specs.Pieces.{wanted, free, nextPiece}
+use Rattle.visibility_steps.specs.declared.Phase.{Phase}
+use Rattle.visibility_steps.specs.declared.Phase.the-variants as at
+use Rattle.visibility_steps.specs.declared.Step.{Step}
+use Rattle.change_steps.specs.declared.Stage.{Stage}
+use Rattle.change_steps.specs.declared.Stage.the-variants as stage
+use Rattle.change_steps.specs.declared.Change.{Change}
+use Rattle.change_steps.specs.declared.ChangeStep.{ChangeStep}
+use Rattle.change_steps.specs.Changes.{changeOf, startNew}
 use Rattle.protector_state.specs.State.{stateLen, firstPhases, phaseOf, phaseIn, requestOf, settingsOf, entriesIn}
 use Rattle.change_state.specs.State.{stageOf, stageIn, isChanging, changeIn, withChange}
 use Rattle.protector.specs.World.{World, world, overlaysOf, locksOf, fits, statusOf, statusIn, takes, takesAt, takesIn, applied}
 use Rattle.protector.specs.Calls.{refusedBy, carriedOut, carriedChange, visibilityRefusal, stopOf, askedFor, tableFor, visibilityTaken, visibilityOf, answerRefusal, pieceAfter, nextIn, afterDone, afterFailed, visibilityDone, visibilityFailed, changeDone, changeFailed, answerDone, answerFailed}
-use Rattle.vtl_protections.specs.Calls.{eachRefusal, protectionRefusal, allListed, protectionTaken, protectionOf, defaultRefusal, stored, barred, renewedIn, firstPiece, defaultStarted, defaultTaken, defaultOf}
-use Rattle.overlay_tests.specs.Refusals.{unregisterRefusal, registerRefusal}
-use Rattle.overlay_tests.specs.Refusals as tests
-use Rattle.overlay_tests.proofs.Laws.{call-passed, flags-passed}
-use Rattle.overlay_pages.specs.Calls.{entryIn, counting, unregisterTaken, unregisterOf, currentIn, registerTaken, registerOf}
+use Rattle.protection_entries.specs.Calls.{eachRefusal, protectionRefusal, allListed, protectionTaken, protectionOf, defaultRefusal, stored, barred, renewedIn, firstPiece, defaultStarted, defaultTaken, defaultOf}
+use Rattle.overlay_refusals.specs.Refusals.{unregisterRefusal, registerRefusal}
+use Rattle.overlay_refusals.specs.Refusals as tests
+use Rattle.overlay_refusals.proofs.Laws.{call-passed, flags-passed}
+use Rattle.overlay_entries.specs.Calls.{entryIn, counting, unregisterTaken, unregisterOf, currentIn, registerTaken, registerOf}
 use Rattle.visibility_claims.specs.Whole.{Given, Succeeds, Fails}
 use Rattle.visibility_claims.specs.Calls.{answerOf}
-use Rattle.history.specs.Seen.{underWayNumber, haltedNumber, Seen}
+use Rattle.history.specs.Seen.{Seen}
 use Rattle.history.specs.Marks.{Has}
 use Rattle.history.specs.Call.{Writer, Visibility, Protection, Default, Register, Unregister, Lock, Unlock, Enable, Call, Write, Read, Answer, givesWriter, gives}
 use Rattle.history.specs.Tables.{TablesFit}
@@ -80,7 +81,7 @@ listing-change stage.TlbWait q s e = e
 pub not-listing : (s : List ℕ) → statusIn s ≡ 0 → isListing s ≡ true → ⊥
 not-listing s z e = go (isChanging s) (isPages (stageIn s)) (statusOf (phaseIn s)) z e
   where
-    go : (c a : Bool) (n : ℕ) → cond c underWayNumber n ≡ 0 → cond c a (eqb n underWayNumber) ≡ true → ⊥
+    go : (c a : Bool) (n : ℕ) → cond c refusal.busy n ≡ 0 → cond c a (eqb n refusal.busy) ≡ true → ⊥
     go true a n z e = omega (arith, z)
     go false a n z e = omega (arith, z, eqb-true n 19 e)
 
@@ -215,7 +216,7 @@ module _ (es : List MemoryRangeWithNode) where
       unfolding answerRefusal
       takes-it =
           let a = passed (eqb (length (w .state)) stateLen) 3 _ z in
-          let b = passed (not (eqb (statusIn (w .state)) haltedNumber)) 19 _ (a .1) in
+          let b = passed (not (eqb (statusIn (w .state)) refusal.halted)) 19 _ (a .1) in
           let c = passed (fits w) 3 _ (b .1) in
           passed (takesIn (w .state) failed) 20 _ (c .1) .0
 
@@ -226,10 +227,10 @@ module _ (es : List MemoryRangeWithNode) where
       long = omega (arith, pages-long w (answer-whole w failed z .fit))
 
       visible : isChanging (w .state) ≡ false → OnRam es (requestOf (w .state) .n) (w .pages)
-      visible e = p .listed (ap (λ (b : Bool). cond b (isPages (stageIn (w .state))) (eqb (statusOf (phaseIn (w .state))) underWayNumber)) e ∙ phase-waits (phaseIn (w .state)) failed (takes-change false e))
+      visible e = p .listed (ap (λ (b : Bool). cond b (isPages (stageIn (w .state))) (eqb (statusOf (phaseIn (w .state))) refusal.busy)) e ∙ phase-waits (phaseIn (w .state)) failed (takes-change false e))
 
       paged : isChanging (w .state) ≡ true → isPages (stageIn (w .state)) ≡ true → OnRam es (requestOf (w .state) .n) (w .pages)
-      paged e d = p .listed (ap (λ (b : Bool). cond b (isPages (stageIn (w .state))) (eqb (statusOf (phaseIn (w .state))) underWayNumber)) e ∙ d)
+      paged e d = p .listed (ap (λ (b : Bool). cond b (isPages (stageIn (w .state))) (eqb (statusOf (phaseIn (w .state))) refusal.busy)) e ∙ d)
 
     answer-permits : (g : Given) → Permitted es (answerOf g w .world)
     unfolding answerDone answerFailed afterDone afterFailed

@@ -7,24 +7,25 @@ use mathlib.Core.Bool.{Bool, true, false, cond}
 use lib.ListN.{length}
 use lib.Dec.{eqb}
 use borrow.Author.Tests.{ne-eqb}
+use Rattle.abi.specs.Refusals as refusal
 use Rattle.laws.specs.Refusal.{unless, passed}
 use Rattle.layout.specs.Layout.{entriesOf, mapLen}
 use Rattle.permissions.specs.Flags.{vtlOf, boolOf}
-use Rattle.pages.specs.Pages.{pagesOf}
+use Rattle.page_list.specs.Pages.{pagesOf}
 use Rattle.protector_state.specs.declared.Reply.{Reply}
 use Rattle.protector_state.specs.State.{stateLen}
 use Rattle.change_state.specs.State.{isChanging}
 use Rattle.protector.specs.World.{World, world, Outcome, fits, statusIn}
 use Rattle.protector.specs.Calls.{refusedBy, decided, buildFits, buildRefusal, buildTaken, buildOf, visibilityRefusal, visibilityTaken, visibilityOf, answerRefusal, visibilityDone, visibilityFailed, changeDone, changeFailed, answerDone, answerFailed}
-use Rattle.vtl_protections.specs.Calls.{protectionRefusal, protectionTaken, protectionOf, defaultRefusal, stored, defaultTaken, defaultOf}
-use Rattle.overlay_tests.specs.Refusals.{registerRefusal, unregisterRefusal}
-use Rattle.overlay_pages.specs.Calls.{currentIn, registerTaken, registerOf, unregisterTaken, unregisterOf}
-use Rattle.locked_pages.specs.Calls.{ended, lockRefusal, lockTaken, lockOf, unlockTaken, unlockOf}
-use Rattle.vtl1_protections.specs.Calls.{stateRefusal, enableRefusal, enableOf}
+use Rattle.protection_entries.specs.Calls.{protectionRefusal, protectionTaken, protectionOf, defaultRefusal, stored, defaultTaken, defaultOf}
+use Rattle.overlay_refusals.specs.Refusals.{registerRefusal, unregisterRefusal}
+use Rattle.overlay_entries.specs.Calls.{currentIn, registerTaken, registerOf, unregisterTaken, unregisterOf}
+use Rattle.lock_entries.specs.Calls.{ended, lockRefusal, lockTaken, lockOf, unlockTaken, unlockOf}
+use Rattle.setting_entries.specs.Calls.{stateRefusal, enableRefusal, enableOf}
 use Rattle.visibility_claims.specs.Whole.{Given, Succeeds, Fails}
 use Rattle.visibility_claims.specs.Calls.{answerOf}
 use Rattle.visibility_claims.specs.Ends.{underWay}
-use Rattle.history.specs.Seen.{wrongLength, underWayNumber, haltedNumber, Seen, isTaken, seesCall}
+use Rattle.history.specs.Seen.{Seen, isTaken, seesCall}
 use Rattle.history.specs.Call.{Writer, Visibility, Protection, Default, Register, Unregister, Lock, Unlock, Enable, Call, Write, Read, Answer, Effect, replied, givesWriter, gives, seesWriter, sees}
 use Rattle.history.specs.History.{Stray, StrayWriter, Wrong, IsRefusal}
 use Rattle.history.specs.Answered.{given}
@@ -91,7 +92,7 @@ module _ (u x : World) (s : Stray u x) where
   answer-keeps Succeeds = ap (λ (X : Outcome). X .world) (refused x (answerRefusal (x .state) (fits x) false) (cond (isChanging (x .state)) (changeDone x) (visibilityDone x)) (λ z. not-whole u x s (answer-whole x false z)))
   answer-keeps (Fails code n) = ap (λ (X : Outcome). X .world) (refused x (answerRefusal (x .state) (fits x) true) (cond (isChanging (x .state)) (changeFailed x) (visibilityFailed x code n)) (λ z. not-whole u x s (answer-whole x true z)))
 
-  module _ (o : Seen) (halts : o .halted ≡ eqb (statusIn (u .state)) haltedNumber) where
+  module _ (o : Seen) (halts : o .halted ≡ eqb (statusIn (u .state)) refusal.halted) where
     pub stray-untaken : (g : Given) → isTaken o (answerOf g x .reply) ≡ false
     unfolding answerDone answerFailed
     stray-untaken Succeeds = untaken-seen u x o halts false (cond (isChanging (x .state)) (changeDone x) (visibilityDone x)) s
@@ -107,17 +108,17 @@ stray-keeps (Write a) u x s = barred-no-effect a x (stray-barred a u x s) .keeps
 stray-keeps (Read q) u x s = refl
 stray-keeps (Answer g) u x s = answer-keeps u x s g
 
-pub stray-unseen : (c : Call) (u x : World) (o : Seen) → o .halted ≡ eqb (statusIn (u .state)) haltedNumber → Wrong c u x → sees c (gives c x .answer) (gives c x .world .pages) o ≡ o
+pub stray-unseen : (c : Call) (u x : World) (o : Seen) → o .halted ≡ eqb (statusIn (u .state)) refusal.halted → Wrong c u x → sees c (gives c x .answer) (gives c x .world .pages) o ≡ o
 stray-unseen (Write a) u x o halts s = barred-no-effect a x (stray-barred a u x s) .unseen o
 stray-unseen (Read q) u x o halts s = refl
 stray-unseen (Answer g) u x o halts s = answer-unseen u x s o halts g
 
 -- ---- so does a request under way
 
-busy : (n : ℕ) → eqb n underWayNumber ≡ true → n ≡ 0 → ⊥
-busy n e z = clash (eqb n underWayNumber) e (ap (λ n. eqb n underWayNumber) z)
+busy : (n : ℕ) → eqb n refusal.busy ≡ true → n ≡ 0 → ⊥
+busy n e z = clash (eqb n refusal.busy) e (ap (λ n. eqb n refusal.busy) z)
 
-idle : (s : List ℕ) (rest : ℕ) → unless (eqb (length s) stateLen) wrongLength (unless (eqb (statusIn s) 0) (statusIn s) rest) ≡ 0 → statusIn s ≡ 0
+idle : (s : List ℕ) (rest : ℕ) → unless (eqb (length s) stateLen) refusal.wrongLength (unless (eqb (statusIn s) 0) (statusIn s) rest) ≡ 0 → statusIn s ≡ 0
 idle s rest z = status (statusIn s) _ (passed (eqb (length s) stateLen) 3 _ z .1) .0
 
 busy-barred : (a : Writer) (x : World) → underWay x ≡ true → refusalIn a x ≡ 0 → ⊥

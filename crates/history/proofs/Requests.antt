@@ -4,11 +4,11 @@ use Prim.Native.Nat.{ℕ}
 use mathlib.Core.Path.{_≡_, refl, sym, ap, _∙_, subst}
 use mathlib.Core.List.{List, [], _∷_, _++_, append-assoc}
 use mathlib.Core.Bool.{Bool, true, false, cond}
+use Rattle.layout.proofs.Laws.{fit}
 use Rattle.protector_state.specs.declared.Reply.{Reply}
 use Rattle.protector_state.specs.State.{ramOf, entriesIn}
 use Rattle.protector.specs.World.{World}
 use Rattle.visibility_claims.specs.Table.{page}
-use Rattle.change_claims.proofs.Default.{fit-end}
 use Rattle.history.specs.Seen.{Seen, unseen, asks, isWaiting}
 use Rattle.history.specs.Marks.{readOff, Settled}
 use Rattle.history.specs.Call.{Writer, Visibility, Call, Write, Read, Answer, Result, seesWriter}
@@ -24,7 +24,7 @@ use Rattle.history.proofs.Eight.{sharing8, asking8, share8, share8-asks
 module _ {u v x : World} {o p : Seen} {d : Writer} {r : Reply} (m : Made (Write d) u v r) (asked : asks r ≡ true) (h : History v (seesWriter d r (v .pages) o) x p) (n : Meanwhile (courseOf h)) where
   -- in any list of calls from a world that is settled
   pub settled-whole : {w : World} → Settled w → History w (readOff (w .maps)) u o → IsWhole d u (courseOf h)
-  settled-whole {w} k g = whole-from m asked o (entriesIn (w .state)) (settled-lent w k g .first) (fit-end (ramOf (w .state)) (k .layout)) h n
+  settled-whole {w} k g = whole-from m asked o (entriesIn (w .state)) (settled-lent w k g .first) (fit (ramOf (w .state)) (k .layout) .in-order) h n
 
   -- and from a build that was taken
   pub built-whole : {ram : List ℕ} {i t l : ℕ} {z w : World} {reply : Reply} → Built ram i t l z w reply → reply .number ≡ 0 → History w unseen u o → IsWhole d u (courseOf h)

@@ -1,25 +1,24 @@
 -- A list of calls may begin at any world at rest: THE CLAIM holds of it, what was last taken there being read off the marks. Assumes nothing.
 use native.Mathlib.Omega.{arith}
-use Prim.Native.Nat.{ℕ, _/_, _^_, _≤_, _<_}
+use Prim.Native.Nat.{ℕ, _/_, _<_}
 use mathlib.Core.Path.{_≡_, refl, sym, ap, _∙_}
 use mathlib.Core.List.{List, []}
 use mathlib.Core.Bool.{Bool, true, false, cond}
 use lib.Dec.{eqb}
+use Rattle.abi.specs.Refusals as refusal
 use Rattle.bitmap.specs.Pages.{bitAt}
 use Rattle.layout.specs.declared.MemoryRangeWithNode.{MemoryRangeWithNode}
-use Rattle.layout.specs.Layout.{isRam, mapLen}
+use Rattle.layout.specs.Layout.{ordered, isRam, mapLen}
 use Rattle.layout.proofs.Laws.{fit, page-in-map}
-use Rattle.pages.specs.Pages.{among}
+use Rattle.page_list.specs.Pages.{among}
 use Rattle.permissions.specs.Flags.{isolationOf}
-use Rattle.acceptor.specs.declared.Phase.{Phase}
-use Rattle.acceptor.specs.declared.Phase.the-variants as at
-use Rattle.acceptor.specs.Steps.{isSnp}
+use Rattle.visibility_steps.specs.declared.Phase.{Phase}
+use Rattle.visibility_steps.specs.declared.Phase.the-variants as at
+use Rattle.visibility_steps.specs.Steps.{isSnp}
 use Rattle.change_state.specs.State.{isChanging}
 use Rattle.protector_state.specs.State.{phaseIn, requestOf, settingsOf, ramOf, entriesIn}
 use Rattle.protector.specs.World.{World, statusOf}
-use Rattle.visibility_claims.specs.Ends.{pageEnd}
-use Rattle.change_claims.proofs.Default.{fit-end}
-use Rattle.history.specs.Seen.{underWayNumber, haltedNumber, Seen, isWaiting}
+use Rattle.history.specs.Seen.{Seen, isWaiting}
 use Rattle.history.specs.Marks.{Has, Exact, Marked, readOff, Settled}
 use Rattle.history.specs.Resting.{Rests}
 use Rattle.history.specs.Claim.{ClaimFrom}
@@ -67,7 +66,7 @@ stands-marked es w o k n =
     }
 
 -- of every list of calls from any world that meets the invariant, whatever was seen before
-claim-from : (es : List MemoryRangeWithNode) (l : List ℕ) (i t r : ℕ) {w v : World} {a o : Seen} → Invariant es l i t r w a → pageEnd es ≤ 2 ^ 52 → isWaiting a ≡ false
+claim-from : (es : List MemoryRangeWithNode) (l : List ℕ) (i t r : ℕ) {w v : World} {a o : Seen} → Invariant es l i t r w a → ordered 0 es ≡ true → isWaiting a ≡ false
     → (h : History w a v o) → ClaimFrom es i t r h
 claim-from es l i t r {w} {v} {a} {o} k end free h =
     let x : Invariant es l i t r v o = invariant-kept es l i t r h k in
@@ -104,8 +103,8 @@ by-idle C at.Zero e c = absurd (no-status (statusOf at.Zero) refl e)
 by-idle C at.ProtectDefault0 e c = absurd (no-status (statusOf at.ProtectDefault0) refl e)
 by-idle C at.ProtectDefault1 e c = absurd (no-status (statusOf at.ProtectDefault1) refl e)
 
-resting : (b : Bool) (p : Phase) → cond b underWayNumber (statusOf p) ≡ 0 → statusOf p ≡ 0
-resting true p e = absurd (no-status underWayNumber refl e)
+resting : (b : Bool) (p : Phase) → cond b refusal.busy (statusOf p) ≡ 0 → statusOf p ≡ 0
+resting true p e = absurd (no-status refusal.busy refl e)
 resting false p e = e
 
 module _ (w : World) (k : Settled w) where
@@ -151,8 +150,8 @@ module _ (w : World) (k : Settled w) where
         layout = refl;
         right = right-same (sharedIn (readOff (w .maps))) false (λ z. shared-as (bitAt 8 (w .maps .shared) z))
             (by-idle (λ (p : Phase). Right (isRam es) (w .maps .private) (w .maps .shared) p (requestOf (w .state)) (w .pages) false [] (λ z. bitAt 8 (w .maps .shared) z)) p rests right);
-        halts = sym (ap (λ (n : ℕ). eqb n haltedNumber) (k .idle));
-        waits = sym (ap (λ (n : ℕ). eqb n underWayNumber) (k .idle));
+        halts = sym (ap (λ (n : ℕ). eqb n refusal.halted) (k .idle));
+        waits = sym (ap (λ (n : ℕ). eqb n refusal.busy) (k .idle));
         names = by-idle (λ (p : Phase). Names p (requestOf (w .state)) (w .pages) (readOff (w .maps) .op)) p rests refl;
         table = by-idle (λ (p : Phase). opened p ≡ true → [] ≡ w .pages) p rests (λ e. clash false e refl);
       }
@@ -187,7 +186,7 @@ module _ {i t r : ℕ} (w : World) (k : Rests i t r w) where
 
   -- THE CLAIM
   pub settled-hold : {v : World} {o : Seen} (h : History w (readOff (w .maps)) v o) → ClaimFrom (entriesIn (w .state)) i t r h
-  settled-hold h = claim-from (entriesIn (w .state)) (ramOf (w .state)) i t r rests-invariant (fit-end (ramOf (w .state)) (k .settled .layout)) refl h
+  settled-hold h = claim-from (entriesIn (w .state)) (ramOf (w .state)) i t r rests-invariant (fit (ramOf (w .state)) (k .settled .layout) .in-order) refl h
 
   pub settled-invariant : {v : World} {o : Seen} → History w (readOff (w .maps)) v o → Invariant (entriesIn (w .state)) (ramOf (w .state)) i t r v o
   settled-invariant h = invariant-kept (entriesIn (w .state)) (ramOf (w .state)) i t r h rests-invariant

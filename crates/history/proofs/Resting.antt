@@ -4,6 +4,7 @@ use mathlib.Core.Bool.{Bool, true, false}
 use mathlib.Core.List.{List}
 use Prim.Native.Nat.{ℕ}
 use lib.Dec.{eqb}
+use Rattle.abi.specs.Refusals as refusal
 use Rattle.bitmap.specs.Pages.{bitAt}
 use Rattle.layout.specs.declared.MemoryRangeWithNode.{MemoryRangeWithNode}
 use Rattle.layout.specs.Layout.{refusalOf, isRam}
@@ -11,7 +12,7 @@ use Rattle.protector_state.specs.declared.Reply.{Reply}
 use Rattle.protector_state.specs.State.{phaseIn, ramOf, entriesIn}
 use Rattle.change_state.specs.State.{isChanging}
 use Rattle.protector.specs.World.{World, statusIn}
-use Rattle.history.specs.Seen.{haltedNumber, Seen, unseen}
+use Rattle.history.specs.Seen.{Seen, unseen}
 use Rattle.history.specs.Marks.{Has, readOff, Settled}
 use Rattle.history.specs.Made.{Built}
 use Rattle.history.specs.History.{History}
@@ -36,7 +37,7 @@ module _ (es : List MemoryRangeWithNode) (v : World) (o : Seen) {l : List ℕ} {
   shut = idle-shut (isChanging (v .state)) (phaseIn (v .state)) idle
 
   free : o .halted ≡ false
-  free = k .stands .halts ∙ ap (λ (n : ℕ). eqb n haltedNumber) idle
+  free = k .stands .halts ∙ ap (λ (n : ℕ). eqb n refusal.halted) idle
 
   marked : (z : ℕ) → isRam (entriesIn (v .state)) z ≡ true → bitAt 8 (v .maps .shared) z ≡ false → Has (v .maps .private) z
   marked z r e = go (sharedIn o z) refl

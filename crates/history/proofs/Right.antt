@@ -7,22 +7,23 @@ use mathlib.Core.Logic.{_⊎_, ⊎-elim}
 use native.Mathlib.Omega.{arith}
 use lib.ListN.{length, getD}
 use lib.Dec.{eqb, ltb}
+use Rattle.abi.specs.Refusals as refusal
 use Rattle.bitmap.specs.Pages.{bitAt, written}
 use Rattle.bitmap.proofs.Map.{length-written}
-use Rattle.pages.specs.Pages.{among}
-use Rattle.pages.specs.Runs.{part}
-use Rattle.request.specs.Request.{put}
+use Rattle.page_list.specs.Pages.{among}
+use Rattle.page_list.specs.Runs.{part}
+use Rattle.request_pages.specs.Request.{put}
 use Rattle.permissions.specs.declared.IsolationType.{IsolationType}
-use Rattle.acceptor.specs.declared.Phase.{Phase}
-use Rattle.acceptor.specs.declared.Phase.the-variants as at
-use Rattle.acceptor.specs.declared.Request.{Request}
-use Rattle.acceptor.specs.declared.Writes.{Writes}
-use Rattle.acceptor.specs.declared.Step.{Step}
-use Rattle.acceptor.specs.Steps.{runOf}
+use Rattle.visibility_steps.specs.declared.Phase.{Phase}
+use Rattle.visibility_steps.specs.declared.Phase.the-variants as at
+use Rattle.visibility_steps.specs.declared.Request.{Request}
+use Rattle.visibility_steps.specs.declared.Writes.{Writes}
+use Rattle.visibility_steps.specs.declared.Step.{Step}
+use Rattle.visibility_steps.specs.Steps.{runOf}
 use Rattle.protector_state.specs.declared.Reply.{Reply}
 use Rattle.protector_state.specs.Reply.{modifies, onRun, flatOf}
 use Rattle.protector.specs.World.{statusOf, putPlaces}
-use Rattle.history.specs.Seen.{wrongLength, underWayNumber, haltedNumber, nothingAsked, asks, goesOn}
+use Rattle.history.specs.Seen.{asks, goesOn}
 use Rattle.history.proofs.Bits.{Has, clash, of-part, inside, set-cases, set-has, set-keeps}
 
 -- the pages under way bear neither mark while one of these operations is outstanding
@@ -113,10 +114,10 @@ pub record Right (ram : ℕ → Bool) (P S : List ℕ) (p : Phase) (q : Request)
 
 -- what it tells: a taken answer, halted or waiting as its phase is, and the operation that its phase names
 pub record Tells (i : IsolationType) (t : List ℕ) (x : Step) : Type 0 where
-  pub not4 : eqb (flatOf i (x .answer) .number) wrongLength ≡ false
-  pub not21 : eqb (flatOf i (x .answer) .number) nothingAsked ≡ false
-  pub halts : eqb (flatOf i (x .answer) .number) haltedNumber ≡ isHalted (x .phase)
-  pub waits : asks (flatOf i (x .answer)) ≡ eqb (statusOf (x .phase)) underWayNumber
+  pub not4 : eqb (flatOf i (x .answer) .number) refusal.wrongLength ≡ false
+  pub not21 : eqb (flatOf i (x .answer) .number) refusal.nothingAsked ≡ false
+  pub halts : eqb (flatOf i (x .answer) .number) refusal.halted ≡ isHalted (x .phase)
+  pub waits : asks (flatOf i (x .answer)) ≡ eqb (statusOf (x .phase)) refusal.busy
   pub stays : opened (x .phase) ≡ true → goesOn (flatOf i (x .answer)) ≡ true
   pub names : Names (x .phase) (x .request) t (flatOf i (x .answer))
 

@@ -1,17 +1,17 @@
 -- What is seen of P2 and P3, reply by reply, computed. Assumes nothing.
 use mathlib.Core.Path.{refl, ap}
-use mathlib.Core.List.{map}
 use Rattle.permissions.specs.declared.IsolationType.the-variants.{Snp}
-use Rattle.pages.specs.Pages.{among}
+use Rattle.page_list.specs.Pages.{among}
 use Rattle.protector_state.specs.Reply.{askedOf}
+use Rattle.visibility_claims.specs.Calls.{replies}
 use Rattle.visibility_claims.proofs.Table.{visibility}
 use Rattle.history.specs.SeenTable.{done, SeenTable}
 
 pub seen-table : SeenTable
-unfolding among askedOf done
+unfolding among askedOf replies done
 seen-table =
     record {
-      sharing-asks = ap (map (askedOf Snp)) (visibility .P2-asked);
+      sharing-asks = ap (replies Snp) (visibility .P2-asked);
       sharing-waits = refl;
       sharing-last = refl;
       sharing-listed = refl;

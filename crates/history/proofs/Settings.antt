@@ -9,14 +9,14 @@ use lib.Seq.{getD-drop, getD-set-same, getD-set-other}
 use borrow.Author.Tests.{eqb-true}
 use Rattle.permissions.specs.declared.GuestVtl.{GuestVtl}
 use Rattle.permissions.specs.declared.GuestVtl.the-variants.{Vtl0, Vtl1}
-use Rattle.acceptor.specs.declared.Phase.{Phase}
-use Rattle.acceptor.specs.declared.Request.{Request}
-use Rattle.changes.specs.declared.Stage.{Stage}
-use Rattle.changes.specs.declared.Change.{Change}
+use Rattle.visibility_steps.specs.declared.Phase.{Phase}
+use Rattle.visibility_steps.specs.declared.Request.{Request}
+use Rattle.change_steps.specs.declared.Stage.{Stage}
+use Rattle.change_steps.specs.declared.Change.{Change}
 use Rattle.protector_state.specs.State.{stateLen, withRequest, settingsOf}
 use Rattle.change_state.specs.State.{withChange}
-use Rattle.vtl_protections.specs.Calls.{storedDefault}
-use Rattle.vtl1_protections.specs.Calls.{enabled}
+use Rattle.protection_entries.specs.Calls.{storedDefault}
+use Rattle.setting_entries.specs.Calls.{enabled}
 use Rattle.history.specs.Settings.{SettingsFit}
 use Rattle.history.proofs.StateWords.{Words}
 

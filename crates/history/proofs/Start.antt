@@ -14,13 +14,13 @@ use Rattle.bitmap.proofs.Map.{length-written}
 use Rattle.layout.specs.declared.MemoryRangeWithNode.{MemoryRangeWithNode}
 use Rattle.layout.specs.Layout.{isRam}
 use Rattle.permissions.specs.declared.GuestVtl.{GuestVtl}
-use Rattle.pages.specs.Pages.{among, repeats}
-use Rattle.pages.specs.Runs.{part}
-use Rattle.request.specs.Request.{pick, wanted, put}
-use Rattle.acceptor.specs.declared.Phase.{Phase}
-use Rattle.acceptor.specs.declared.Phase.the-variants as at
-use Rattle.acceptor.specs.declared.Request.{Request}
-use Rattle.acceptor.specs.Steps.{asked, cleared}
+use Rattle.page_list.specs.Pages.{among, repeats}
+use Rattle.page_list.specs.Runs.{part}
+use Rattle.request_pages.specs.Request.{pick, wanted, put}
+use Rattle.visibility_steps.specs.declared.Phase.{Phase}
+use Rattle.visibility_steps.specs.declared.Phase.the-variants as at
+use Rattle.visibility_steps.specs.declared.Request.{Request}
+use Rattle.visibility_steps.specs.Steps.{asked, cleared}
 use Rattle.protector.specs.World.{putPlaces}
 use Rattle.protector.specs.Calls.{pageRefusal, firstRefusal}
 use Rattle.history.proofs.Bits.{Has, clash, among-own, in-part, clear-kept, clear-gone, clear-same, not-among, none-among, was-private, was-shared}

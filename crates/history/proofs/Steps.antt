@@ -9,31 +9,32 @@ use native.Mathlib.Decide.{decLt}
 use lib.ListN.{length, getD}
 use lib.Dec.{eqb, ltb, leb}
 use borrow.Author.Tests.{leb-false}
+use Rattle.abi.specs.Refusals as refusal
 use Rattle.laws.specs.Bools.{false≢true}
 use Rattle.permissions.specs.declared.OptionFlags.{OptionFlags}
 use Rattle.permissions.specs.declared.OptionFlags.the-variants.{Some, None}
-use Rattle.pages.specs.Pages.{among}
-use Rattle.pages.specs.Runs.{part}
-use Rattle.request.specs.Request.{runEnd}
-use Rattle.acceptor.specs.declared.Phase.{Phase}
-use Rattle.acceptor.specs.declared.Phase.the-variants as at
-use Rattle.acceptor.specs.declared.Answer.the-variants.{Done, AccessDenied, Failed}
-use Rattle.acceptor.specs.declared.Settings.{Settings}
-use Rattle.acceptor.specs.declared.Request.{Request}
-use Rattle.acceptor.specs.declared.Writes.{Writes}
-use Rattle.acceptor.specs.declared.Step.{Step}
-use Rattle.acceptor.specs.Steps.{isSnp, isCca, releases, noWrites, setShared, setPrivate, setPermissions, operationOf, ask, step, noRequest, end, halt, shareRun, defaultRun, returnRun, afterFlush, afterWait, afterModify, afterAccept, afterDefault0, cutAt, failedModify, doneOf, failedOf}
+use Rattle.page_list.specs.Pages.{among}
+use Rattle.page_list.specs.Runs.{part}
+use Rattle.request_pages.specs.Request.{runEnd}
+use Rattle.visibility_steps.specs.declared.Phase.{Phase}
+use Rattle.visibility_steps.specs.declared.Phase.the-variants as at
+use Rattle.visibility_steps.specs.declared.Answer.the-variants.{Done, AccessDenied, Failed}
+use Rattle.visibility_steps.specs.declared.Settings.{Settings}
+use Rattle.visibility_steps.specs.declared.Request.{Request}
+use Rattle.visibility_steps.specs.declared.Writes.{Writes}
+use Rattle.visibility_steps.specs.declared.Step.{Step}
+use Rattle.visibility_steps.specs.Steps.{isSnp, isCca, releases, noWrites, setShared, setPrivate, setPermissions, operationOf, ask, step, noRequest, end, halt, shareRun, defaultRun, returnRun, afterFlush, afterWait, afterModify, afterAccept, afterDefault0, cutAt, failedModify, doneOf, failedOf}
 use Rattle.protector_state.specs.Reply.{askedOf, flatOf}
 use Rattle.protector.specs.World.{statusOf, takes}
 use Rattle.visibility_claims.specs.Whole.{Given, Succeeds, Fails}
-use Rattle.history.specs.Seen.{underWayNumber, processed}
+use Rattle.history.specs.Seen.{processed}
 use Rattle.history.proofs.Bits.{clash, of-part, in-part, less-among}
 use Rattle.history.proofs.Right.{opened, dir, Tells, Wrote, Fits, Moves}
 
 -- ---- what a step tells
 
 module _ (s : Settings) (t : List ℕ) where
-  ask-tells : (p : Phase) (q : Request) (a : ℕ) (w : Writes) → eqb (statusOf p) underWayNumber ≡ true → Tells (s .isolation) t (ask s p q t a w)
+  ask-tells : (p : Phase) (q : Request) (a : ℕ) (w : Writes) → eqb (statusOf p) refusal.busy ≡ true → Tells (s .isolation) t (ask s p q t a w)
   unfolding ask operationOf flatOf askedOf
   ask-tells at.Idle q a w e = false≢true e
   ask-tells at.Halted q a w e = false≢true e
@@ -71,16 +72,16 @@ module _ (s : Settings) (q : Request) (t : List ℕ) where
   abbrev F : Bool → ℕ → Step → Type 0
   F o n x = Fits (s .isolation) t o n x
 
-  ask-closed : (o : Bool) (n m : ℕ) (p : Phase) (i : ℕ) (w : Writes) → eqb (statusOf p) underWayNumber ≡ true → opened p ≡ false → Wrote n m w → (o ≡ false → (w .private .to ≡ 0) × (w .shared .to ≤ w .shared .from)) → F o n (ask s p q t i w)
+  ask-closed : (o : Bool) (n m : ℕ) (p : Phase) (i : ℕ) (w : Writes) → eqb (statusOf p) refusal.busy ≡ true → opened p ≡ false → Wrote n m w → (o ≡ false → (w .private .to ≡ 0) × (w .shared .to ≤ w .shared .from)) → F o n (ask s p q t i w)
   unfolding ask
   ask-closed o n m p i w h c r was = record { m = m; wrote = r; was = was; opens = λ e. clash (opened p) e c; tells = ask-tells s t p q i w h }
 
-  ask-open : (n m : ℕ) (p : Phase) (i : ℕ) (w : Writes) → eqb (statusOf p) underWayNumber ≡ true → Wrote n m w → w .private .to ≡ 0 → q .n ≤ m → q .n ≤ n → F true n (ask s p q t i w)
+  ask-open : (n m : ℕ) (p : Phase) (i : ℕ) (w : Writes) → eqb (statusOf p) refusal.busy ≡ true → Wrote n m w → w .private .to ≡ 0 → q .n ≤ m → q .n ≤ n → F true n (ask s p q t i w)
   unfolding ask
   ask-open n m p i w h r z a b = record { m = m; wrote = r; was = λ e. clash true refl e; opens = λ _. (z, a, b, refl); tells = ask-tells s t p q i w h }
 
   -- nothing is written, and the pages are those that they were
-  ask-quiet : (p : Phase) (i : ℕ) → eqb (statusOf p) underWayNumber ≡ true → F true (q .n) (ask s p q t i noWrites)
+  ask-quiet : (p : Phase) (i : ℕ) → eqb (statusOf p) refusal.busy ≡ true → F true (q .n) (ask s p q t i noWrites)
   ask-quiet p i h = ask-open (q .n) (q .n) p i noWrites h (quiet (q .n)) refl (omega arith) (omega arith)
 
   end-fits : (o : Bool) (n m : ℕ) (w : Writes) → Wrote n m w → (o ≡ false → (w .private .to ≡ 0) × (w .shared .to ≤ w .shared .from)) → F o n (end q w)

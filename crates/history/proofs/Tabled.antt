@@ -16,21 +16,21 @@ use Rattle.permissions.specs.declared.GuestVtl.{GuestVtl}
 use Rattle.permissions.specs.declared.GuestVtl.the-variants.{Vtl0, Vtl1}
 use Rattle.permissions.specs.declared.HvMapGpaFlags.{HvMapGpaFlags}
 use Rattle.permissions.specs.Flags.{fitVtl, vtlOf, fitFlags, flagsOf, boolOf, bitsOf}
-use Rattle.pages.specs.Pages.{pagesOf}
-use Rattle.overlays.specs.declared.OverlayPage.{OverlayPage}
-use Rattle.overlays.specs.Overlays.{used, isOverlay, placeOf, entryAt, addCode}
-use Rattle.acceptor.specs.declared.Step.{Step}
-use Rattle.changes.specs.declared.ChangeStep.{ChangeStep}
-use Rattle.changes.specs.Changes.{changeOf, startNew, startOld}
+use Rattle.page_list.specs.Pages.{pagesOf}
+use Rattle.overlay_table.specs.declared.OverlayPage.{OverlayPage}
+use Rattle.overlay_table.specs.Overlays.{used, isOverlay, placeOf, entryAt, addCode}
+use Rattle.visibility_steps.specs.declared.Step.{Step}
+use Rattle.change_steps.specs.declared.ChangeStep.{ChangeStep}
+use Rattle.change_steps.specs.Changes.{changeOf, startNew, startOld}
 use Rattle.protector_state.specs.State.{stateLen, settingsOf, entriesIn}
 use Rattle.change_state.specs.State.{stageIn, isChanging, changeIn}
 use Rattle.protector.specs.World.{World, world, Outcome, overlaysOf, locksOf, isLocked, fits, statusIn}
 use Rattle.protector.specs.Calls.{refusedBy, carriedOut, carriedChange, visibilityRefusal, visibilityTaken, visibilityOf, answerRefusal, nextIn, afterDone, afterFailed, visibilityDone, visibilityFailed, changeDone, changeFailed, answerDone, answerFailed}
-use Rattle.vtl_protections.specs.Calls.{protectionRefusal, allListed, protectionTaken, protectionOf, defaultRefusal, stored, barred, renewedIn, defaultStarted, defaultTaken, defaultOf, firstPiece}
-use Rattle.overlay_tests.specs.Refusals.{unregisterRefusal, registerRefusal, within, knownRefusal, guestRefusal, dmaRefusal, pageRefusal, neededOf}
-use Rattle.overlay_tests.proofs.Laws.{call-passed, flags-passed}
-use Rattle.overlay_pages.specs.Calls.{entryIn, counting, unregisterTaken, unregisterOf, currentIn, registerTaken, registerOf}
-use Rattle.vtl1_protections.specs.Calls.{enableOf}
+use Rattle.protection_entries.specs.Calls.{protectionRefusal, allListed, protectionTaken, protectionOf, defaultRefusal, stored, barred, renewedIn, defaultStarted, defaultTaken, defaultOf, firstPiece}
+use Rattle.overlay_refusals.specs.Refusals.{unregisterRefusal, registerRefusal, within, knownRefusal, guestRefusal, dmaRefusal, pageRefusal, neededOf}
+use Rattle.overlay_refusals.proofs.Laws.{call-passed, flags-passed}
+use Rattle.overlay_entries.specs.Calls.{entryIn, counting, unregisterTaken, unregisterOf, currentIn, registerTaken, registerOf}
+use Rattle.setting_entries.specs.Calls.{enableOf}
 use Rattle.visibility_claims.specs.Whole.{Given, Succeeds, Fails}
 use Rattle.visibility_claims.specs.Calls.{answerOf}
 use Rattle.history.specs.Call.{Writer, Visibility, Protection, Default, Register, Unregister, Lock, Unlock, Enable, Call, Write, Read, Answer, givesWriter, gives}

@@ -8,30 +8,30 @@ use lib.Dec.{eqb, leb, ltb}
 use lib.ListN.{length, getD, set}
 use lib.Seq.{getD-set-other}
 use borrow.Author.Tests.{ne-eqb, ltb-true}
+use Rattle.abi.specs.Refusals as refusal
 use Rattle.layout.specs.declared.MemoryRangeWithNode.{MemoryRangeWithNode}
 use Rattle.permissions.specs.declared.GuestVtl.{GuestVtl}
 use Rattle.permissions.specs.declared.GuestVtl.the-variants.{Vtl0, Vtl1}
 use Rattle.permissions.proofs.Laws.{vtl-number}
 use Rattle.permissions.specs.Flags.{vtlNumber}
-use Rattle.pages.specs.declared.PageRun.{PageRun}
-use Rattle.pages.specs.Runs.{run}
-use Rattle.overlays.specs.declared.OverlayPage.{OverlayPage}
-use Rattle.overlays.specs.Overlays.{entry, isOverlay, placeOf, entryAt}
-use Rattle.acceptor.specs.declared.Phase.{Phase}
-use Rattle.acceptor.specs.declared.Phase.the-variants as at
-use Rattle.acceptor.specs.declared.Request.{Request}
-use Rattle.changes.specs.declared.Stage.{Stage}
-use Rattle.changes.specs.declared.Stage.the-variants as stage
-use Rattle.changes.specs.declared.Entry.the-variants.{Keep, Add}
-use Rattle.changes.specs.declared.Change.{Change}
-use Rattle.changes.specs.declared.ChangeStep.{ChangeStep}
-use Rattle.changes.specs.Changes.{protect, ask, wait, finish, halt, keep, protectPages, protectRam, doneOf, failedOf, overlayOf, startNew, startOld}
-use Rattle.request.specs.Request.{runEnd}
+use Rattle.page_list.specs.declared.PageRun.{PageRun}
+use Rattle.page_list.specs.Runs.{run}
+use Rattle.overlay_table.specs.declared.OverlayPage.{OverlayPage}
+use Rattle.overlay_table.specs.Overlays.{entry, isOverlay, placeOf, entryAt}
+use Rattle.visibility_steps.specs.declared.Phase.{Phase}
+use Rattle.visibility_steps.specs.declared.Phase.the-variants as at
+use Rattle.visibility_steps.specs.declared.Request.{Request}
+use Rattle.change_steps.specs.declared.Stage.{Stage}
+use Rattle.change_steps.specs.declared.Stage.the-variants as stage
+use Rattle.change_steps.specs.declared.Entry.the-variants.{Keep, Add}
+use Rattle.change_steps.specs.declared.Change.{Change}
+use Rattle.change_steps.specs.declared.ChangeStep.{ChangeStep}
+use Rattle.change_steps.specs.Changes.{protect, ask, wait, finish, halt, keep, protectPages, protectRam, doneOf, failedOf, overlayOf, startNew, startOld}
+use Rattle.request_pages.specs.Request.{runEnd}
 use Rattle.protector_state.specs.State.{withRequest}
 use Rattle.change_state.specs.State.{stageOf, stageIn, isChanging, changeIn, withChange}
 use Rattle.protector.specs.World.{overlaysOf, statusIn, withOverlays, entered}
-use Rattle.overlay_pages.proofs.Claims.{overlays-written, locks-kept, vtl1-kept, vtl0-kept}
-use Rattle.history.specs.Seen.{underWayNumber}
+use Rattle.overlay_entries.proofs.Claims.{overlays-written, locks-kept, vtl1-kept, vtl0-kept}
 use Rattle.history.specs.Tables.{Overlays, Locked, Tables, New, Old, Pending, entryFor, PendingIn}
 use Rattle.history.proofs.Bits.{clash}
 use Rattle.history.proofs.Lengths.{replaced-long}
@@ -99,7 +99,7 @@ module _ (es : List MemoryRangeWithNode) where
   pub pending-idle : (s t : List ℕ) → statusIn s ≡ 0 → PendingIn es s t
   pending-idle s t z = still (getD s 0 0) _ _ (go (isChanging s) _ z)
     where
-      go : (b : Bool) (n : ℕ) → cond b underWayNumber n ≡ 0 → b ≡ false
+      go : (b : Bool) (n : ℕ) → cond b refusal.busy n ≡ 0 → b ≡ false
       go true n e = absurd (omega (arith, e))
       go false n e = refl
 

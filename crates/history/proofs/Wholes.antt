@@ -9,21 +9,21 @@ use lib.ListN.{length, take, set, length-set, length-take}
 use Rattle.permissions.specs.declared.GuestVtl.{GuestVtl}
 use Rattle.permissions.specs.declared.GuestVtl.the-variants.{Vtl0, Vtl1}
 use Rattle.permissions.specs.Flags.{vtlNumber, vtlOf, boolOf}
-use Rattle.pages.specs.Pages.{pagesOf}
-use Rattle.overlays.specs.Overlays.{isOverlay, used, placeOf, countWords}
-use Rattle.locks.specs.Locks.{lockWords, unlockWords}
-use Rattle.defaults.specs.Renewed.{renewed}
-use Rattle.request.specs.Request.{wanted}
-use Rattle.request.proofs.Table.{length-table, pages-few}
+use Rattle.page_list.specs.Pages.{pagesOf}
+use Rattle.overlay_table.specs.Overlays.{isOverlay, used, placeOf, countWords}
+use Rattle.lock_table.specs.Locks.{lockWords, unlockWords}
+use Rattle.default_change.specs.Renewed.{renewed}
+use Rattle.request_pages.specs.Request.{wanted}
+use Rattle.request_pages.proofs.Table.{length-table, pages-few}
 use Rattle.protector_state.specs.State.{entriesIn}
 use Rattle.change_state.specs.State.{isChanging}
 use Rattle.protector.specs.World.{World, world, overlaysOf, locksOf, fits}
 use Rattle.protector.specs.Calls.{refusedBy, visibilityRefusal, stopOf, tableFor, visibilityTaken, visibilityOf, answerRefusal, visibilityDone, visibilityFailed, changeDone, changeFailed, answerDone, answerFailed}
-use Rattle.vtl_protections.specs.Calls.{protectionRefusal, allListed, protectionTaken, protectionOf, defaultRefusal, stored, barred, renewedIn, defaultStarted, defaultTaken, defaultOf}
-use Rattle.vtl_protections.proofs.Laws.{protection-passed}
-use Rattle.overlay_tests.specs.Refusals.{registerRefusal, unregisterRefusal}
-use Rattle.overlay_pages.specs.Calls.{currentIn, entryIn, counting, registerTaken, registerOf, unregisterTaken, unregisterOf}
-use Rattle.locked_pages.specs.Calls.{ended, lockRefusal, lockTaken, lockOf, unlockTaken, unlockOf}
+use Rattle.protection_entries.specs.Calls.{protectionRefusal, allListed, protectionTaken, protectionOf, defaultRefusal, stored, barred, renewedIn, defaultStarted, defaultTaken, defaultOf}
+use Rattle.protection_entries.proofs.Laws.{protection-passed}
+use Rattle.overlay_refusals.specs.Refusals.{registerRefusal, unregisterRefusal}
+use Rattle.overlay_entries.specs.Calls.{currentIn, entryIn, counting, registerTaken, registerOf, unregisterTaken, unregisterOf}
+use Rattle.lock_entries.specs.Calls.{ended, lockRefusal, lockTaken, lockOf, unlockTaken, unlockOf}
 use Rattle.visibility_claims.specs.Whole.{Given, Succeeds, Fails}
 use Rattle.visibility_claims.specs.Calls.{answerOf}
 use Rattle.history.proofs.Fits.{pages-long}

@@ -8,18 +8,19 @@ use lib.ListN.{getD, take, drop}
 use lib.Seq.{getD-drop, drop-drop}
 use lib.Dec.{eqb}
 use borrow.Author.Tests.{eqb-true, ne-eqb, leb-true}
+use Rattle.abi.specs.Refusals as refusal
 use Rattle.laws.specs.Bools.{false≢true, digit, and-left}
 use Rattle.layout.specs.declared.MemoryRangeWithNode.{MemoryRangeWithNode}
 use Rattle.layout.specs.Layout.{isRam}
-use Rattle.pages.specs.Pages.{among}
-use Rattle.pages.specs.Runs.{part}
+use Rattle.page_list.specs.Pages.{among}
+use Rattle.page_list.specs.Runs.{part}
 use Rattle.mapping.specs.Maps.{Maps}
-use Rattle.acceptor.specs.declared.Phase.{Phase}
-use Rattle.acceptor.specs.declared.Phase.the-variants as at
-use Rattle.acceptor.specs.declared.Request.{Request}
-use Rattle.changes.specs.declared.Stage.{Stage}
-use Rattle.changes.specs.declared.Stage.the-variants as stage
-use Rattle.changes.specs.declared.Change.{Change}
+use Rattle.visibility_steps.specs.declared.Phase.{Phase}
+use Rattle.visibility_steps.specs.declared.Phase.the-variants as at
+use Rattle.visibility_steps.specs.declared.Request.{Request}
+use Rattle.change_steps.specs.declared.Stage.{Stage}
+use Rattle.change_steps.specs.declared.Stage.the-variants as stage
+use Rattle.change_steps.specs.declared.Change.{Change}
 use Rattle.protector_state.specs.declared.Reply.{Reply}
 use Rattle.protector_state.specs.State.{firstPhases, phaseOf, phaseIn, requestOf, withRequest, entriesIn}
 use Rattle.protector_state.specs.Reply.{modifies}
@@ -27,7 +28,7 @@ use Rattle.change_state.specs.State.{stageNumber, isChanging, withChange}
 use Rattle.protector.specs.World.{World, world, statusOf, statusIn, takes}
 use Rattle.visibility_claims.specs.Whole.{Given}
 use Rattle.visibility_claims.proofs.Calls.{phase-read, request-read, no-change}
-use Rattle.history.specs.Seen.{underWayNumber, haltedNumber, Seen, tookAs, isWaiting, isModify, processed, lastAfter}
+use Rattle.history.specs.Seen.{Seen, tookAs, isWaiting, isModify, processed, lastAfter}
 use Rattle.history.proofs.Took.{isShared, sharedIn, shared-either}
 use Rattle.history.proofs.Bits.{clash}
 use Rattle.history.proofs.Right.{opened, isHalted, isQuiet, Names, Right}
@@ -36,8 +37,8 @@ use Rattle.history.proofs.Steps.{after}
 pub record Stands (es : List MemoryRangeWithNode) (w : World) (o : Seen) : Type 0 where
   pub layout : entriesIn (w .state) ≡ es
   pub right : Right (isRam es) (w .maps .private) (w .maps .shared) (phaseIn (w .state)) (requestOf (w .state)) (w .pages) (o .halted) (o .listed) (sharedIn o)
-  pub halts : o .halted ≡ eqb (statusIn (w .state)) haltedNumber
-  pub waits : isWaiting o ≡ eqb (statusIn (w .state)) underWayNumber
+  pub halts : o .halted ≡ eqb (statusIn (w .state)) refusal.halted
+  pub waits : isWaiting o ≡ eqb (statusIn (w .state)) refusal.busy
   pub names : Names (phaseIn (w .state)) (requestOf (w .state)) (w .pages) (o .op)
   pub table : opened (phaseIn (w .state)) ≡ true → o .table ≡ w .pages
 
@@ -129,7 +130,7 @@ change-entries g q s = rw (getD-drop 14 s 17 0, drop-drop 18 14 s)
 pub request-status : (p : Phase) (q : Request) (s : List ℕ) → statusIn (withRequest p q s) ≡ statusOf p
 request-status p q s = rw (no-change p, phase-read p)
 
-halted-status : (p : Phase) → eqb (statusOf p) haltedNumber ≡ isHalted p
+halted-status : (p : Phase) → eqb (statusOf p) refusal.halted ≡ isHalted p
 halted-status at.Idle = refl
 halted-status at.Halted = refl
 halted-status at.Wait = refl
@@ -155,7 +156,7 @@ stops stage.Wait = false
 stops stage.Flush = false
 stops stage.TlbWait = false
 
-pub change-status : (g : Stage) (q : Change) (s : List ℕ) → eqb (statusIn (withChange g q s)) haltedNumber ≡ stops g
+pub change-status : (g : Stage) (q : Change) (s : List ℕ) → eqb (statusIn (withChange g q s)) refusal.halted ≡ stops g
 unfolding phaseOf firstPhases
 change-status stage.Idle q s = refl
 change-status stage.Halted q s = refl
@@ -178,7 +179,7 @@ goes stage.Wait = true
 goes stage.Flush = true
 goes stage.TlbWait = true
 
-change-waits : (g : Stage) (q : Change) (s : List ℕ) → eqb (statusIn (withChange g q s)) underWayNumber ≡ goes g
+change-waits : (g : Stage) (q : Change) (s : List ℕ) → eqb (statusIn (withChange g q s)) refusal.busy ≡ goes g
 unfolding phaseOf firstPhases
 change-waits stage.Idle q s = refl
 change-waits stage.Halted q s = refl
@@ -230,7 +231,7 @@ quiet-names at.ProtectDefault0 q t r s n = n
 quiet-names at.ProtectDefault1 q t r s n = n
 
 -- nothing under way
-pub idle-shut : (c : Bool) (p : Phase) → cond c underWayNumber (statusOf p) ≡ 0 → opened p ≡ false
+pub idle-shut : (c : Bool) (p : Phase) → cond c refusal.busy (statusOf p) ≡ 0 → opened p ≡ false
 idle-shut true p h = absurd (omega arith)
 idle-shut false at.Idle h = refl
 idle-shut false at.Halted h = refl
@@ -261,7 +262,7 @@ changing-shut s h = between-phase (getD s 0 0) (leb-true 13 _ (and-left _ _ h))
 
 module _ (es : List MemoryRangeWithNode) (m : Maps) (s t tables : List ℕ) (o : Seen) where
   pub stands-step : (p : Phase) (q : Request) → q .n ≤ 512 → entriesIn s ≡ es → Right (isRam es) (m .private) (m .shared) p q t (o .halted) (o .listed) (sharedIn o) → o .halted ≡ isHalted p
-      → isWaiting o ≡ eqb (statusOf p) underWayNumber → Names p q t (o .op) → (opened p ≡ true → o .table ≡ t) → Stands es (world m (withRequest p q s) t tables) o
+      → isWaiting o ≡ eqb (statusOf p) refusal.busy → Names p q t (o .op) → (opened p ≡ true → o .table ≡ t) → Stands es (world m (withRequest p q s) t tables) o
   stands-step p q few e r h a n d =
       let p₀ : Phase = p in
       let c : phaseIn (withRequest p q s) ≡ p = phase-read p in
@@ -270,8 +271,8 @@ module _ (es : List MemoryRangeWithNode) (m : Maps) (s t tables : List ℕ) (o :
         layout = request-entries p q s ∙ e;
         right = subst (λ (p : Phase). Right (isRam es) (m .private) (m .shared) p (requestOf (withRequest p₀ q s)) t (o .halted) (o .listed) (sharedIn o)) (sym c)
             (subst (λ (q : Request). Right (isRam es) (m .private) (m .shared) p q t (o .halted) (o .listed) (sharedIn o)) (sym b) r);
-        halts = h ∙ sym (halted-status p) ∙ ap (λ (k : ℕ). eqb k haltedNumber) (sym (request-status p q s));
-        waits = a ∙ ap (λ (k : ℕ). eqb k underWayNumber) (sym (request-status p q s));
+        halts = h ∙ sym (halted-status p) ∙ ap (λ (k : ℕ). eqb k refusal.halted) (sym (request-status p q s));
+        waits = a ∙ ap (λ (k : ℕ). eqb k refusal.busy) (sym (request-status p q s));
         names = subst (λ (x : Phase). Names x (requestOf (withRequest p q s)) t (o .op)) (sym c) (subst (λ (x : Request). Names p x t (o .op)) (sym b) n);
         table = λ k. d (sym (ap opened c) ∙ k);
       }
@@ -290,7 +291,7 @@ module _ (es : List MemoryRangeWithNode) (m : Maps) (s t tables : List ℕ) (o :
       }
 
 -- what an answer is taken for is under way
-pub phase-waits : (p : Phase) (b : Bool) → takes p b ≡ true → eqb (statusOf p) underWayNumber ≡ true
+pub phase-waits : (p : Phase) (b : Bool) → takes p b ≡ true → eqb (statusOf p) refusal.busy ≡ true
 phase-waits at.Idle b e = e
 phase-waits at.Halted b e = e
 phase-waits at.Wait b e = refl

@@ -1,14 +1,14 @@
 -- The calls of the protector's entries as data: what may be called, what each gives of what it is lent, as its definition has it, and what is seen of that.
 use mathlib.Core.List.{List, []}
 use Prim.Native.Nat.{ℕ}
-use Rattle.pages.specs.Pages.{pagesOf}
+use Rattle.page_list.specs.Pages.{pagesOf}
 use Rattle.protector_state.specs.declared.Reply.{Reply}
 use Rattle.protector.specs.World.{World, world, Outcome}
 use Rattle.protector.specs.Calls.{visibilityOf}
-use Rattle.vtl_protections.specs.Calls.{protectionOf, defaultOf}
-use Rattle.overlay_pages.specs.Calls.{registerOf, unregisterOf, isOverlayIn}
-use Rattle.locked_pages.specs.Calls.{Kept, lockOf, unlockOf}
-use Rattle.vtl1_protections.specs.Calls.{Enabled, enableOf, enabledIn, defaultIn}
+use Rattle.protection_entries.specs.Calls.{protectionOf, defaultOf}
+use Rattle.overlay_entries.specs.Calls.{registerOf, unregisterOf, isOverlayIn}
+use Rattle.lock_entries.specs.Calls.{Kept, lockOf, unlockOf}
+use Rattle.setting_entries.specs.Calls.{Enabled, enableOf, enabledIn, defaultIn}
 use Rattle.queries.specs.declared.Value.{Value}
 use Rattle.queries.specs.Queries as queries
 use Rattle.queries.specs.Queries.{queryOf, faultIn, lowerIn, accessIn}

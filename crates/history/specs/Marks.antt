@@ -7,8 +7,8 @@ use Rattle.bitmap.specs.Pages.{bitAt}
 use Rattle.layout.specs.declared.MemoryRangeWithNode.{MemoryRangeWithNode}
 use Rattle.layout.specs.Layout.{refusalOf, isRam}
 use Rattle.permissions.specs.declared.IsolationType.{IsolationType}
-use Rattle.acceptor.specs.Steps.{isSnp}
-use Rattle.pages.specs.Pages.{among}
+use Rattle.visibility_steps.specs.Steps.{isSnp}
+use Rattle.page_list.specs.Pages.{among}
 use Rattle.mapping.specs.Maps.{Maps}
 use lib.ListN.{length}
 use Rattle.protector_state.specs.State.{stateLen, ramOf, entriesIn}

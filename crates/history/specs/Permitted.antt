@@ -5,15 +5,15 @@ use mathlib.Core.List.{List}
 use Prim.Native.Nat.{ℕ, _<_}
 use lib.Dec.{eqb}
 use lib.ListN.{length, getD}
+use Rattle.abi.specs.Refusals as refusal
 use Rattle.layout.specs.declared.MemoryRangeWithNode.{MemoryRangeWithNode}
 use Rattle.layout.specs.Layout.{isRam}
 use Rattle.mapping.specs.Maps.{Permissions}
-use Rattle.changes.specs.declared.Stage.{Stage}
-use Rattle.changes.specs.declared.Stage.the-variants as stage
+use Rattle.change_steps.specs.declared.Stage.{Stage}
+use Rattle.change_steps.specs.declared.Stage.the-variants as stage
 use Rattle.protector_state.specs.State.{phaseIn, requestOf}
 use Rattle.change_state.specs.State.{stageIn, isChanging}
 use Rattle.protector.specs.World.{World, statusOf}
-use Rattle.history.specs.Seen.{underWayNumber}
 use Rattle.history.specs.Marks.{Has}
 
 pub record Inside (es : List MemoryRangeWithNode) (m : Permissions) : Type 0 where
@@ -39,7 +39,7 @@ isPages stage.TlbWait = false
 
 -- a visibility change, or a protection change that still protects, is under way
 abbrev pub isListing : List ℕ → Bool
-isListing s = cond (isChanging s) (isPages (stageIn s)) (eqb (statusOf (phaseIn s)) underWayNumber)
+isListing s = cond (isChanging s) (isPages (stageIn s)) (eqb (statusOf (phaseIn s)) refusal.busy)
 
 pub record Permitted (es : List MemoryRangeWithNode) (w : World) : Type 0 where
   pub inside : Inside es (w .maps .permissions)

@@ -9,7 +9,7 @@ use Rattle.permissions.specs.Flags.{vtlOf, boolOf}
 use Rattle.protector_state.specs.declared.Reply.{Reply}
 use Rattle.protector_state.specs.State.{settingsOf}
 use Rattle.protector.specs.World.{World}
-use Rattle.vtl_protections.specs.Calls.{stored, allListed}
+use Rattle.protection_entries.specs.Calls.{stored, allListed}
 use Rattle.visibility_claims.specs.Whole.{Given}
 use Rattle.visibility_claims.specs.Runs.{whole}
 use Rattle.visibility_claims.specs.Calls.{wholeOf, pagesFor, asksIn, Told, Match}

@@ -5,8 +5,10 @@ use mathlib.Core.List.{List, []}
 use Prim.Native.Nat.{ℕ, _+_, min}
 use lib.Dec.{eqb}
 use lib.ListN.{take}
+use Rattle.abi.specs.Operations as operation
+use Rattle.abi.specs.Refusals as refusal
 use Rattle.laws.specs.Ranges.{between}
-use Rattle.pages.specs.Pages.{among}
+use Rattle.page_list.specs.Pages.{among}
 use Rattle.protector_state.specs.declared.Reply.{Reply}
 use Rattle.protector_state.specs.Reply.{finished}
 use Rattle.visibility_claims.specs.Whole.{Given, Succeeds, Fails}
@@ -16,28 +18,7 @@ use Rattle.visibility_claims.specs.Whole.{Given, Succeeds, Fails}
 abbrev pub noOperation : ℕ
 noOperation = 0
 
-abbrev pub modifyOperation : ℕ
-modifyOperation = 6
-
-abbrev pub acceptOperation : ℕ
-acceptOperation = 7
-
-abbrev pub zeroOperation : ℕ
-zeroOperation = 8
-
 -- a lent buffer of wrong length; a request under way; halted; an answer with nothing asked, or a failure of what cannot fail
-abbrev pub wrongLength : ℕ
-wrongLength = 4
-
-abbrev pub underWayNumber : ℕ
-underWayNumber = 19
-
-abbrev pub haltedNumber : ℕ
-haltedNumber = 20
-
-abbrev pub nothingAsked : ℕ
-nothingAsked = 21
-
 -- ---- what is seen
 
 -- of a page: never returned, or since its return nothing, validated, validated and then zeroed
@@ -81,7 +62,7 @@ abbrev pub isWaiting : Seen → Bool
 isWaiting o = asks (o .op)
 
 abbrev pub isModify : Reply → Bool
-isModify r = eqb (r .operation) modifyOperation
+isModify r = eqb (r .operation) operation.modify
 
 -- how many of n pages an answer to Modify processed
 abbrev pub processed : Given → ℕ → ℕ
@@ -115,21 +96,21 @@ inRun r z = between (r .first) (r .first + r .pages) z
 abbrev pub ageAfter : Given → Seen → ℕ → Age
 ageAfter g o z =
     cond (isModify (o .op) && among (take (processed g (o .op .pages)) (o .table)) z) (cond (eqb (o .op .shared) 1) Never Returned)
-    (cond (isDone g && (eqb (o .op .operation) acceptOperation && inRun (o .op) z)) (accepted (o .age z))
-    (cond (isDone g && (eqb (o .op .operation) zeroOperation && inRun (o .op) z)) (zeroed (o .age z))
+    (cond (isDone g && (eqb (o .op .operation) operation.accept && inRun (o .op) z)) (accepted (o .age z))
+    (cond (isDone g && (eqb (o .op .operation) operation.zero && inRun (o .op) z)) (zeroed (o .age z))
     (o .age z)))
 
 -- an answer that came when nothing was halted, and was refused neither for a length (4) nor as not asked for (21)
 abbrev pub isTaken : Seen → Reply → Bool
-isTaken o r = not (o .halted) && (not (eqb (r .number) wrongLength) && not (eqb (r .number) nothingAsked))
+isTaken o r = not (o .halted) && (not (eqb (r .number) refusal.wrongLength) && not (eqb (r .number) refusal.nothingAsked))
 
 -- a taken answer that asks on, or gives 20, leaves the call under way or halted; any other ends it
 abbrev pub goesOn : Reply → Bool
-goesOn r = asks r || eqb (r .number) haltedNumber
+goesOn r = asks r || eqb (r .number) refusal.halted
 
 abbrev pub seesTaken : Given → Reply → List ℕ → Seen → Seen
 seesTaken g r p o =
-    record { op = r; table = p; halted = eqb (r .number) haltedNumber; listed = cond (goesOn r) (o .listed) []; last = lastAfter g o; age = ageAfter g o }
+    record { op = r; table = p; halted = eqb (r .number) refusal.halted; listed = cond (goesOn r) (o .listed) []; last = lastAfter g o; age = ageAfter g o }
 
 -- an answer g that gave r and left the pages run p
 abbrev pub seesAnswer : Given → Reply → List ℕ → Seen → Seen

@@ -3,18 +3,21 @@
 use Prim.Native.Nat.{ℕ}
 use mathlib.Core.Path.{_≡_}
 use mathlib.Core.Bool.{true, false}
-use mathlib.Core.List.{List, [], _∷_, map}
+use mathlib.Core.List.{List, [], _∷_}
+use Rattle.abi.specs.Operations as operation
+use Rattle.abi.specs.Refusals as refusal
 use Rattle.permissions.specs.declared.GuestVtl.the-variants.{Vtl0, Vtl1}
 use Rattle.permissions.specs.declared.IsolationType.the-variants.{Snp}
 use Rattle.permissions.specs.Flags.{noFlags, allFlags}
-use Rattle.pages.specs.declared.PageRun.{PageRun}
-use Rattle.pages.specs.Pages.{among}
-use Rattle.pages.specs.Runs.{run}
+use Rattle.page_list.specs.declared.PageRun.{PageRun}
+use Rattle.page_list.specs.Pages.{among}
+use Rattle.page_list.specs.Runs.{run}
 use Rattle.protector_state.specs.declared.Reply.{Reply}
-use Rattle.protector_state.specs.Reply.{finished, plain, modifies, onRun, protects, askedOf}
+use Rattle.protector_state.specs.Reply.{finished, plain, modifies, onRun, protects}
 use Rattle.visibility_claims.specs.Whole.{Succeeds, Fails}
+use Rattle.visibility_claims.specs.Calls.{replies}
 use Rattle.visibility_claims.specs.Table.{P2}
-use Rattle.history.specs.Seen.{acceptOperation, zeroOperation, wrongLength, haltedNumber, nothingAsked, Seen, unseen, Private, Shared, Never, Returned, Validated, Zeroed, isWaiting, isTaken, seesCall, seesAnswer}
+use Rattle.history.specs.Seen.{Seen, unseen, Private, Shared, Never, Returned, Validated, Zeroed, isWaiting, isTaken, seesCall, seesAnswer}
 use Rattle.history.specs.Marks.{isSettled}
 
 -- replies that ask: Wait, FlushAll, and of a run of a share Protect VTL0, Protect VTL1, Invalidate
@@ -62,13 +65,13 @@ shared = seesAnswer Succeeds (finished 0 0 0 9) three sharing
 abbrev pub returning : Seen
 returning =
     done two (flushes ∷ modifies false 2 ∷ [])
-    (seesAnswer Succeeds (finished wrongLength 0 0 0) [] (seesAnswer (Fails 1 1) (finished nothingAsked 0 0 0) two (seesCall two waits two shared)))
+    (seesAnswer Succeeds (finished refusal.wrongLength 0 0 0) [] (seesAnswer (Fails 1 1) (finished refusal.nothingAsked 0 0 0) two (seesCall two waits two shared)))
 
 abbrev pub returned : Seen
-returned = seesAnswer (Fails 77 1) (onRun acceptOperation (run 9 1)) two returning
+returned = seesAnswer (Fails 77 1) (onRun operation.accept (run 9 1)) two returning
 
 abbrev pub validated : Seen
-validated = seesAnswer Succeeds (onRun zeroOperation (run 9 1)) two returned
+validated = seesAnswer Succeeds (onRun operation.zero (run 9 1)) two returned
 
 abbrev pub cleared : Seen
 cleared = seesAnswer Succeeds (protects Snp Vtl0 allFlags (run 9 1)) two validated
@@ -78,7 +81,7 @@ ended = seesAnswer Succeeds (finished 16 77 1 6) two cleared
 
 -- Zero asked for and done before Accept
 abbrev pub unordered : Seen
-unordered = seesAnswer Succeeds (onRun acceptOperation (run 9 1)) two (seesAnswer (Fails 77 1) (onRun zeroOperation (run 9 1)) two returning)
+unordered = seesAnswer Succeeds (onRun operation.accept (run 9 1)) two (seesAnswer (Fails 77 1) (onRun operation.zero (run 9 1)) two returning)
 
 -- page 9 shared again
 abbrev pub again : Seen
@@ -86,21 +89,21 @@ again = done one (flushes ∷ none0 (run 9 1) ∷ none1 (run 9 1) ∷ invalidate
 
 -- P2 with its first Protect failed: halted; and an answer after that
 abbrev pub halted : Seen
-halted = seesAnswer (Fails 5 0) (finished haltedNumber 0 0 3) three (done three (flushes ∷ none0 (run 3 1) ∷ []) (seesCall three waits three unseen))
+halted = seesAnswer (Fails 5 0) (finished refusal.halted 0 0 3) three (done three (flushes ∷ none0 (run 3 1) ∷ []) (seesCall three waits three unseen))
 
 abbrev pub late : Seen
-late = seesAnswer Succeeds (finished haltedNumber 0 0 0) three halted
+late = seesAnswer Succeeds (finished refusal.halted 0 0 0) three halted
 
 pub record SeenTable : Type 0 where
   -- these are what the whole call asks for
-  pub sharing-asks : map (askedOf Snp) (P2 .asked) ≡ waits ∷ sharingReplies
+  pub sharing-asks : replies Snp (P2 .asked) ≡ waits ∷ sharingReplies
   -- until Modify is answered nothing is taken, and the pages are listed
   pub sharing-waits : isWaiting sharing ≡ true
   pub sharing-last : sharing .last 9 ≡ Private
   pub sharing-listed : among (sharing .listed) 10 ≡ true
   -- answers that are not taken change nothing
-  pub untaken-length : seesAnswer Succeeds (finished wrongLength 0 0 0) [] sharing ≡ sharing
-  pub untaken-unasked : seesAnswer (Fails 1 1) (finished nothingAsked 0 0 0) three sharing ≡ sharing
+  pub untaken-length : seesAnswer Succeeds (finished refusal.wrongLength 0 0 0) [] sharing ≡ sharing
+  pub untaken-unasked : seesAnswer (Fails 1 1) (finished refusal.nothingAsked 0 0 0) three sharing ≡ sharing
   pub shared-waits : isWaiting shared ≡ false
   pub shared-last : shared .last 9 ≡ Shared
   pub shared-other : shared .last 8 ≡ Private
@@ -130,5 +133,5 @@ pub record SeenTable : Type 0 where
   pub halted-waits : isWaiting halted ≡ false
   pub halted-listed : among (halted .listed) 10 ≡ true
   pub halted-last : halted .last 3 ≡ Private
-  pub late-untaken : isTaken halted (finished haltedNumber 0 0 0) ≡ false
+  pub late-untaken : isTaken halted (finished refusal.halted 0 0 0) ≡ false
   pub late-listed : among (late .listed) 10 ≡ true

@@ -6,7 +6,7 @@ use Prim.Native.Nat.{ℕ, _<_}
 use lib.ListN.{getD}
 use Rattle.permissions.specs.Flags.{fitIsolation, isolationOf, fitBool, boolOf}
 use Rattle.permissions.specs.Defaults.{firstDefaults}
-use Rattle.acceptor.specs.declared.Settings.{Settings}
+use Rattle.visibility_steps.specs.declared.Settings.{Settings}
 
 -- at a build: what it was given, protections not enabled, all four flags for VTL0 and none given for VTL1
 abbrev pub firstSettings : (isolation tracked release : ℕ) → Settings

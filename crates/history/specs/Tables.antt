@@ -9,14 +9,14 @@ use lib.ListN.{length}
 use Rattle.layout.specs.declared.MemoryRangeWithNode.{MemoryRangeWithNode}
 use Rattle.layout.specs.Layout.{isRam}
 use Rattle.permissions.specs.declared.GuestVtl.{GuestVtl}
-use Rattle.overlays.specs.declared.OverlayPage.{OverlayPage}
-use Rattle.overlays.specs.Overlays as overlays
-use Rattle.overlays.specs.Overlays.{knows, entry, used, isOverlay, placeOf, entryAt}
-use Rattle.locks.specs.Locks as locks
-use Rattle.locks.specs.Locks.{Fit}
-use Rattle.changes.specs.declared.Stage.{Stage}
-use Rattle.changes.specs.declared.Stage.the-variants as stage
-use Rattle.changes.specs.declared.Change.{Change}
+use Rattle.overlay_table.specs.declared.OverlayPage.{OverlayPage}
+use Rattle.overlay_table.specs.Overlays as overlays
+use Rattle.overlay_table.specs.Overlays.{knows, entry, used, isOverlay, placeOf, entryAt}
+use Rattle.lock_table.specs.Locks as locks
+use Rattle.lock_table.specs.Locks.{Fit}
+use Rattle.change_steps.specs.declared.Stage.{Stage}
+use Rattle.change_steps.specs.declared.Stage.the-variants as stage
+use Rattle.change_steps.specs.declared.Change.{Change}
 use Rattle.change_state.specs.State.{stageIn, changeIn}
 use Rattle.protector.specs.World.{World, tablesLen, overlaysOf, locksOf}
 

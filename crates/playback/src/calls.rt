@@ -71,7 +71,7 @@ pub fn build(w: World, c: Call, ram: &[u64]) -> World {
 fn lock(w: World, c: Call, list: &[u8]) -> World {
     let state = w.state;
     let mut tables = w.tables;
-    let r = locked_pages::protector_lock_gpns(&state, &mut tables, c.a, list);
+    let r = lock_entries::protector_lock_gpns(&state, &mut tables, c.a, list);
     let mut v = w;
     v.tables = tables;
     replied(v, r)
@@ -80,7 +80,7 @@ fn lock(w: World, c: Call, list: &[u8]) -> World {
 fn unlock(w: World, c: Call, list: &[u8]) -> World {
     let state = w.state;
     let mut tables = w.tables;
-    let r = locked_pages::protector_unlock_gpns(&state, &mut tables, c.a, list);
+    let r = lock_entries::protector_unlock_gpns(&state, &mut tables, c.a, list);
     let mut v = w;
     v.tables = tables;
     replied(v, r)
@@ -88,7 +88,7 @@ fn unlock(w: World, c: Call, list: &[u8]) -> World {
 
 fn enable(w: World) -> World {
     let mut state = w.state;
-    let r = vtl1_protections::protector_set_vtl1_protections_enabled(&mut state);
+    let r = setting_entries::protector_set_vtl1_protections_enabled(&mut state);
     let mut v = w;
     v.state = state;
     replied(v, r)
@@ -99,7 +99,7 @@ fn is_overlay(w: World, c: Call) -> World {
     let tables = w.tables;
     valued(
         w,
-        overlay_pages::protector_is_overlay_page(&state, &tables, c.a, c.b),
+        overlay_entries::protector_is_overlay_page(&state, &tables, c.a, c.b),
     )
 }
 
@@ -108,12 +108,12 @@ fn setting(w: World, c: Call) -> World {
     if c.kind == 9 {
         return valued(
             w,
-            vtl1_protections::protector_vtl1_protections_enabled(&state),
+            setting_entries::protector_vtl1_protections_enabled(&state),
         );
     }
     valued(
         w,
-        vtl1_protections::protector_default_vtl0_protections(&state),
+        setting_entries::protector_default_vtl0_protections(&state),
     )
 }
 

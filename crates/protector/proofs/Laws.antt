@@ -13,27 +13,27 @@ use Rattle.laws.specs.Bools.{and-left, and-right, false≢true}
 use Rattle.laws.specs.Refusal.{refused, answered}
 use Rattle.layout.specs.Layout.{entriesOf, mapLen}
 use Rattle.permissions.specs.declared.GuestVtl.{GuestVtl}
-use Rattle.pages.specs.Pages.{pagesOf}
+use Rattle.page_list.specs.Pages.{pagesOf}
 use Rattle.mapping.specs.Maps.{Permissions, Maps, perms, maps, marksFit, permissionLen, permissionsFit}
 use Rattle.permissions.specs.declared.HvMapGpaFlags.{HvMapGpaFlags}
 use Rattle.permissions.specs.Flags.{noFlags}
 use Rattle.permissions.specs.HvError.{codeOf}
-use Rattle.pages.specs.declared.PageRun.{PageRun}
-use Rattle.pages.specs.Runs.{runAt}
-use Rattle.request.specs.Request.{runEnd, put}
-use Rattle.acceptor.specs.declared.Settings.{Settings}
-use Rattle.acceptor.specs.declared.Phase.{Phase}
-use Rattle.acceptor.specs.declared.Phase.the-variants as at
-use Rattle.acceptor.specs.declared.Request.{Request}
-use Rattle.acceptor.specs.declared.Places.{Places}
-use Rattle.acceptor.specs.declared.Next.{Next}
-use Rattle.acceptor.specs.Steps.{places, doneOf}
-use Rattle.acceptor.specs.Next.{isDefault0, runIn, answerBy, requestBy, permittedAt, flagsAt, nextStep}
-use Rattle.acceptor.specs.declared.Writes.{Writes}
+use Rattle.page_list.specs.declared.PageRun.{PageRun}
+use Rattle.page_list.specs.Runs.{runAt}
+use Rattle.request_pages.specs.Request.{runEnd, put}
+use Rattle.visibility_steps.specs.declared.Settings.{Settings}
+use Rattle.visibility_steps.specs.declared.Phase.{Phase}
+use Rattle.visibility_steps.specs.declared.Phase.the-variants as at
+use Rattle.visibility_steps.specs.declared.Request.{Request}
+use Rattle.visibility_steps.specs.declared.Places.{Places}
+use Rattle.visibility_steps.specs.declared.Next.{Next}
+use Rattle.visibility_steps.specs.Steps.{places, doneOf}
+use Rattle.visibility_steps.specs.Next.{isDefault0, runIn, answerBy, requestBy, permittedAt, flagsAt, nextStep}
+use Rattle.visibility_steps.specs.declared.Writes.{Writes}
 use Rattle.protector_state.specs.declared.Reply.{Reply}
 use Rattle.protector_state.specs.Reply.{finished, flatOf}
 use Rattle.protector_state.specs.State.{phaseIn, requestOf, withRequest, settingsOf, ramOf, entriesIn}
-use Rattle.request.proofs.Runs.{put-none, end-none}
+use Rattle.request_pages.proofs.Runs.{put-none, end-none}
 use Rattle.protector.specs.World.{World, Outcome, outcome, fits, pagesLen, tablesLen, overlaysOf, locksOf, lengthsFit, putPlaces, putPermissions, applied, isEmpty, isNothing}
 use Rattle.protector.specs.Calls.{pageRefusal, firstRefusal, decided, refusedBy}
 

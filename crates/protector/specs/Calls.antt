@@ -13,19 +13,19 @@ use Rattle.permissions.specs.declared.HvMapGpaFlags.{HvMapGpaFlags}
 use Rattle.permissions.specs.Flags.{fitVtl, vtlOf, fitIsolation, flagsOf, fitBool, boolOf}
 use Rattle.permissions.specs.HvError.{codeOf}
 use Rattle.mapping.specs.Maps.{Maps, marksFit, permissionLen, permissionsFit, built}
-use Rattle.pages.specs.declared.PageRun.{PageRun}
-use Rattle.pages.specs.Pages.{pagesOf, isLong, repeats, isRagged}
-use Rattle.request.specs.Request.{pick, tableOf, stopAt, isOpen, wanted}
-use Rattle.overlays.specs.Overlays.{isOverlay}
-use Rattle.defaults.specs.Pieces.{nextPiece}
-use Rattle.acceptor.specs.declared.Settings.{Settings}
-use Rattle.acceptor.specs.declared.Step.{Step}
-use Rattle.acceptor.specs.Steps.{isVtl0, startOf, doneOf, failedOf}
-use Rattle.changes.specs.declared.Stage.{Stage}
-use Rattle.changes.specs.declared.Stage.the-variants as stage
-use Rattle.changes.specs.declared.Change.{Change}
-use Rattle.changes.specs.declared.ChangeStep.{ChangeStep}
-use Rattle.changes.specs.Changes as changes
+use Rattle.page_list.specs.declared.PageRun.{PageRun}
+use Rattle.page_list.specs.Pages.{pagesOf, isLong, repeats, isRagged}
+use Rattle.request_pages.specs.Request.{pick, tableOf, stopAt, isOpen, wanted}
+use Rattle.overlay_table.specs.Overlays.{isOverlay}
+use Rattle.default_change.specs.Pieces.{nextPiece}
+use Rattle.visibility_steps.specs.declared.Settings.{Settings}
+use Rattle.visibility_steps.specs.declared.Step.{Step}
+use Rattle.visibility_steps.specs.Steps.{isVtl0, startOf, doneOf, failedOf}
+use Rattle.change_steps.specs.declared.Stage.{Stage}
+use Rattle.change_steps.specs.declared.Stage.the-variants as stage
+use Rattle.change_steps.specs.declared.Change.{Change}
+use Rattle.change_steps.specs.declared.ChangeStep.{ChangeStep}
+use Rattle.change_steps.specs.Changes as changes
 use Rattle.protector_state.specs.State.{stateLen, phaseIn, requestOf, withRequest, settingsOf, entriesIn, builtState}
 use Rattle.protector_state.specs.Reply.{finished, flatOf}
 use Rattle.change_state.specs.State.{stageIn, isChanging, changeIn, withChange}

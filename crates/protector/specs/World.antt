@@ -12,19 +12,19 @@ use Rattle.permissions.specs.declared.HvMapGpaFlags.{HvMapGpaFlags}
 use Rattle.permissions.specs.Flags.{vtlNumber}
 use Rattle.layout.specs.Layout.{mapLen}
 use Rattle.mapping.specs.Maps.{Permissions, Maps, perms, marksFit, permissionLen, permissionsFit, permitted}
-use Rattle.pages.specs.declared.PageRun.{PageRun}
-use Rattle.overlays.specs.Overlays.{isOverlay, placeOf, entry, addWords, removeWords}
-use Rattle.locks.specs.Locks.{listsOf, held}
-use Rattle.request.specs.Request.{put}
-use Rattle.acceptor.specs.declared.Phase.{Phase}
-use Rattle.acceptor.specs.declared.Phase.the-variants.{Idle, Halted, Wait, FlushAll, ProtectNone0, ProtectNone1, Invalidate, Release, Modify, Accept, Zero, ProtectDefault0, ProtectDefault1}
-use Rattle.acceptor.specs.declared.Places.{Places}
-use Rattle.acceptor.specs.declared.Writes.{Writes}
-use Rattle.changes.specs.declared.Stage.{Stage}
-use Rattle.changes.specs.declared.Stage.the-variants as stage
-use Rattle.changes.specs.declared.Entry.{Entry}
-use Rattle.changes.specs.declared.Entry.the-variants.{Keep, Add, Remove}
-use Rattle.changes.specs.declared.Change.{Change}
+use Rattle.page_list.specs.declared.PageRun.{PageRun}
+use Rattle.overlay_table.specs.Overlays.{isOverlay, placeOf, entry, addWords, removeWords}
+use Rattle.lock_table.specs.Locks.{listsOf, held}
+use Rattle.request_pages.specs.Request.{put}
+use Rattle.visibility_steps.specs.declared.Phase.{Phase}
+use Rattle.visibility_steps.specs.declared.Phase.the-variants.{Idle, Halted, Wait, FlushAll, ProtectNone0, ProtectNone1, Invalidate, Release, Modify, Accept, Zero, ProtectDefault0, ProtectDefault1}
+use Rattle.visibility_steps.specs.declared.Places.{Places}
+use Rattle.visibility_steps.specs.declared.Writes.{Writes}
+use Rattle.change_steps.specs.declared.Stage.{Stage}
+use Rattle.change_steps.specs.declared.Stage.the-variants as stage
+use Rattle.change_steps.specs.declared.Entry.{Entry}
+use Rattle.change_steps.specs.declared.Entry.the-variants.{Keep, Add, Remove}
+use Rattle.change_steps.specs.declared.Change.{Change}
 use Rattle.protector_state.specs.declared.Reply.{Reply}
 use Rattle.protector_state.specs.State.{phaseIn, settingsOf, entriesIn}
 use Rattle.change_state.specs.State.{stageIn, isChanging}

@@ -6,10 +6,10 @@ ghost use lib.Dec.{eqb};
 ghost use lib.ListN.{length};
 ghost use Rattle.layout.specs.Layout.{entriesOf, mapLen};
 ghost use Rattle.mapping.specs.Maps.{maps, perms, marksFit};
-ghost use Rattle.pages.specs.Pages.{pagesOf};
-ghost use Rattle.request.specs.Request.{put};
-ghost use Rattle.acceptor.specs.Steps.{startOf};
-ghost use Rattle.acceptor.specs.Next.{runIn, permittedAt, flagsAt, nextStep};
+ghost use Rattle.page_list.specs.Pages.{pagesOf};
+ghost use Rattle.request_pages.specs.Request.{put};
+ghost use Rattle.visibility_steps.specs.Steps.{startOf};
+ghost use Rattle.visibility_steps.specs.Next.{runIn, permittedAt, flagsAt, nextStep};
 ghost use Rattle.protector_state.specs.State.{stateLen, withRequest, settingsOf, entriesIn};
 ghost use Rattle.protector_state.specs.Reply.{flatOf};
 ghost use Rattle.protector.specs.World.{pagesLen, tablesLen, overlaysOf, locksOf, isLocked, lengthsFit, statusOf, statusIn, takes, takesAt, takesIn, putPlaces, putPermissions, applied, isEmpty, isNothing};
@@ -21,17 +21,17 @@ use abi::operation;
 use abi::place;
 use abi::refusal;
 use abi::table;
-use acceptor::Next;
-use acceptor::Phase;
-use acceptor::Places;
-use acceptor::Request;
-use acceptor::Settings;
-use acceptor::Step;
-use acceptor::Writes;
-use changes::Stage;
-use pages::PageRun;
+use change_steps::Stage;
+use page_list::PageRun;
 use permissions::GuestVtl;
 use protector_state::Reply;
+use visibility_steps::Next;
+use visibility_steps::Phase;
+use visibility_steps::Places;
+use visibility_steps::Request;
+use visibility_steps::Settings;
+use visibility_steps::Step;
+use visibility_steps::Writes;
 
 // The tables of one VTL.
 pub fn overlays_of(tables: &[u64], vtl: GuestVtl) -> &[u64]
@@ -57,8 +57,8 @@ pub fn locks_of(tables: &[u64], vtl: GuestVtl) -> &[u64]
 pub fn is_locked(overlays: &[u64], locks: &[u64], gpn: u64) -> bool
     ensures { λ r. ⌜ r ≡ isLocked (now (overlays .entry)) (now (locks .entry)) gpn ⌝ }
 {
-    if locks::holds(locks, gpn) {
-        !overlays::is_overlay(overlays, gpn)
+    if lock_table::holds(locks, gpn) {
+        !overlay_table::is_overlay(overlays, gpn)
     } else {
         false
     }
@@ -179,7 +179,7 @@ fn page_refusal(ram: &[u64], overlays: &[u64], locks: &[u64], share: bool, gpn: 
         return refusal::LOCKED;
     }
     if share {
-        if overlays::is_overlay(overlays, gpn) {
+        if overlay_table::is_overlay(overlays, gpn) {
             return refusal::OVERLAY;
         }
     }
@@ -190,10 +190,10 @@ fn page_refusal(ram: &[u64], overlays: &[u64], locks: &[u64], share: bool, gpn: 
 fn pages_refusal(ram: &[u64], overlays: &[u64], locks: &[u64], share: bool, list: &[u8]) -> u64
     ensures { λ r. ⌜ r ≡ firstRefusal (pageRefusal (entriesOf (now (ram .entry))) (now (overlays .entry)) (now (locks .entry)) share) (pagesOf (now (list .entry))) ⌝ }
 {
-    let count = pages::page_count(list);
+    let count = page_list::page_count(list);
     let mut i: u64 = 0;
     while i < count {
-        let n = page_refusal(ram, overlays, locks, share, pages::page_at(list, i));
+        let n = page_refusal(ram, overlays, locks, share, page_list::page_at(list, i));
         if n != 0 {
             return n;
         }
@@ -255,10 +255,10 @@ pub fn visibility_refusal(
     ) {
         return refusal::WRONG_LENGTH;
     }
-    if pages::is_long(list) {
+    if page_list::is_long(list) {
         return refusal::LONG_LIST;
     }
-    if pages::has_repeat(list) {
+    if page_list::has_repeat(list) {
         return refusal::REPEATED_PAGE;
     }
     if !permissions::is_vtl(vtl) {
@@ -267,7 +267,7 @@ pub fn visibility_refusal(
     if 1 < visibility {
         return refusal::UNFIT_NUMBER;
     }
-    if pages::is_ragged(list) {
+    if page_list::is_ragged(list) {
         return refusal::UNFIT_NUMBER;
     }
     let v = permissions::vtl_of(vtl);
@@ -333,7 +333,7 @@ fn set_marks(map: &mut [u8], pages: &[u64], places: Places, state: bool)
 {
     let from = places.from;
     let to = places.to;
-    request::set_places(map, pages, from, to, state);
+    request_pages::set_places(map, pages, from, to, state);
 }
 
 fn is_empty(p: Places) -> bool
@@ -421,7 +421,7 @@ fn mark(map: &mut [u8], pages: &[u64], from: u64, to: u64)
     if to <= from {
         return;
     }
-    request::set_places(map, pages, from, to, true);
+    request_pages::set_places(map, pages, from, to, true);
 }
 
 // The default permissions of VTL0 for the run of a phase that asks for them.
@@ -440,7 +440,7 @@ fn permit_default(
     requires { ⌜ (length (now state) ≡ stateLen) × (n ≤ length (now pages)) × (run ≡ runIn phase (now pages) n at) ⌝ }
     ensures { λ _. ⌜ perms (now (read .exit)) (now (write .exit)) (now (kernel .exit)) (now (user .exit)) ≡ putPermissions (now (pages .entry)) (permittedAt (settingsOf (now (state .entry))) phase (now (pages .entry)) n at) (flagsAt (settingsOf (now (state .entry))) phase) (perms (now (read .entry)) (now (write .entry)) (now (kernel .entry)) (now (user .entry))) ⌝ }
 {
-    if !acceptor::is_default0(phase) {
+    if !visibility_steps::is_default0(phase) {
         return;
     }
     if !protector_state::is_tracked(state) {
@@ -450,10 +450,10 @@ fn permit_default(
         return;
     }
     let flags = protector_state::default_vtl0(state);
-    request::set_run_at(read, pages, n, at, run, flags.readable);
-    request::set_run_at(write, pages, n, at, run, flags.writable);
-    request::set_run_at(kernel, pages, n, at, run, flags.kernel_executable);
-    request::set_run_at(user, pages, n, at, run, flags.user_executable);
+    request_pages::set_run_at(read, pages, n, at, run, flags.readable);
+    request_pages::set_run_at(write, pages, n, at, run, flags.writable);
+    request_pages::set_run_at(kernel, pages, n, at, run, flags.kernel_executable);
+    request_pages::set_run_at(user, pages, n, at, run, flags.user_executable);
 }
 
 // What an answer leads to, carried out.
@@ -477,7 +477,7 @@ fn carry_on(
     let turn = x.turn;
     let phase = x.phase;
     let m = x.marks;
-    let run = acceptor::run_in(phase, pages, q.n, x.at);
+    let run = visibility_steps::run_in(phase, pages, q.n, x.at);
     mark(private, pages, 0, m.private);
     mark(shared, pages, m.from, m.to);
     permit_default(
@@ -493,7 +493,7 @@ fn carry_on(
         run,
     );
     let r = protector_state::next_reply(state, turn, phase, q, run);
-    protector_state::save(state, phase, acceptor::next_request(turn, q, x.at));
+    protector_state::save(state, phase, visibility_steps::next_request(turn, q, x.at));
     r
 }
 
@@ -516,7 +516,7 @@ pub fn answer_done(
     let set = protector_state::settings(state);
     let phase = protector_state::phase(state);
     let q = protector_state::load(state);
-    let x = acceptor::done(set, phase, q, pages);
+    let x = visibility_steps::done(set, phase, q, pages);
     carry_on(
         private,
         shared,
@@ -552,12 +552,12 @@ pub fn begin(
     ensures { λ _. ⌜ now (state .exit) ≡ withRequest (startOf (settingsOf (now (state .entry))) vtl share n stop stopped .phase) (startOf (settingsOf (now (state .entry))) vtl share n stop stopped .request) (now (state .entry)) ⌝ }
     ensures { λ r. ⌜ r ≡ flatOf (settingsOf (now (state .entry)) .isolation) (startOf (settingsOf (now (state .entry))) vtl share n stop stopped .answer) ⌝ }
 {
-    let w = acceptor::clears(protector_state::is_tracked(state), vtl, share, n);
+    let w = visibility_steps::clears(protector_state::is_tracked(state), vtl, share, n);
     apply(private, shared, read, write, kernel, user, pages, w);
     protector_state::save(
         state,
         Phase::Wait,
-        acceptor::asked(vtl, share, n, stop, stopped),
+        visibility_steps::asked(vtl, share, n, stop, stopped),
     );
     protector_state::plain(operation::WAIT)
 }

@@ -10,13 +10,13 @@ use Rattle.laws.specs.Bools.{digit, chose, chose-not}
 use Rattle.words.proofs.Laws.{filled-next}
 use Rattle.layout.specs.Layout.{entriesOf}
 use Rattle.permissions.specs.Flags.{vtlNumber}
-use Rattle.acceptor.specs.declared.Phase.{Phase}
-use Rattle.acceptor.specs.declared.Request.{Request}
+use Rattle.visibility_steps.specs.declared.Phase.{Phase}
+use Rattle.visibility_steps.specs.declared.Request.{Request}
 use Rattle.permissions.specs.declared.IsolationType.{IsolationType}
 use Rattle.permissions.specs.HvError.{codeOf}
 use mathlib.Core.Bool.{Bool, true, false, cond}
-use Rattle.acceptor.specs.declared.Answer.the-variants.{Done, AccessDenied, Failed}
-use Rattle.acceptor.specs.Steps as acceptor
+use Rattle.visibility_steps.specs.declared.Answer.the-variants.{Done, AccessDenied, Failed}
+use Rattle.visibility_steps.specs.Steps as visibilitySteps
 use Rattle.protector_state.specs.declared.Reply.{Reply}
 use Rattle.protector_state.specs.Reply.{finished, endedOf, flatOf}
 use Rattle.protector_state.specs.State.{phaseNumber, withRequest, ramOf, builtState}
@@ -88,7 +88,7 @@ module _ (q : Request) (r : Reply) where
   pub ended-done : q .stopped ≡ false → q .failed ≡ false → r ≡ finished 0 0 0 (q .count) → r ≡ endedOf q
   ended-done h g e = chose-not (q .stopped) (q .stopped) _ _ r refl h (chose-not (q .failed) (q .failed) _ _ r refl g e)
 
-pub ended-flat : (i : IsolationType) (q : Request) → endedOf q ≡ flatOf i (acceptor.finished q)
+pub ended-flat : (i : IsolationType) (q : Request) → endedOf q ≡ flatOf i (visibilitySteps.finished q)
 unfolding flatOf
 ended-flat i q = go (q .stopped) (q .failed)
   where

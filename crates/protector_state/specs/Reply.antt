@@ -11,13 +11,13 @@ use Rattle.permissions.specs.declared.HvMapGpaFlags.{HvMapGpaFlags}
 use Rattle.permissions.specs.Flags.{vtlNumber, bitsOf}
 use Rattle.permissions.specs.Rmpadjust.{operandOf}
 use Rattle.permissions.specs.HvError.{codeOf}
-use Rattle.pages.specs.declared.PageRun.{PageRun}
-use Rattle.acceptor.specs.declared.Operation.{Operation}
-use Rattle.acceptor.specs.declared.Operation.the-variants.{Wait, FlushAll, Protect, Invalidate, Release, Modify, Accept, Zero, Flush, TlbWait}
-use Rattle.acceptor.specs.declared.Answer.{Answer}
-use Rattle.acceptor.specs.declared.Answer.the-variants.{Done, AccessDenied, Failed, Halted, Ask, Refused}
-use Rattle.acceptor.specs.declared.Request.{Request}
-use Rattle.acceptor.specs.Steps.{isSnp}
+use Rattle.page_list.specs.declared.PageRun.{PageRun}
+use Rattle.visibility_steps.specs.declared.Operation.{Operation}
+use Rattle.visibility_steps.specs.declared.Operation.the-variants.{Wait, FlushAll, Protect, Invalidate, Release, Modify, Accept, Zero, Flush, TlbWait}
+use Rattle.visibility_steps.specs.declared.Answer.{Answer}
+use Rattle.visibility_steps.specs.declared.Answer.the-variants.{Done, AccessDenied, Failed, Halted, Ask, Refused}
+use Rattle.visibility_steps.specs.declared.Request.{Request}
+use Rattle.visibility_steps.specs.Steps.{isSnp}
 use Rattle.protector_state.specs.declared.Reply.{Reply}
 
 -- a call refused or finished: the number, its code, its index, the count

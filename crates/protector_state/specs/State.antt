@@ -18,10 +18,10 @@ use Rattle.layout.specs.Layout.{entriesOf}
 use Rattle.permissions.specs.declared.OptionFlags.{OptionFlags}
 use Rattle.permissions.specs.declared.OptionFlags.the-variants.{Some, None}
 use Rattle.permissions.specs.Flags.{vtlOf, vtlNumber, isolationOf, fitFlags, flagsOf, boolOf}
-use Rattle.acceptor.specs.declared.Phase.{Phase}
-use Rattle.acceptor.specs.declared.Phase.the-variants.{Idle, Halted, Wait, FlushAll, ProtectNone0, ProtectNone1, Invalidate, Release, Modify, Accept, Zero, ProtectDefault0, ProtectDefault1}
-use Rattle.acceptor.specs.declared.Request.{Request}
-use Rattle.acceptor.specs.declared.Settings.{Settings}
+use Rattle.visibility_steps.specs.declared.Phase.{Phase}
+use Rattle.visibility_steps.specs.declared.Phase.the-variants.{Idle, Halted, Wait, FlushAll, ProtectNone0, ProtectNone1, Invalidate, Release, Modify, Accept, Zero, ProtectDefault0, ProtectDefault1}
+use Rattle.visibility_steps.specs.declared.Request.{Request}
+use Rattle.visibility_steps.specs.declared.Settings.{Settings}
 
 -- ---- a visibility change under way
 

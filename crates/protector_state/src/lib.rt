@@ -5,8 +5,8 @@ ghost use mathlib.Core.Bool.{cond};
 ghost use lib.ListN.{length};
 ghost use Rattle.abi.specs.Refusals as refusal;
 ghost use Rattle.abi.specs.Lengths.{ramLen};
-ghost use Rattle.acceptor.specs.Steps.{isSnp, orNone, operationOn};
-ghost use Rattle.acceptor.specs.Next.{answerBy};
+ghost use Rattle.visibility_steps.specs.Steps.{isSnp, orNone, operationOn};
+ghost use Rattle.visibility_steps.specs.Next.{answerBy};
 ghost use Rattle.permissions.specs.HvError.{codeOf};
 ghost use Rattle.permissions.specs.Rmpadjust.{operandOf};
 ghost use Rattle.protector_state.specs.State.{stateLen, phaseNumber, firstPhases, phaseOf, phaseIn, requestOf, withRequest, optionOf, settingsOf, ramOf, builtState};
@@ -19,18 +19,18 @@ use abi::operation;
 use abi::phase;
 use abi::place;
 use abi::refusal;
-use acceptor::Answer;
-use acceptor::Operation;
-use acceptor::Phase;
-use acceptor::Request;
-use acceptor::Settings;
-use acceptor::Turn;
-use pages::PageRun;
+use page_list::PageRun;
 use permissions::DefaultVtlPermissions;
 use permissions::GuestVtl;
 use permissions::HvMapGpaFlags;
 use permissions::IsolationType;
 use permissions::OptionFlags;
+use visibility_steps::Answer;
+use visibility_steps::Operation;
+use visibility_steps::Phase;
+use visibility_steps::Request;
+use visibility_steps::Settings;
+use visibility_steps::Turn;
 
 // What crosses: 01's number (0 where none), code, index and count of a call, and the operation asked for (0 where none):
 // 1 Wait, 2 FlushAll, 3 Protect, 4 Invalidate, 5 Release, 6 Modify, 7 Accept, 8 Zero, 9 Flush, 10 TlbWait.
@@ -49,6 +49,7 @@ pub struct Reply {
     pub shared: u64,
 }
 
+// A call that ended, with its number, code, index and count; nothing is asked for.
 pub fn finished(number: u64, code: u64, index: u64, count: u64) -> Reply
     ensures { λ r. ⌜ r ≡ finished number code index count ⌝ }
 {
@@ -67,12 +68,14 @@ pub fn finished(number: u64, code: u64, index: u64, count: u64) -> Reply
     }
 }
 
+// A call that a number refuses, with its code: Ok where it is 0.
 pub fn refused(number: u64) -> Reply
     ensures { λ r. ⌜ r ≡ finished number (codeOf number) 0 0 ⌝ }
 {
     finished(number, permissions::hv_error(number), 0, 0)
 }
 
+// An operation is asked for that names neither a VTL nor pages.
 pub fn plain(operation: u64) -> Reply
     ensures { λ r. ⌜ r ≡ plain operation ⌝ }
 {
@@ -91,6 +94,7 @@ pub fn plain(operation: u64) -> Reply
     }
 }
 
+// An operation is asked for that names a VTL alone.
 pub fn on_vtl(operation: u64, vtl: GuestVtl) -> Reply
     ensures { λ r. ⌜ r ≡ onVtl operation vtl ⌝ }
 {
@@ -202,6 +206,7 @@ fn stopped(index: u64, count: u64) -> Reply
     )
 }
 
+// What crosses for an answer; the isolation tells whether a Protect has an operand.
 pub fn flatten(isolation: IsolationType, answer: Answer) -> Reply
     ensures { λ r. ⌜ r ≡ flatOf isolation answer ⌝ }
 {
@@ -300,6 +305,7 @@ fn phase_of(n: u64) -> Phase
     first_phases(n)
 }
 
+// The phase by its number in the state block: Halted where it is the number of none.
 pub fn phase(state: &[u64]) -> Phase
     requires { ⌜ length (now state) ≡ stateLen ⌝ }
     ensures { λ r. ⌜ r ≡ phaseIn (now (state .entry)) ⌝ }
@@ -325,6 +331,7 @@ pub fn load(state: &[u64]) -> Request
     }
 }
 
+// A phase and its request are stored: no other word is written.
 pub fn save(state: &mut [u64], phase: Phase, q: Request)
     requires { ⌜ length (now state) ≡ stateLen ⌝ }
     ensures { λ _. ⌜ now (state .exit) ≡ withRequest phase q (now (state .entry)) ⌝ }
@@ -357,6 +364,7 @@ fn option_of(n: u64) -> OptionFlags
     }
 }
 
+// The settings in the state block.
 pub fn settings(state: &[u64]) -> Settings
     requires { ⌜ length (now state) ≡ stateLen ⌝ }
     ensures { λ r. ⌜ r ≡ settingsOf (now (state .entry)) ⌝ }
@@ -380,6 +388,7 @@ fn isolation(state: &[u64]) -> IsolationType
     permissions::isolation_of(state[place::ISOLATION])
 }
 
+// Whether permissions are tracked.
 pub fn is_tracked(state: &[u64]) -> bool
     requires { ⌜ length (now state) ≡ stateLen ⌝ }
     ensures { λ r. ⌜ r ≡ settingsOf (now (state .entry)) .tracked ⌝ }
@@ -387,6 +396,7 @@ pub fn is_tracked(state: &[u64]) -> bool
     state[place::TRACKED] == 1
 }
 
+// The flags of VTL0's default.
 pub fn default_vtl0(state: &[u64]) -> HvMapGpaFlags
     requires { ⌜ length (now state) ≡ stateLen ⌝ }
     ensures { λ r. ⌜ r ≡ settingsOf (now (state .entry)) .defaults .vtl0 ⌝ }
@@ -398,7 +408,7 @@ fn default_vtl1(state: &[u64]) -> HvMapGpaFlags
     requires { ⌜ length (now state) ≡ stateLen ⌝ }
     ensures { λ r. ⌜ r ≡ orNone (settingsOf (now (state .entry)) .defaults .vtl1) ⌝ }
 {
-    acceptor::or_none(option_of(state[place::DEFAULT1]))
+    visibility_steps::or_none(option_of(state[place::DEFAULT1]))
 }
 
 // What crosses for the operation of a phase. Only what it needs is read from the state.

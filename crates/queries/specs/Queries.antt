@@ -18,8 +18,8 @@ use Rattle.access.specs.Query.{accessPermission, lowerVtlPermissions, permissio
 use Rattle.fault.specs.declared.PageFaultAction.{PageFaultAction}
 use Rattle.fault.specs.declared.PageFaultAction.the-variants as fault
 use Rattle.fault.specs.Fault.{pageFault, faultNumber, faultValue}
-use Rattle.pages.specs.Pages.{pagesOf, isLong, isRagged}
-use Rattle.request.specs.Request.{stopAt}
+use Rattle.page_list.specs.Pages.{pagesOf, isLong, isRagged}
+use Rattle.request_pages.specs.Request.{stopAt}
 use Rattle.protector_state.specs.declared.Reply.{Reply}
 use Rattle.protector_state.specs.State.{stateLen, settingsOf, entriesIn}
 use Rattle.protector_state.specs.Reply.{finished}

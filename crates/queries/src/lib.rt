@@ -3,8 +3,8 @@ ghost use mathlib.Core.Path.{_≡_};
 ghost use Rattle.laws.specs.Bools.{digit};
 ghost use Rattle.bitmap.specs.Pages.{bitAt};
 ghost use Rattle.layout.specs.Layout.{entriesOf, isRam};
-ghost use Rattle.pages.specs.Pages.{pagesOf};
-ghost use Rattle.request.specs.Request.{stopAt};
+ghost use Rattle.page_list.specs.Pages.{pagesOf};
+ghost use Rattle.request_pages.specs.Request.{stopAt};
 ghost use Rattle.queries.specs.Queries.{queryRefusal, visibilities, filledBy, faultValueOf, permissionsValueOf};
 use abi::STATE_WORDS;
 use abi::refusal;
@@ -50,10 +50,10 @@ pub fn query_refusal(state: &[u64], shared: u64, list: &[u8]) -> u64
     if shared != layout::map_len(protector_state::ram_of(state)) {
         return refusal::WRONG_LENGTH;
     }
-    if pages::is_long(list) {
+    if page_list::is_long(list) {
         return refusal::LONG_LIST;
     }
-    if pages::is_ragged(list) {
+    if page_list::is_ragged(list) {
         return refusal::UNFIT_NUMBER;
     }
     0
@@ -63,10 +63,10 @@ pub fn query_refusal(state: &[u64], shared: u64, list: &[u8]) -> u64
 pub fn ram_before(ram: &[u64], list: &[u8]) -> u64
     ensures { λ r. ⌜ r ≡ stopAt (isRam (entriesOf (now (ram .entry)))) (pagesOf (now (list .entry))) ⌝ }
 {
-    let count = pages::page_count(list);
+    let count = page_list::page_count(list);
     let mut i: u64 = 0;
     while i < count {
-        let gpn = pages::page_at(list, i);
+        let gpn = page_list::page_at(list, i);
         if !layout::is_in_guest_memory(ram, gpn) {
             return i;
         }
@@ -89,10 +89,10 @@ fn shared_byte(shared: &[u8], gpn: u64) -> u8
 pub fn fill(out: &mut [u8], shared: &[u8], list: &[u8])
     ensures { λ _. ⌜ now (out .exit) ≡ filledBy (visibilities (now (shared .entry)) (pagesOf (now (list .entry)))) (now (out .entry)) ⌝ }
 {
-    let end = numbers::least(pages::page_count(list), out.len() as u64) as usize;
+    let end = numbers::least(page_list::page_count(list), out.len() as u64) as usize;
     let mut i: usize = 0;
     while i < end {
-        out[i] = shared_byte(shared, pages::page_at(list, i as u64));
+        out[i] = shared_byte(shared, page_list::page_at(list, i as u64));
         i += 1;
     }
 }

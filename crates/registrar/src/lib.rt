@@ -42,6 +42,8 @@ fn build_state(state: &mut [u64], ram: &[u64], offset: u64, granularity: u64)
     }
 }
 
+// A registrar of a layout, with no chunk registered and none failed, whatever the runs held. Nothing is asked for, and a
+// refusal changes nothing.
 #[no_mangle]
 pub extern "C" fn registrar_build(
     ram: &[u64],
@@ -109,6 +111,8 @@ fn answer(state: &[u64], n: u64, count: u64, until: u64, c: u64) -> Reply
     registrar_state::simple(0, 0, count, 0, 0, 0)
 }
 
+// The chunks that a range touches: asks for a Register of each span of RAM in those not registered, one at a time. 4, 9 and 19
+// change nothing; 23 is for a chunk that failed before, and those passed on the way to it are registered.
 #[no_mangle]
 pub extern "C" fn registrar_register(
     state: &mut [u64],
@@ -154,6 +158,8 @@ fn all_on(
     registrar_state::flatten(answer)
 }
 
+// The aligned part of each span: asks for a Register of each stretch not registered, one at a time. 4, 8, 9 and 19 change
+// nothing; 22, at an unaligned span, and 23, at a chunk that failed before, leave what is registered until then.
 #[no_mangle]
 pub extern "C" fn registrar_register_all_aligned(
     state: &mut [u64],
@@ -198,7 +204,8 @@ fn all_done(state: &mut [u64], registered: &mut [u64], failed: &[u64]) -> Reply
     all_on(state, registered, failed, q.count, q.alignment, q.ignore, c)
 }
 
-// The operation asked for is done.
+// The Register asked for is done: its chunks are registered unless RAM of theirs is left, and the next Register is asked for or
+// the call ends. 4 and 21 change nothing.
 #[no_mangle]
 pub extern "C" fn registrar_answer_done(
     state: &mut [u64],
@@ -218,7 +225,7 @@ pub extern "C" fn registrar_answer_done(
     all_done(state, registered, failed)
 }
 
-// The operation asked for failed.
+// The Register asked for failed: its chunks are marked as failed, and the call ends with 23. 4 and 21 change nothing.
 #[no_mangle]
 pub extern "C" fn registrar_answer_failed(
     state: &mut [u64],

@@ -15,13 +15,13 @@ use Rattle.permissions.specs.declared.GuestVtl.{GuestVtl}
 use Rattle.permissions.specs.Flags.{fitIsolation, flagsOf}
 use Rattle.permissions.specs.HvError.{codeOf}
 use Rattle.mapping.specs.Maps.{Maps, Permissions, maps, perms, built, marksFit}
-use Rattle.pages.specs.Pages.{pagesOf, isLong}
-use Rattle.pages.proofs.Laws.{long-le}
-use Rattle.request.specs.Request.{pick, tableOf, stopAt, isOpen, wanted}
-use Rattle.acceptor.specs.declared.Settings.{Settings}
-use Rattle.acceptor.specs.declared.Step.{Step}
-use Rattle.acceptor.specs.Steps.{startOf}
-use Rattle.changes.specs.declared.ChangeStep.{ChangeStep}
+use Rattle.page_list.specs.Pages.{pagesOf, isLong}
+use Rattle.page_list.proofs.Laws.{long-le}
+use Rattle.request_pages.specs.Request.{pick, tableOf, stopAt, isOpen, wanted}
+use Rattle.visibility_steps.specs.declared.Settings.{Settings}
+use Rattle.visibility_steps.specs.declared.Step.{Step}
+use Rattle.visibility_steps.specs.Steps.{startOf}
+use Rattle.change_steps.specs.declared.ChangeStep.{ChangeStep}
 use Rattle.protector_state.specs.declared.Reply.{Reply}
 use Rattle.protector_state.specs.State.{stateLen, withRequest, settingsOf, builtState}
 use Rattle.protector_state.specs.Reply.{finished, flatOf}

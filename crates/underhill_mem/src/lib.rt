@@ -12,6 +12,8 @@ use fault::PageFaultAction;
 use protector_state::Reply;
 use queries::Value;
 
+// A protector of a layout: RAM private with all permissions, and empty tables, whatever the runs held. No operation is asked
+// for, and a refusal changes nothing.
 #[no_mangle]
 pub extern "C" fn protector_build(
     ram: &[u64],
@@ -54,6 +56,8 @@ pub extern "C" fn protector_build(
     protector_state::finished(0, 0, 0, 0)
 }
 
+// The pages of a list that aren't yet as wanted become shared or private: their old marks are cleared and Wait is asked for,
+// then the answers lead on. A refusal changes nothing.
 #[no_mangle]
 pub extern "C" fn protector_change_host_visibility(
     private: &mut [u8],
@@ -92,9 +96,9 @@ pub extern "C" fn protector_change_host_visibility(
     let v = permissions::vtl_of(vtl);
     let share = visibility == 1;
     let looks = protector::looks_at(set, v, share);
-    let stop = request::stop_at(read, write, looks, list);
-    let count = request::store(pages, shared, share, list, stop);
-    let stopped = stop < pages::page_count(list);
+    let stop = request_pages::stop_at(read, write, looks, list);
+    let count = request_pages::store(pages, shared, share, list, stop);
+    let stopped = stop < page_list::page_count(list);
     protector::begin(
         private,
         shared,
@@ -112,7 +116,8 @@ pub extern "C" fn protector_change_host_visibility(
     )
 }
 
-// The operation asked for is done.
+// The operation asked for is done: the call's next one is asked for, or the call ends. An answer that isn't taken changes
+// nothing.
 #[no_mangle]
 pub extern "C" fn protector_answer_done(
     private: &mut [u8],
@@ -143,12 +148,13 @@ pub extern "C" fn protector_answer_done(
         return protector_state::refused(n);
     }
     if change_state::is_changing(state) {
-        return protections::answer_done(private, read, write, kernel, user, state, pages, tables);
+        return change_writes::answer_done(private, read, write, kernel, user, state, pages, tables);
     }
     protector::answer_done(private, shared, read, write, kernel, user, state, pages)
 }
 
-// The operation asked for failed.
+// The operation asked for failed: the call halts, ends with 16, or goes on with the pages that Modify processed, to end with 16
+// then. An answer that isn't taken changes nothing.
 #[no_mangle]
 pub extern "C" fn protector_answer_failed(
     private: &mut [u8],
@@ -181,12 +187,12 @@ pub extern "C" fn protector_answer_failed(
         return protector_state::refused(n);
     }
     if change_state::is_changing(state) {
-        return protections::answer_failed(read, write, kernel, user, state, tables);
+        return change_writes::answer_failed(read, write, kernel, user, state, tables);
     }
     let set = protector_state::settings(state);
     let phase = protector_state::phase(state);
     let q = protector_state::load(state);
-    let s = acceptor::failed(set, phase, q, pages, code as u64, processed);
+    let s = visibility_steps::failed(set, phase, q, pages, code as u64, processed);
     protector::carry_out(
         private,
         shared,
@@ -201,7 +207,8 @@ pub extern "C" fn protector_answer_failed(
     )
 }
 
-// A byte for each page of a list: 0 private, 1 shared. A short output is filled as far as it goes.
+// A byte for each page of a list: 0 private, 1 shared. A short output is filled as far as it goes. No operation is asked for,
+// and a refusal writes nothing.
 #[no_mangle]
 pub extern "C" fn protector_query_host_visibility(
     state: &[u64],
@@ -216,7 +223,7 @@ pub extern "C" fn protector_query_host_visibility(
         return protector_state::refused(n);
     }
     let before = queries::ram_before(protector_state::ram_of(state), list);
-    if before < pages::page_count(list) {
+    if before < page_list::page_count(list) {
         return protector_state::finished(
             refusal::NOT_RAM,
             permissions::hv_error(refusal::NOT_RAM),
@@ -228,6 +235,8 @@ pub extern "C" fn protector_query_host_visibility(
     protector_state::finished(0, 0, 0, 0)
 }
 
+// What a fault at an address gives: Retry, or what is in its way. It is answered while a call is under way or halted too, asks
+// for no operation and writes nothing.
 #[no_mangle]
 pub extern "C" fn protector_page_fault(
     private: &[u8],
@@ -267,6 +276,8 @@ pub extern "C" fn protector_page_fault(
     ))
 }
 
+// The flags that a VTL has for a page. It is answered while a call is under way or halted too, asks for no operation and writes
+// nothing.
 #[no_mangle]
 pub extern "C" fn protector_query_lower_vtl_permissions(
     private: &[u8],
@@ -300,6 +311,8 @@ pub extern "C" fn protector_query_lower_vtl_permissions(
     ))
 }
 
+// The flags that the permission maps have for a page: 24 where there are no such maps. It is answered while a call is under way
+// or halted too, asks for no operation and writes nothing.
 #[no_mangle]
 pub extern "C" fn protector_query_access_permission(
     private: &[u8],

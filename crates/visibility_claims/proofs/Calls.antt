@@ -17,21 +17,21 @@ use Rattle.permissions.specs.declared.IsolationType.{IsolationType}
 use Rattle.permissions.specs.Flags.{fitVtl, vtlOf, vtlNumber, fitBool, boolOf}
 use Rattle.layout.specs.Layout.{mapLen}
 use Rattle.mapping.specs.Maps.{Maps, Permissions, marksFit, permissionLen, permissionsFit}
-use Rattle.pages.specs.declared.PageRun.{PageRun}
-use Rattle.pages.specs.Pages.{pagesOf, isLong, repeats, isRagged}
-use Rattle.request.specs.Request.{pickPlaces, put, wanted}
-use Rattle.request.proofs.Table.{in-use, length-table, length-pick, place-of, pages-few, stop-unasked}
-use Rattle.acceptor.specs.declared.Phase.{Phase}
-use Rattle.acceptor.specs.declared.Phase.the-variants as at
-use Rattle.acceptor.specs.declared.Operation as declared
-use Rattle.acceptor.specs.declared.Operation.the-variants as crossed
-use Rattle.acceptor.specs.declared.Answer.{Answer}
-use Rattle.acceptor.specs.declared.Answer.the-variants.{Done, AccessDenied, Failed, Halted, Ask, Refused}
-use Rattle.acceptor.specs.declared.Settings.{Settings}
-use Rattle.acceptor.specs.declared.Request.{Request}
-use Rattle.acceptor.specs.declared.Writes.{Writes}
-use Rattle.acceptor.specs.declared.Step.{Step}
-use Rattle.acceptor.specs.Steps.{runOf, operationOn, operationOf, counted, ask, noRequest, end, halt, doneOf, failedOf, startOf}
+use Rattle.page_list.specs.declared.PageRun.{PageRun}
+use Rattle.page_list.specs.Pages.{pagesOf, isLong, repeats, isRagged}
+use Rattle.request_pages.specs.Request.{pickPlaces, put, wanted}
+use Rattle.request_pages.proofs.Table.{in-use, length-table, length-pick, place-of, pages-few, stop-unasked}
+use Rattle.visibility_steps.specs.declared.Phase.{Phase}
+use Rattle.visibility_steps.specs.declared.Phase.the-variants as at
+use Rattle.visibility_steps.specs.declared.Operation as declared
+use Rattle.visibility_steps.specs.declared.Operation.the-variants as crossed
+use Rattle.visibility_steps.specs.declared.Answer.{Answer}
+use Rattle.visibility_steps.specs.declared.Answer.the-variants.{Done, AccessDenied, Failed, Halted, Ask, Refused}
+use Rattle.visibility_steps.specs.declared.Settings.{Settings}
+use Rattle.visibility_steps.specs.declared.Request.{Request}
+use Rattle.visibility_steps.specs.declared.Writes.{Writes}
+use Rattle.visibility_steps.specs.declared.Step.{Step}
+use Rattle.visibility_steps.specs.Steps.{runOf, operationOn, operationOf, counted, ask, noRequest, end, halt, doneOf, failedOf, startOf}
 use Rattle.protector_state.specs.declared.Reply.{Reply}
 use Rattle.protector_state.specs.State.{stateLen, phaseNumber, firstPhases, phaseOf, phaseIn, requestOf, requestWords, settingsOf, entriesIn}
 use Rattle.protector_state.specs.Reply.{modifies, askedOf, flatOf}
@@ -420,6 +420,12 @@ taken-input w vtl visibility l z = go (inputRefusal w vtl visibility l) _ (sym (
         either : (b : Bool) → eqb n 0 ≡ b → cond b d n ≡ 0 → n ≡ 0
         either true e h = eqb-true n 0 e
         either false e h = h
+
+pub taken-pages : (w : World) (vtl visibility : ℕ) (l : List ℕ) → visibilityRefusal (w .state) (fits w) (w .tables) vtl visibility l ≡ 0
+    → denial w (vtlOf vtl) (boolOf visibility) (pagesOf l) ≡ 0
+taken-pages w vtl visibility l z =
+    let d : ℕ = denial w (vtlOf vtl) (boolOf visibility) (pagesOf l) in
+    sym (ap (λ (n : ℕ). cond (eqb n 0) d n) (taken-input w vtl visibility l z)) ∙ sym (refusal-is w vtl visibility l) ∙ z
 
 pub status : (n rest : ℕ) → unless (eqb n 0) n rest ≡ 0 → (n ≡ 0) × (rest ≡ 0)
 status n rest h = go (eqb n 0) refl h

@@ -14,11 +14,11 @@ use Rattle.permissions.specs.declared.HvMapGpaFlags.{HvMapGpaFlags}
 use Rattle.permissions.specs.declared.OptionFlags.{OptionFlags}
 use Rattle.permissions.specs.declared.OptionFlags.the-variants.{Some, None}
 use Rattle.mapping.specs.Maps.{Maps}
-use Rattle.pages.specs.declared.PageRun.{PageRun}
-use Rattle.pages.specs.Runs.{run, runsOf}
-use Rattle.pages.specs.Runs as runs
-use Rattle.acceptor.specs.declared.Settings.{Settings}
-use Rattle.acceptor.specs.Steps.{startOf}
+use Rattle.page_list.specs.declared.PageRun.{PageRun}
+use Rattle.page_list.specs.Runs.{run, runsOf}
+use Rattle.page_list.specs.Runs as runs
+use Rattle.visibility_steps.specs.declared.Settings.{Settings}
+use Rattle.visibility_steps.specs.Steps.{startOf}
 use Rattle.visibility_claims.specs.Whole.{Operation, Wait, Modify, Given, Succeeds, Fails, Stand, Ok, StoppedAt, FailedAt, Halts, Whole, stands, fails, one, inTurn, perRun, flushes, unaccepts, accepts, defaults, shareOperations, withPrivate, withShared, protecting, writingNone, clearedBy, wholeShare, returned, modified, wholeReturn}
 use Rattle.visibility_claims.specs.Runs as steps
 use Rattle.visibility_claims.specs.Runs.{told, after, whole}

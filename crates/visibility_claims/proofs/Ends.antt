@@ -15,24 +15,24 @@ use Rattle.laws.specs.Refusal.{unless}
 use Rattle.permissions.specs.declared.OptionFlags.{OptionFlags}
 use Rattle.permissions.specs.declared.OptionFlags.the-variants.{Some, None}
 use Rattle.layout.specs.declared.MemoryRangeWithNode.{MemoryRangeWithNode}
-use Rattle.pages.specs.declared.PageRun.{PageRun}
-use Rattle.defaults.specs.Pieces.{span, non, pieceOf, pageUp, pieceIn, nextOf, wanted}
-use Rattle.request.specs.Request.{runEnd}
-use Rattle.request.proofs.Runs.{end-none, end-after}
-use Rattle.acceptor.specs.declared.Phase.{Phase}
-use Rattle.acceptor.specs.declared.Phase.the-variants as at
-use Rattle.acceptor.specs.declared.Settings.{Settings}
-use Rattle.acceptor.specs.declared.Request.{Request}
-use Rattle.acceptor.specs.declared.Writes.{Writes}
-use Rattle.acceptor.specs.declared.Step.{Step}
-use Rattle.acceptor.specs.Steps.{isSnp, isCca, releases, noWrites, setShared, setPrivate, setPermissions, ask, end, halt, shareRun, defaultRun, returnRun, afterFlush, afterWait, afterModify, afterAccept, afterDefault0, cutAt, failedModify, doneOf, failedOf}
-use Rattle.changes.specs.declared.Stage.{Stage}
-use Rattle.changes.specs.declared.Stage.the-variants as stage
-use Rattle.changes.specs.declared.Entry.{Entry}
-use Rattle.changes.specs.declared.Entry.the-variants.{Keep, Add, Remove}
-use Rattle.changes.specs.declared.Change.{Change}
-use Rattle.changes.specs.declared.ChangeStep.{ChangeStep}
-use Rattle.changes.specs.Changes as changes
+use Rattle.page_list.specs.declared.PageRun.{PageRun}
+use Rattle.default_change.specs.Pieces.{span, non, pieceOf, pageUp, pieceIn, nextOf, wanted}
+use Rattle.request_pages.specs.Request.{runEnd}
+use Rattle.request_pages.proofs.Runs.{end-none, end-after}
+use Rattle.visibility_steps.specs.declared.Phase.{Phase}
+use Rattle.visibility_steps.specs.declared.Phase.the-variants as at
+use Rattle.visibility_steps.specs.declared.Settings.{Settings}
+use Rattle.visibility_steps.specs.declared.Request.{Request}
+use Rattle.visibility_steps.specs.declared.Writes.{Writes}
+use Rattle.visibility_steps.specs.declared.Step.{Step}
+use Rattle.visibility_steps.specs.Steps.{isSnp, isCca, releases, noWrites, setShared, setPrivate, setPermissions, ask, end, halt, shareRun, defaultRun, returnRun, afterFlush, afterWait, afterModify, afterAccept, afterDefault0, cutAt, failedModify, doneOf, failedOf}
+use Rattle.change_steps.specs.declared.Stage.{Stage}
+use Rattle.change_steps.specs.declared.Stage.the-variants as stage
+use Rattle.change_steps.specs.declared.Entry.{Entry}
+use Rattle.change_steps.specs.declared.Entry.the-variants.{Keep, Add, Remove}
+use Rattle.change_steps.specs.declared.Change.{Change}
+use Rattle.change_steps.specs.declared.ChangeStep.{ChangeStep}
+use Rattle.change_steps.specs.Changes as changes
 use Rattle.protector_state.specs.State.{stateLen, firstPhases, phaseOf, phaseIn, requestOf, settingsOf, entriesIn}
 use Rattle.change_state.specs.State.{stageNumber, stageOf, stageIn, isChanging, changeIn, withChange}
 use Rattle.protector.specs.World.{World, overlaysOf, fits, statusOf, takes, takesAt}

@@ -10,9 +10,9 @@ use borrow.Author.Tests.{ne-eqb, eq-eqb, le-ltb, lt-ltb}
 use Rattle.laws.specs.Ranges.{between-true}
 use Rattle.layout.specs.Layout.{entriesOf, ramByte}
 use Rattle.permissions.specs.declared.GuestVtl.the-variants.{Vtl0}
-use Rattle.pages.specs.Pages.{numberOf, numberAt, numbersFrom, pagesOf, isLong, among, repeats, isRagged}
-use Rattle.overlays.specs.Overlays.{placeFrom}
-use Rattle.locks.specs.Locks.{listsFrom, held}
+use Rattle.page_list.specs.Pages.{numberOf, numberAt, numbersFrom, pagesOf, isLong, among, repeats, isRagged}
+use Rattle.overlay_table.specs.Overlays.{placeFrom}
+use Rattle.lock_table.specs.Locks.{listsFrom, held}
 use Rattle.protector_state.specs.State.{firstPhases, phaseOf, entriesIn}
 use Rattle.protector.specs.World.{overlaysOf, locksOf, fits, statusIn}
 use Rattle.protector.specs.Calls.{pageRefusal, firstRefusal, visibilityRefusal}

@@ -18,15 +18,15 @@ use Rattle.permissions.specs.declared.GuestVtl.the-variants.{Vtl0, Vtl1}
 use Rattle.permissions.specs.declared.HvMapGpaFlags.{HvMapGpaFlags}
 use Rattle.permissions.specs.Flags.{noFlags}
 use Rattle.mapping.specs.Maps.{Maps, Permissions}
-use Rattle.pages.specs.Pages.{among}
-use Rattle.pages.specs.Runs.{part, neighbours, runAt}
-use Rattle.pages.specs.declared.PageRun.{PageRun}
-use Rattle.pages.proofs.RunLaws.{run-here, part-next}
-use Rattle.request.specs.Request.{runEnd, put}
-use Rattle.request.proofs.Runs.{put-none, end-le}
-use Rattle.acceptor.specs.declared.Places.{Places}
-use Rattle.acceptor.specs.declared.Writes.{Writes}
-use Rattle.acceptor.specs.Steps.{places, writes, setPermissions, cleared}
+use Rattle.page_list.specs.Pages.{among}
+use Rattle.page_list.specs.Runs.{part, neighbours, runAt}
+use Rattle.page_list.specs.declared.PageRun.{PageRun}
+use Rattle.page_list.proofs.RunLaws.{run-here, part-next}
+use Rattle.request_pages.specs.Request.{runEnd, put}
+use Rattle.request_pages.proofs.Runs.{put-none, end-le}
+use Rattle.visibility_steps.specs.declared.Places.{Places}
+use Rattle.visibility_steps.specs.declared.Writes.{Writes}
+use Rattle.visibility_steps.specs.Steps.{places, writes, setPermissions, cleared}
 use Rattle.protector.specs.World.{putPlaces, putPermissions, applied}
 use Rattle.visibility_claims.specs.Whole.{Protect, marked, withPrivate, withShared, withPermissions, forbidden, protecting, clearedBy}
 

@@ -15,9 +15,9 @@ use Rattle.permissions.specs.declared.IsolationType.{IsolationType}
 use Rattle.permissions.specs.declared.IsolationType.the-variants.{Snp, Tdx, Cca}
 use Rattle.permissions.specs.Flags.{vtlOf, boolOf}
 use Rattle.mapping.specs.Maps.{Maps}
-use Rattle.pages.specs.Pages.{among, pagesOf}
-use Rattle.pages.specs.Runs.{runsOf}
-use Rattle.acceptor.specs.declared.Settings.{Settings}
+use Rattle.page_list.specs.Pages.{among, pagesOf}
+use Rattle.page_list.specs.Runs.{runsOf}
+use Rattle.visibility_steps.specs.declared.Settings.{Settings}
 use Rattle.protector_state.specs.State.{settingsOf}
 use Rattle.protector.specs.World.{World}
 use Rattle.visibility_claims.specs.Whole.{Operation, Wait, FlushAll, Protect, Invalidate, Release, Modify, Accept, Zero, Flush, TlbWait, Given, Succeeds, Fails, Stand, Denied, Ok, FailedAt, Halts, Whole, stands, asking, fails}

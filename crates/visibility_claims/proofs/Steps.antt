@@ -19,23 +19,23 @@ use Rattle.permissions.specs.declared.OptionFlags.{OptionFlags}
 use Rattle.permissions.specs.declared.OptionFlags.the-variants.{Some, None}
 use Rattle.permissions.specs.Flags.{noFlags}
 use Rattle.mapping.specs.Maps.{Maps}
-use Rattle.pages.specs.declared.PageRun.{PageRun}
-use Rattle.pages.specs.Runs.{part, runsOf, runAt}
-use Rattle.pages.proofs.RunLaws.{runs-at, runs-end}
-use Rattle.request.specs.Request.{runEnd}
-use Rattle.request.proofs.Runs.{end-after}
-use Rattle.acceptor.specs.declared.Phase.{Phase}
-use Rattle.acceptor.specs.declared.Phase.the-variants as at
-use Rattle.acceptor.specs.declared.Operation as declared
-use Rattle.acceptor.specs.declared.Operation.the-variants as crossed
-use Rattle.acceptor.specs.declared.Answer.the-variants.{Ask}
-use Rattle.acceptor.specs.declared.Settings.{Settings}
-use Rattle.acceptor.specs.declared.Request.{Request}
-use Rattle.acceptor.specs.declared.Places.{Places}
-use Rattle.acceptor.specs.declared.Writes.{Writes}
-use Rattle.acceptor.specs.declared.Step.{Step}
-use Rattle.acceptor.specs.Steps.{isSnp, isCca, releases, places, noWrites, setShared, setPermissions, step, operationOf, ask, end, halt, shareRun, defaultRun, returnRun, afterFlush, afterWait, afterModify, afterAccept, afterDefault0, failedModify, doneOf, failedOf, asked, cleared, startOf}
-use Rattle.acceptor.proofs.Laws as laws
+use Rattle.page_list.specs.declared.PageRun.{PageRun}
+use Rattle.page_list.specs.Runs.{part, runsOf, runAt}
+use Rattle.page_list.proofs.RunLaws.{runs-at, runs-end}
+use Rattle.request_pages.specs.Request.{runEnd}
+use Rattle.request_pages.proofs.Runs.{end-after}
+use Rattle.visibility_steps.specs.declared.Phase.{Phase}
+use Rattle.visibility_steps.specs.declared.Phase.the-variants as at
+use Rattle.visibility_steps.specs.declared.Operation as declared
+use Rattle.visibility_steps.specs.declared.Operation.the-variants as crossed
+use Rattle.visibility_steps.specs.declared.Answer.the-variants.{Ask}
+use Rattle.visibility_steps.specs.declared.Settings.{Settings}
+use Rattle.visibility_steps.specs.declared.Request.{Request}
+use Rattle.visibility_steps.specs.declared.Places.{Places}
+use Rattle.visibility_steps.specs.declared.Writes.{Writes}
+use Rattle.visibility_steps.specs.declared.Step.{Step}
+use Rattle.visibility_steps.specs.Steps.{isSnp, isCca, releases, places, noWrites, setShared, setPermissions, step, operationOf, ask, end, halt, shareRun, defaultRun, returnRun, afterFlush, afterWait, afterModify, afterAccept, afterDefault0, failedModify, doneOf, failedOf, asked, cleared, startOf}
+use Rattle.visibility_steps.proofs.Laws as laws
 use Rattle.protector.specs.World.{takes, applied}
 use Rattle.visibility_claims.specs.Whole.{Operation, Wait, FlushAll, Protect, Invalidate, Release, Modify, Accept, Zero, Given, Succeeds, Fails, Stand, Ok, StoppedAt, FailedAt, Halts, Whole, stands, fails, one, inTurn, perRun, flushes, unaccepts, accepts, defaults, withPrivate, withShared, protecting, writingNone, clearedBy, wholeShare, returned, modified, wholeReturn}
 use Rattle.visibility_claims.specs.Runs.{Last, named, before, run, told, after}

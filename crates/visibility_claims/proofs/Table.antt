@@ -2,11 +2,11 @@
 use mathlib.Core.Path.{refl}
 use Rattle.bitmap.specs.Pages.{word, writtenFrom}
 use Rattle.layout.specs.Layout.{entriesOf, ramByte}
-use Rattle.pages.specs.Pages.{numberOf, numberAt, numbersFrom, among, repeats}
-use Rattle.pages.specs.Runs.{runsOf}
-use Rattle.overlays.specs.Overlays as overlays
-use Rattle.locks.specs.Locks as locks
-use Rattle.acceptor.specs.Steps.{startOf}
+use Rattle.page_list.specs.Pages.{numberOf, numberAt, numbersFrom, among, repeats}
+use Rattle.page_list.specs.Runs.{runsOf}
+use Rattle.overlay_table.specs.Overlays as overlays
+use Rattle.lock_table.specs.Locks as locks
+use Rattle.visibility_steps.specs.Steps.{startOf}
 use Rattle.protector_state.specs.State.{firstPhases, phaseOf}
 use Rattle.protector_state.specs.Reply.{askedOf, flatOf}
 use Rattle.protector.specs.Calls.{carriedOut, firstRefusal, visibilityRefusal, visibilityTaken, visibilityOf}

@@ -9,9 +9,9 @@ use Rattle.laws.specs.Refusal.{unless}
 use Rattle.permissions.specs.declared.GuestVtl.{GuestVtl}
 use Rattle.permissions.specs.declared.IsolationType.{IsolationType}
 use Rattle.permissions.specs.Flags.{fitVtl, vtlOf, fitBool, boolOf}
-use Rattle.pages.specs.Pages.{pagesOf, isLong, repeats, isRagged}
-use Rattle.acceptor.specs.declared.Operation as declared
-use Rattle.acceptor.specs.declared.Operation.the-variants as crossed
+use Rattle.page_list.specs.Pages.{pagesOf, isLong, repeats, isRagged}
+use Rattle.visibility_steps.specs.declared.Operation as declared
+use Rattle.visibility_steps.specs.declared.Operation.the-variants as crossed
 use Rattle.protector_state.specs.declared.Reply.{Reply}
 use Rattle.protector_state.specs.State.{stateLen, settingsOf}
 use Rattle.protector_state.specs.Reply.{askedOf, flatOf}

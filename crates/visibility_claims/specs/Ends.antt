@@ -5,12 +5,12 @@ use mathlib.Core.List.{List, [], _∷_}
 use Prim.Native.Nat.{ℕ, suc, _+_, _-_, _*_, _≤_, _<_, max}
 use lib.Dec.{eqb}
 use lib.ListN.{length}
-use Rattle.acceptor.specs.declared.Phase.{Phase}
-use Rattle.acceptor.specs.declared.Phase.the-variants.{Idle, Halted, Wait, FlushAll, ProtectNone0, ProtectNone1, Invalidate, Release, Modify, Accept, Zero, ProtectDefault0, ProtectDefault1}
+use Rattle.visibility_steps.specs.declared.Phase.{Phase}
+use Rattle.visibility_steps.specs.declared.Phase.the-variants.{Idle, Halted, Wait, FlushAll, ProtectNone0, ProtectNone1, Invalidate, Release, Modify, Accept, Zero, ProtectDefault0, ProtectDefault1}
 use Rattle.layout.specs.declared.MemoryRangeWithNode.{MemoryRangeWithNode}
-use Rattle.defaults.specs.Pieces.{pageUp}
-use Rattle.changes.specs.declared.Stage.{Stage}
-use Rattle.changes.specs.declared.Stage.the-variants as stage
+use Rattle.default_change.specs.Pieces.{pageUp}
+use Rattle.change_steps.specs.declared.Stage.{Stage}
+use Rattle.change_steps.specs.declared.Stage.the-variants as stage
 use Rattle.protector_state.specs.State.{stateLen, phaseIn, requestOf, entriesIn}
 use Rattle.change_state.specs.State.{stageIn, isChanging, changeIn}
 use Rattle.protector.specs.World.{World, fits, statusIn}

@@ -6,7 +6,7 @@ use Prim.Native.Nat.{ℕ}
 use lib.Dec.{eqb, ltb}
 use lib.ListN.{length}
 use Rattle.layout.specs.Layout.{entriesOf, mapLen}
-use Rattle.pages.specs.Pages.{pagesOf}
+use Rattle.page_list.specs.Pages.{pagesOf}
 use Rattle.protector_state.specs.declared.Reply.{Reply}
 use Rattle.protector.specs.World.{World, Outcome, fits}
 use Rattle.protector.specs.Calls.{buildFits, buildRefusal, buildOf, visibilityRefusal, visibilityOf, answerRefusal}

@@ -4,13 +4,13 @@ use mathlib.Core.List.{List, [], _∷_, _++_}
 use Prim.Native.Nat.{ℕ, _+_, _%_, _^_}
 use lib.ListN.{length, take}
 use Rattle.mapping.specs.Maps.{Maps}
-use Rattle.acceptor.specs.declared.Operation as declared
-use Rattle.acceptor.specs.declared.Operation.the-variants as crossed
-use Rattle.acceptor.specs.declared.Answer.{Answer}
-use Rattle.acceptor.specs.declared.Answer.the-variants.{Done, AccessDenied, Failed, Halted, Ask, Refused}
-use Rattle.acceptor.specs.declared.Settings.{Settings}
-use Rattle.acceptor.specs.declared.Step.{Step}
-use Rattle.acceptor.specs.Steps.{doneOf, failedOf}
+use Rattle.visibility_steps.specs.declared.Operation as declared
+use Rattle.visibility_steps.specs.declared.Operation.the-variants as crossed
+use Rattle.visibility_steps.specs.declared.Answer.{Answer}
+use Rattle.visibility_steps.specs.declared.Answer.the-variants.{Done, AccessDenied, Failed, Halted, Ask, Refused}
+use Rattle.visibility_steps.specs.declared.Settings.{Settings}
+use Rattle.visibility_steps.specs.declared.Step.{Step}
+use Rattle.visibility_steps.specs.Steps.{doneOf, failedOf}
 use Rattle.protector.specs.World.{takes, applied}
 use Rattle.visibility_claims.specs.Whole.{Operation, Wait, FlushAll, Protect, Invalidate, Release, Modify, Accept, Zero, Flush, TlbWait, Given, Succeeds, Fails, Stand, Denied, Waits, Ok, StoppedAt, FailedAt, Halts, Whole}
 

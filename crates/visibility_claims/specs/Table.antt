@@ -11,9 +11,9 @@ use Rattle.permissions.specs.declared.GuestVtl.the-variants.{Vtl0, Vtl1}
 use Rattle.permissions.specs.Flags.{noFlags, allFlags}
 use Rattle.permissions.specs.HvError.{codeOf}
 use Rattle.mapping.specs.Maps.{Maps, maps, built}
-use Rattle.pages.specs.Runs.{run}
-use Rattle.overlays.specs.Overlays as overlays
-use Rattle.locks.specs.Locks as locks
+use Rattle.page_list.specs.Runs.{run}
+use Rattle.overlay_table.specs.Overlays as overlays
+use Rattle.lock_table.specs.Locks as locks
 use Rattle.protector_state.specs.State.{builtState}
 use Rattle.protector_state.specs.Reply.{finished, plain}
 use Rattle.protector.specs.World.{World, world, fits}

@@ -14,10 +14,10 @@ use Rattle.permissions.specs.declared.OptionFlags.{OptionFlags}
 use Rattle.permissions.specs.declared.OptionFlags.the-variants.{Some, None}
 use Rattle.permissions.specs.Flags.{noFlags}
 use Rattle.mapping.specs.Maps.{Maps, Permissions, perms, permitted}
-use Rattle.pages.specs.declared.PageRun.{PageRun}
-use Rattle.pages.specs.Pages.{among}
-use Rattle.pages.specs.Runs.{runsOf}
-use Rattle.acceptor.specs.declared.Settings.{Settings}
+use Rattle.page_list.specs.declared.PageRun.{PageRun}
+use Rattle.page_list.specs.Pages.{among}
+use Rattle.page_list.specs.Runs.{runsOf}
+use Rattle.visibility_steps.specs.declared.Settings.{Settings}
 
 -- an operation that a call asks for: Modify names its pages, in order
 pub data Operation : Type 0 where

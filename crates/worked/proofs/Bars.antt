@@ -7,28 +7,28 @@ use Rattle.permissions.specs.Rmpadjust.{operandOf}
 use Rattle.mapping.specs.Maps.{mapsFit}
 use Rattle.access.specs.Query.{accessPermission, lowerVtlPermissions}
 use Rattle.fault.specs.Fault.{faultOf, faultRefusal, pageFault}
-use Rattle.pages.specs.Pages.{numberOf, numberAt, numbersFrom, among, repeats}
-use Rattle.pages.specs.Runs.{neighbours, runAt}
-use Rattle.request.specs.Request.{pick, pickPlaces, tableOf, stopAt, runEnd, put}
-use Rattle.overlays.specs.Overlays.{placeFrom}
-use Rattle.locks.specs.Locks as lock
-use Rattle.locks.specs.Locks.{listsFrom, endFrom, held, total, same, kept, without}
-use Rattle.defaults.specs.Pieces.{span, nextOf}
-use Rattle.defaults.specs.Barred.{anyOf, anyIn}
-use Rattle.defaults.specs.Renewed.{renewedFrom}
-use Rattle.acceptor.specs.Steps.{operationOf, ask, end, halt, keep, shareRun, defaultRun, returnRun, afterFlush, afterWait, afterModify, afterAccept, failedModify, doneOf, failedOf, cleared, startOf}
-use Rattle.changes.specs.Changes as changes
-use Rattle.changes.specs.Changes.{protect, wait, finish, protectPages, protectRam, startNew, startOld}
+use Rattle.page_list.specs.Pages.{numberOf, numberAt, numbersFrom, among, repeats}
+use Rattle.page_list.specs.Runs.{neighbours, runAt}
+use Rattle.request_pages.specs.Request.{pick, pickPlaces, tableOf, stopAt, runEnd, put}
+use Rattle.overlay_table.specs.Overlays.{placeFrom}
+use Rattle.lock_table.specs.Locks as lock
+use Rattle.lock_table.specs.Locks.{listsFrom, endFrom, held, total, same, kept, without}
+use Rattle.default_change.specs.Pieces.{span, nextOf}
+use Rattle.default_change.specs.Barred.{anyOf, anyIn}
+use Rattle.default_change.specs.Renewed.{renewedFrom}
+use Rattle.visibility_steps.specs.Steps.{operationOf, ask, end, halt, keep, shareRun, defaultRun, returnRun, afterFlush, afterWait, afterModify, afterAccept, failedModify, doneOf, failedOf, cleared, startOf}
+use Rattle.change_steps.specs.Changes as changes
+use Rattle.change_steps.specs.Changes.{protect, wait, finish, protectPages, protectRam, startNew, startOld}
 use Rattle.protector_state.specs.State.{firstPhases, phaseOf}
 use Rattle.protector_state.specs.Reply.{askedOf, flatOf}
 use Rattle.change_state.specs.State.{stageOf}
 use Rattle.protector.specs.World.{applied, entered}
 use Rattle.protector.specs.Calls.{carriedOut, carriedChange, firstRefusal, visibilityRefusal, visibilityTaken, visibilityOf, answerRefusal, afterDone, afterFailed, answerDone, answerFailed}
-use Rattle.vtl_protections.specs.Calls.{protectionRefusal, protectionTaken, protectionOf, defaultRefusal, defaultStarted, defaultTaken, defaultOf}
-use Rattle.locked_pages.specs.Calls.{lockRefusal, lockOf, unlockOf}
-use Rattle.vtl1_protections.specs.Calls.{stateRefusal, enableRefusal, enableOf, enabledIn, defaultIn}
-use Rattle.overlay_tests.specs.Refusals.{callRefusal, within, knownRefusal, guestRefusal, dmaRefusal, pageRefusal, registerRefusal, currentOf, unregisterRefusal}
-use Rattle.overlay_pages.specs.Calls.{isOverlayIn, registerTaken, registerOf, unregisterTaken, unregisterOf}
+use Rattle.protection_entries.specs.Calls.{protectionRefusal, protectionTaken, protectionOf, defaultRefusal, defaultStarted, defaultTaken, defaultOf}
+use Rattle.lock_entries.specs.Calls.{lockRefusal, lockOf, unlockOf}
+use Rattle.setting_entries.specs.Calls.{stateRefusal, enableRefusal, enableOf, enabledIn, defaultIn}
+use Rattle.overlay_refusals.specs.Refusals.{callRefusal, within, knownRefusal, guestRefusal, dmaRefusal, pageRefusal, registerRefusal, currentOf, unregisterRefusal}
+use Rattle.overlay_entries.specs.Calls.{isOverlayIn, registerTaken, registerOf, unregisterTaken, unregisterOf}
 use Rattle.queries.specs.Queries.{queryRefusal, visibilities, filledBy, queryOf, faultIn, lowerIn, accessIn}
 use Rattle.visibility_claims.specs.Calls.{follow}
 use Rattle.worked.specs.Bars.{Bars, Locks, Queries, Turns}

@@ -4,7 +4,7 @@ use Rattle.bitmap.specs.Pages.{word, writtenFrom}
 use Rattle.layout.specs.Layout.{entriesOf, ramByte, ordered, aligned, refusalOf}
 use Rattle.protector_state.specs.State.{firstPhases, phaseOf}
 use Rattle.protector.specs.Calls.{buildRefusal, buildTaken, buildOf}
-use Rattle.vtl1_protections.specs.Calls.{stateRefusal, enableRefusal, enableOf, enabledIn, defaultIn}
+use Rattle.setting_entries.specs.Calls.{stateRefusal, enableRefusal, enableOf, enabledIn, defaultIn}
 use Rattle.worked.specs.Builds.{Builds}
 
 pub builds : Builds

@@ -6,18 +6,19 @@ use Rattle.permissions.specs.Rmpadjust.{operandOf}
 use Rattle.mapping.specs.Maps.{mapsFit}
 use Rattle.access.specs.Query.{accessPermission, lowerVtlPermissions}
 use Rattle.fault.specs.Fault.{faultOf, faultRefusal, pageFault}
-use Rattle.pages.specs.Pages.{numberOf, numberAt, numbersFrom, among, repeats}
-use Rattle.pages.specs.Runs.{runsOf, neighbours, runAt}
-use Rattle.request.specs.Request.{pick, pickPlaces, tableOf, stopAt, runEnd, put}
-use Rattle.overlays.specs.Overlays.{placeFrom}
-use Rattle.locks.specs.Locks.{listsFrom, held}
-use Rattle.acceptor.specs.Steps.{operationOf, ask, end, halt, keep, shareRun, defaultRun, returnRun, afterFlush, afterWait, afterModify, afterAccept, failedModify, doneOf, failedOf, cleared, startOf}
+use Rattle.page_list.specs.Pages.{numberOf, numberAt, numbersFrom, among, repeats}
+use Rattle.page_list.specs.Runs.{runsOf, neighbours, runAt}
+use Rattle.request_pages.specs.Request.{pick, pickPlaces, tableOf, stopAt, runEnd, put}
+use Rattle.overlay_table.specs.Overlays.{placeFrom}
+use Rattle.lock_table.specs.Locks.{listsFrom, held}
+use Rattle.visibility_steps.specs.Steps.{operationOf, ask, end, halt, keep, shareRun, defaultRun, returnRun, afterFlush, afterWait, afterModify, afterAccept, failedModify, doneOf, failedOf, cleared, startOf}
 use Rattle.protector_state.specs.State.{firstPhases, phaseOf}
 use Rattle.protector_state.specs.Reply.{askedOf, flatOf}
 use Rattle.protector.specs.World.{applied}
 use Rattle.protector.specs.Calls.{carriedOut, firstRefusal, visibilityRefusal, visibilityTaken, visibilityOf, answerRefusal, answerDone, answerFailed}
 use Rattle.queries.specs.Queries.{faultIn, lowerIn, accessIn}
 use Rattle.visibility_claims.specs.Whole.{one, inTurn, perRun, wholeShare}
+use Rattle.visibility_claims.specs.Requested.{denial, requestedFrom, pagesIn}
 use Rattle.visibility_claims.specs.Calls.{follow}
 use Rattle.worked.specs.Faults.{Faults, Permissions}
 
@@ -25,7 +26,8 @@ pub faults : Faults
 unfolding word writtenFrom entriesOf ramByte operandOf mapsFit faultOf faultRefusal pageFault numberOf numberAt numbersFrom among repeats runsOf
     neighbours runAt pick pickPlaces tableOf stopAt runEnd put placeFrom listsFrom held operationOf ask end halt keep shareRun defaultRun returnRun
     afterFlush afterWait afterModify afterAccept failedModify doneOf failedOf cleared startOf firstPhases phaseOf askedOf flatOf applied carriedOut
-    firstRefusal visibilityRefusal visibilityTaken visibilityOf answerRefusal answerDone answerFailed faultIn one inTurn perRun wholeShare follow
+    firstRefusal visibilityRefusal visibilityTaken visibilityOf answerRefusal answerDone answerFailed faultIn
+    denial requestedFrom pagesIn one inTurn perRun wholeShare follow
 faults =
     record {
       read-flag = refl;

@@ -3,20 +3,20 @@ use mathlib.Core.Path.{refl}
 use Rattle.bitmap.specs.Pages.{word, writtenFrom}
 use Rattle.words.specs.Words.{closed, closedTo, swapped}
 use Rattle.layout.specs.Layout.{entriesOf, ramByte}
-use Rattle.pages.specs.Pages.{numberOf, numberAt, numbersFrom}
-use Rattle.overlays.specs.Overlays.{placeFrom}
-use Rattle.locks.specs.Locks as lock
-use Rattle.locks.specs.Locks.{listsFrom, endFrom, held, total, same, kept, without}
-use Rattle.changes.specs.Changes as changes
-use Rattle.changes.specs.Changes.{protect, wait, finish, startNew}
+use Rattle.page_list.specs.Pages.{numberOf, numberAt, numbersFrom}
+use Rattle.overlay_table.specs.Overlays.{placeFrom}
+use Rattle.lock_table.specs.Locks as lock
+use Rattle.lock_table.specs.Locks.{listsFrom, endFrom, held, total, same, kept, without}
+use Rattle.change_steps.specs.Changes as changes
+use Rattle.change_steps.specs.Changes.{protect, wait, finish, startNew}
 use Rattle.protector_state.specs.State.{firstPhases, phaseOf}
 use Rattle.protector_state.specs.Reply.{askedOf, flatOf}
 use Rattle.change_state.specs.State.{stageOf}
 use Rattle.protector.specs.World.{entered}
 use Rattle.protector.specs.Calls.{carriedChange, answerRefusal, afterDone, answerDone}
-use Rattle.locked_pages.specs.Calls.{lockRefusal, lockOf, unlockOf}
-use Rattle.overlay_tests.specs.Refusals.{callRefusal, within, knownRefusal, guestRefusal, dmaRefusal, pageRefusal, registerRefusal, currentOf}
-use Rattle.overlay_pages.specs.Calls.{registerTaken, registerOf}
+use Rattle.lock_entries.specs.Calls.{lockRefusal, lockOf, unlockOf}
+use Rattle.overlay_refusals.specs.Refusals.{callRefusal, within, knownRefusal, guestRefusal, dmaRefusal, pageRefusal, registerRefusal, currentOf}
+use Rattle.overlay_entries.specs.Calls.{registerTaken, registerOf}
 use Rattle.visibility_claims.specs.Calls.{follow}
 use Rattle.worked.specs.Limits.{blocks, dmaFrom, holdings, lockBlocks, lockSingles, registered, singlesFrom, tablesFrom, OverlayLimit, FirstOverlays, LastOverlays, LockLimits, PageLimits}
 

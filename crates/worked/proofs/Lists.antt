@@ -7,30 +7,30 @@ use Rattle.bitmap.specs.Pages.{word, writtenFrom}
 use Rattle.words.specs.Words.{closed, closedTo, swapped}
 use Rattle.layout.specs.Layout.{entriesOf, ramByte}
 use Rattle.permissions.specs.Rmpadjust.{operandOf}
-use Rattle.pages.specs.Pages.{numberOf, numberAt, numbersFrom, among, repeats}
-use Rattle.pages.specs.Runs.{neighbours, runAt}
-use Rattle.request.specs.Request.{pick, pickPlaces, tableOf, stopAt, runEnd, put}
-use Rattle.overlays.specs.Overlays.{placeFrom}
-use Rattle.locks.specs.Locks as lock
-use Rattle.locks.specs.Locks.{listsFrom, endFrom, held, total, same, kept, without}
-use Rattle.defaults.specs.Pieces.{span, nextOf}
-use Rattle.defaults.specs.Barred.{anyOf, anyIn}
-use Rattle.defaults.specs.Renewed.{renewedFrom}
-use Rattle.acceptor.specs.Steps.{operationOf, ask, end, halt, keep, shareRun, defaultRun, returnRun, afterFlush, afterWait, afterModify, afterAccept, failedModify, doneOf, failedOf, cleared, startOf}
-use Rattle.changes.specs.Changes as changes
-use Rattle.changes.specs.Changes.{protect, wait, finish, protectPages, protectRam, startNew, startOld}
+use Rattle.page_list.specs.Pages.{numberOf, numberAt, numbersFrom, among, repeats}
+use Rattle.page_list.specs.Runs.{neighbours, runAt}
+use Rattle.request_pages.specs.Request.{pick, pickPlaces, tableOf, stopAt, runEnd, put}
+use Rattle.overlay_table.specs.Overlays.{placeFrom}
+use Rattle.lock_table.specs.Locks as lock
+use Rattle.lock_table.specs.Locks.{listsFrom, endFrom, held, total, same, kept, without}
+use Rattle.default_change.specs.Pieces.{span, nextOf}
+use Rattle.default_change.specs.Barred.{anyOf, anyIn}
+use Rattle.default_change.specs.Renewed.{renewedFrom}
+use Rattle.visibility_steps.specs.Steps.{operationOf, ask, end, halt, keep, shareRun, defaultRun, returnRun, afterFlush, afterWait, afterModify, afterAccept, failedModify, doneOf, failedOf, cleared, startOf}
+use Rattle.change_steps.specs.Changes as changes
+use Rattle.change_steps.specs.Changes.{protect, wait, finish, protectPages, protectRam, startNew, startOld}
 use Rattle.protector_state.specs.State.{firstPhases, phaseOf}
 use Rattle.protector_state.specs.Reply.{askedOf, flatOf}
 use Rattle.change_state.specs.State.{stageOf}
 use Rattle.permissions.specs.declared.GuestVtl.the-variants.{Vtl0}
 use Rattle.protector.specs.World.{fits, applied, entered}
 use Rattle.protector.specs.Calls.{decided, carriedOut, carriedChange, firstRefusal, visibilityRefusal, visibilityTaken, visibilityOf, answerRefusal, afterDone, afterFailed, answerDone, answerFailed}
-use Rattle.vtl_protections.specs.Calls.{protectionRefusal, protectionTaken, protectionOf, defaultRefusal, defaultStarted, defaultTaken, defaultOf}
-use Rattle.locked_pages.specs.Calls.{lockRefusal, lockOf, unlockOf}
+use Rattle.protection_entries.specs.Calls.{protectionRefusal, protectionTaken, protectionOf, defaultRefusal, defaultStarted, defaultTaken, defaultOf}
+use Rattle.lock_entries.specs.Calls.{lockRefusal, lockOf, unlockOf}
 use Rattle.queries.specs.Queries.{queryRefusal, visibilities, filledBy, queryOf}
 use Rattle.visibility_claims.specs.Calls.{follow}
+use Rattle.visibility_claims.specs.Table.{bytesFrom, broad}
 use Rattle.visibility_claims.proofs.Long as long
-use Rattle.visibility_claims.proofs.Long.{bytesFrom}
 use Rattle.worked.specs.Crossing.{waits}
 use Rattle.worked.specs.Lists.{wide, listed, Lists}
 
@@ -41,12 +41,12 @@ unfolding listed bytesFrom
 listed-is zero p = refl
 listed-is (suc n) p = ap (λ (l : List ℕ). p % 256 ∷ p / 256 ∷ 0 ∷ 0 ∷ 0 ∷ 0 ∷ 0 ∷ 0 ∷ l) (listed-is n (suc p))
 
-wide-fits : fits wide ≡ fits long.lent
+wide-fits : fits wide ≡ fits broad
 unfolding entriesOf
 wide-fits = refl
 
 accepted : visibilityRefusal (wide .state) (fits wide) (wide .tables) 0 1 (listed 0 512) ≡ 0
-accepted = ap₂ (λ (b : Bool) (l : List ℕ). visibilityRefusal (wide .state) b (wide .tables) 0 1 l) wide-fits (listed-is 512 0) ∙ long.taken-512
+accepted = ap₂ (λ (b : Bool) (l : List ℕ). visibilityRefusal (wide .state) b (wide .tables) 0 1 l) wide-fits (listed-is 512 0) ∙ long.lists .taken-512
 
 begun : (l : List ℕ) → visibilityTaken wide Vtl0 true l .reply ≡ waits
 unfolding visibilityTaken startOf carriedOut flatOf askedOf

@@ -4,23 +4,23 @@ use Rattle.bitmap.specs.Pages.{word, writtenFrom}
 use Rattle.words.specs.Words.{closed, closedTo}
 use Rattle.layout.specs.Layout.{entriesOf, ramByte}
 use Rattle.permissions.specs.Rmpadjust.{operandOf}
-use Rattle.pages.specs.Pages.{numberOf, numberAt, numbersFrom, among, repeats}
-use Rattle.pages.specs.Runs.{neighbours, runAt}
-use Rattle.request.specs.Request.{pick, pickPlaces, tableOf, stopAt, runEnd, put}
-use Rattle.overlays.specs.Overlays.{placeFrom}
-use Rattle.locks.specs.Locks.{listsFrom, held}
-use Rattle.defaults.specs.Pieces.{span, nextOf}
-use Rattle.defaults.specs.Barred.{anyOf, anyIn}
-use Rattle.defaults.specs.Renewed.{renewedFrom}
-use Rattle.acceptor.specs.Steps.{operationOf, ask, end, halt, keep, shareRun, defaultRun, returnRun, afterFlush, afterWait, afterModify, afterAccept, failedModify, doneOf, failedOf, cleared, startOf}
-use Rattle.changes.specs.Changes as changes
-use Rattle.changes.specs.Changes.{protect, wait, finish, protectPages, protectRam, startNew, startOld}
+use Rattle.page_list.specs.Pages.{numberOf, numberAt, numbersFrom, among, repeats}
+use Rattle.page_list.specs.Runs.{neighbours, runAt}
+use Rattle.request_pages.specs.Request.{pick, pickPlaces, tableOf, stopAt, runEnd, put}
+use Rattle.overlay_table.specs.Overlays.{placeFrom}
+use Rattle.lock_table.specs.Locks.{listsFrom, held}
+use Rattle.default_change.specs.Pieces.{span, nextOf}
+use Rattle.default_change.specs.Barred.{anyOf, anyIn}
+use Rattle.default_change.specs.Renewed.{renewedFrom}
+use Rattle.visibility_steps.specs.Steps.{operationOf, ask, end, halt, keep, shareRun, defaultRun, returnRun, afterFlush, afterWait, afterModify, afterAccept, failedModify, doneOf, failedOf, cleared, startOf}
+use Rattle.change_steps.specs.Changes as changes
+use Rattle.change_steps.specs.Changes.{protect, wait, finish, protectPages, protectRam, startNew, startOld}
 use Rattle.protector_state.specs.State.{firstPhases, phaseOf}
 use Rattle.protector_state.specs.Reply.{askedOf, flatOf}
 use Rattle.change_state.specs.State.{stageOf}
 use Rattle.protector.specs.World.{applied, entered}
 use Rattle.protector.specs.Calls.{carriedOut, carriedChange, firstRefusal, visibilityRefusal, visibilityTaken, visibilityOf, answerRefusal, afterDone, afterFailed, answerDone, answerFailed}
-use Rattle.vtl_protections.specs.Calls.{protectionRefusal, protectionTaken, protectionOf, defaultRefusal, defaultStarted, defaultTaken, defaultOf}
+use Rattle.protection_entries.specs.Calls.{protectionRefusal, protectionTaken, protectionOf, defaultRefusal, defaultStarted, defaultTaken, defaultOf}
 use Rattle.visibility_claims.specs.Calls.{follow}
 use Rattle.worked.specs.Shares.{Operations, Moves, Stops, Calls, Failures}
 

@@ -9,10 +9,10 @@ use Rattle.protector_state.specs.declared.Reply.{Reply}
 use Rattle.protector_state.specs.Reply.{finished}
 use Rattle.protector.specs.World.{World}
 use Rattle.protector.specs.Calls.{visibilityOf, answerDone, answerFailed}
-use Rattle.vtl_protections.specs.Calls.{protectionOf, defaultOf}
-use Rattle.overlay_pages.specs.Calls.{registerOf, unregisterOf, isOverlayIn}
-use Rattle.locked_pages.specs.Calls.{kept, lockOf, unlockOf}
-use Rattle.vtl1_protections.specs.Calls.{enableOf, enabledIn, defaultIn}
+use Rattle.protection_entries.specs.Calls.{protectionOf, defaultOf}
+use Rattle.overlay_entries.specs.Calls.{registerOf, unregisterOf, isOverlayIn}
+use Rattle.lock_entries.specs.Calls.{kept, lockOf, unlockOf}
+use Rattle.setting_entries.specs.Calls.{enableOf, enabledIn, defaultIn}
 use Rattle.queries.specs.Queries.{query, queryOf, faultIn, lowerIn, accessIn}
 use Rattle.visibility_claims.specs.Whole.{Succeeds, Fails}
 use Rattle.visibility_claims.specs.Calls.{follow}

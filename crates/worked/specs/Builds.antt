@@ -7,8 +7,8 @@ use Rattle.mapping.specs.Maps.{Maps, maps}
 use Rattle.protector_state.specs.declared.Reply.{Reply}
 use Rattle.protector.specs.World.{World, world, outcome}
 use Rattle.protector.specs.Calls.{buildOf}
-use Rattle.vtl1_protections.specs.Calls.{enableOf, enabledIn, defaultIn}
-use Rattle.vtl1_protections.specs.Calls as calls
+use Rattle.setting_entries.specs.Calls.{enableOf, enabledIn, defaultIn}
+use Rattle.setting_entries.specs.Calls as calls
 use Rattle.queries.specs.Queries.{value}
 use Rattle.visibility_claims.specs.Table.{ram, lent, fresh, enabled}
 use Rattle.worked.specs.Crossing.{ok, refused, keeps, first, whole, clear, settings, noTables, rest}

@@ -9,7 +9,7 @@ use Rattle.protector_state.specs.Reply.{finished}
 use Rattle.protector_state.specs.State.{builtState}
 use Rattle.protector.specs.World.{World}
 use Rattle.protector.specs.Calls.{visibilityOf}
-use Rattle.vtl_protections.specs.Calls.{protectionOf, defaultOf}
+use Rattle.protection_entries.specs.Calls.{protectionOf, defaultOf}
 use Rattle.visibility_claims.specs.Whole.{Succeeds, Fails}
 use Rattle.visibility_claims.specs.Calls.{follow}
 use Rattle.visibility_claims.specs.Table.{page, dones, fresh}

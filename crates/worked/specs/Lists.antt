@@ -8,8 +8,8 @@ use Rattle.protector_state.specs.declared.Reply.{Reply}
 use Rattle.protector_state.specs.State.{builtState}
 use Rattle.protector.specs.World.{World}
 use Rattle.protector.specs.Calls.{visibilityOf}
-use Rattle.vtl_protections.specs.Calls.{protectionOf}
-use Rattle.locked_pages.specs.Calls.{lockOf, unlockOf}
+use Rattle.protection_entries.specs.Calls.{protectionOf}
+use Rattle.lock_entries.specs.Calls.{lockOf, unlockOf}
 use Rattle.queries.specs.Queries.{query, queryOf}
 use Rattle.visibility_claims.specs.Table.{page, dones, fresh}
 use Rattle.worked.specs.Crossing.{ok, refused, keeps, waits, flushesAll, protects, invalidates, shares, flushes, tlbWaits, replies, named, rest, noTables}

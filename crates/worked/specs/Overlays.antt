@@ -7,7 +7,7 @@ use Rattle.mapping.specs.Maps.{maps}
 use Rattle.protector_state.specs.declared.Reply.{Reply}
 use Rattle.protector_state.specs.Reply.{finished}
 use Rattle.protector.specs.World.{World}
-use Rattle.overlay_pages.specs.Calls.{registerOf, unregisterOf, isOverlayIn}
+use Rattle.overlay_entries.specs.Calls.{registerOf, unregisterOf, isOverlayIn}
 use Rattle.queries.specs.Queries.{value}
 use Rattle.visibility_claims.specs.Whole.{Fails}
 use Rattle.visibility_claims.specs.Calls.{follow}

@@ -8,7 +8,7 @@ use Rattle.protector_state.specs.declared.Reply.{Reply}
 use Rattle.protector_state.specs.Reply.{finished}
 use Rattle.protector.specs.World.{World}
 use Rattle.protector.specs.Calls.{visibilityOf, answerDone, answerFailed}
-use Rattle.vtl_protections.specs.Calls.{protectionOf}
+use Rattle.protection_entries.specs.Calls.{protectionOf}
 use Rattle.visibility_claims.specs.Whole.{Given, Succeeds, Fails}
 use Rattle.visibility_claims.specs.Calls.{follow}
 use Rattle.visibility_claims.specs.Table.{page, dones, fresh, enabled}

@@ -3,7 +3,7 @@ use Rattle.protector.proofs.Laws as laws
 use native.Mathlib.Omega.{arith}
 use mathlib.Core.Path.{ap, _∙_}
 use Rattle.mapping.specs.Maps.{maps}
-use Rattle.acceptor.specs.declared.Step.{Step}
+use Rattle.visibility_steps.specs.declared.Step.{Step}
 use Rattle.protector_state.specs.State.{settingsOf, requestOf, withRequest}
 use Rattle.protector_state.specs.Reply.{flatOf}
 use Rattle.protector.specs.World.{applied}

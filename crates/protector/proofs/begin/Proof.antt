@@ -2,10 +2,10 @@ use borrow.Author.Needs.{needs}
 use mathlib.Core.Path.{ap, _∙_}
 use mathlib.Core.Bool.{Bool}
 use Rattle.mapping.specs.Maps.{maps}
-use Rattle.acceptor.specs.declared.Phase.the-variants.{Wait}
-use Rattle.acceptor.specs.declared.Request.{Request}
-use Rattle.acceptor.specs.declared.Writes.{Writes}
-use Rattle.acceptor.specs.Steps.{cleared, startOf}
+use Rattle.visibility_steps.specs.declared.Phase.the-variants.{Wait}
+use Rattle.visibility_steps.specs.declared.Request.{Request}
+use Rattle.visibility_steps.specs.declared.Writes.{Writes}
+use Rattle.visibility_steps.specs.Steps.{cleared, startOf}
 use Rattle.protector_state.specs.State.{withRequest}
 use Rattle.protector_state.specs.Reply.{askedOf, flatOf}
 use Rattle.protector.specs.World.{applied}

@@ -3,7 +3,7 @@ use borrow.Author.Needs.{needs}
 use mathlib.Core.Path.{refl, ap}
 use borrow.Author.Tests.{not-true, not-false}
 use Rattle.laws.specs.Bools.{and-ends, and-goes}
-use Rattle.acceptor.specs.Steps.{isVtl0}
+use Rattle.visibility_steps.specs.Steps.{isVtl0}
 use Rattle.protector.proofs.looks_at.Statement.{statement}
 use Rattle.protector.proofs.looks_at.Tie as tie
 

@@ -1,7 +1,7 @@
 use borrow.Author.Needs.{needs}
 use mathlib.Core.Path.{sym}
 use mathlib.Core.Bool.{true}
-use Rattle.request.proofs.Runs.{put-none}
+use Rattle.request_pages.proofs.Runs.{put-none}
 use Rattle.protector.proofs.mark.Statement.{statement}
 use Rattle.protector.proofs.mark.Tie as tie
 

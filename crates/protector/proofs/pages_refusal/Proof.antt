@@ -5,7 +5,7 @@ use lib.ListN.{drop}
 use native.Mathlib.Omega.{arith}
 use Prim.Native.Nat.{_-_}
 use Rattle.layout.specs.Layout.{entriesOf}
-use Rattle.pages.specs.Pages.{pagesOf}
+use Rattle.page_list.specs.Pages.{pagesOf}
 use Rattle.protector.specs.Calls.{pageRefusal, firstRefusal}
 use Rattle.protector.proofs.pages_refusal.Statement.{statement}
 use Rattle.protector.proofs.pages_refusal.Tie as tie

@@ -2,8 +2,8 @@
 use borrow.Author.Needs.{needs}
 use mathlib.Core.Path.{ap, _∙_}
 use Rattle.laws.specs.Bools.{chose, chose-not}
-use Rattle.acceptor.specs.declared.Phase.{Phase}
-use Rattle.changes.specs.declared.Stage.{Stage}
+use Rattle.visibility_steps.specs.declared.Phase.{Phase}
+use Rattle.change_steps.specs.declared.Stage.{Stage}
 use Rattle.protector.specs.World.{takes, takesAt}
 use Rattle.protector.proofs.takes.Statement.{statement}
 use Rattle.protector.proofs.takes.Tie as tie

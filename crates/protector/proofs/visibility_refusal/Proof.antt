@@ -5,7 +5,7 @@ use borrow.Author.Tests.{eq-eqb, ne-eqb, lt-ltb, le-ltb, not-true, not-false}
 use Rattle.laws.specs.Refusal.{refuses, passes}
 use mathlib.Core.Bool.{not}
 use Rattle.protector.specs.Calls.{visibilityRefusal, pageRefusal, firstRefusal}
-use Rattle.pages.specs.Pages.{pagesOf}
+use Rattle.page_list.specs.Pages.{pagesOf}
 use Rattle.protector.specs.World.{overlaysOf, locksOf}
 use Rattle.permissions.specs.declared.GuestVtl.{GuestVtl}
 use lib.Dec.{eqb}

@@ -3,8 +3,8 @@ use mathlib.Core.Path.{sym, ap, ap₂, _∙_}
 use Rattle.permissions.specs.declared.GuestVtl.the-variants.{Vtl0, Vtl1}
 use Rattle.permissions.specs.declared.IsolationType.{IsolationType}
 use Rattle.permissions.specs.declared.HvMapGpaFlags.{HvMapGpaFlags}
-use Rattle.acceptor.specs.declared.Phase.{Phase}
-use Rattle.acceptor.specs.Steps.{operationOn}
+use Rattle.visibility_steps.specs.declared.Phase.{Phase}
+use Rattle.visibility_steps.specs.Steps.{operationOn}
 use Rattle.protector_state.specs.State.{settingsOf}
 use Rattle.protector_state.specs.Reply.{protects, askedOf}
 use Rattle.protector_state.proofs.asked_at.Statement.{statement}

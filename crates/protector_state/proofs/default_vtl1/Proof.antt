@@ -1,6 +1,6 @@
 use borrow.Author.Needs.{needs}
 use mathlib.Core.Path.{ap, _∙_}
-use Rattle.acceptor.specs.Steps.{orNone}
+use Rattle.visibility_steps.specs.Steps.{orNone}
 use Rattle.protector_state.proofs.default_vtl1.Statement.{statement}
 use Rattle.protector_state.proofs.default_vtl1.Tie as tie
 

@@ -1,7 +1,7 @@
 use borrow.Author.Needs.{needs}
 use mathlib.Core.Path.{sym, ap, _∙_}
-use Rattle.acceptor.specs.declared.Turn.{Turn}
-use Rattle.acceptor.specs.Next.{answerBy}
+use Rattle.visibility_steps.specs.declared.Turn.{Turn}
+use Rattle.visibility_steps.specs.Next.{answerBy}
 use Rattle.protector_state.specs.State.{settingsOf}
 use Rattle.protector_state.specs.Reply.{flatOf}
 use Rattle.protector_state.proofs.Laws as laws

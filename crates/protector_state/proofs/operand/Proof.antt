@@ -3,7 +3,7 @@ use borrow.Author.Needs.{needs}
 use mathlib.Core.Path.{sym, ap, _∙_}
 use Rattle.permissions.specs.declared.IsolationType.{IsolationType}
 use Rattle.permissions.specs.Rmpadjust.{operandOf}
-use Rattle.acceptor.specs.Steps.{isSnp}
+use Rattle.visibility_steps.specs.Steps.{isSnp}
 use mathlib.Core.Bool.{cond}
 use Rattle.protector_state.proofs.operand.Statement.{statement}
 use Rattle.protector_state.proofs.operand.Tie as tie

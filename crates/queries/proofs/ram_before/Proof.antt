@@ -6,9 +6,9 @@ use borrow.Author.Tests.{not-true, not-false}
 use Prim.Native.Nat.{_+_, _-_}
 use lib.ListN.{drop}
 use Rattle.layout.specs.Layout.{entriesOf, isRam}
-use Rattle.pages.specs.Pages.{pagesOf}
-use Rattle.request.specs.Request.{stopAt}
-use Rattle.request.proofs.Table.{stop-end, stop-hit, stop-miss}
+use Rattle.page_list.specs.Pages.{pagesOf}
+use Rattle.request_pages.specs.Request.{stopAt}
+use Rattle.request_pages.proofs.Table.{stop-end, stop-hit, stop-miss}
 use Rattle.queries.proofs.ram_before.Statement.{statement}
 use Rattle.queries.proofs.ram_before.Tie as tie
 

@@ -4,10 +4,10 @@ use mathlib.Core.Path.{ap, ap₂, _∙_}
 use mathlib.Core.Bool.{true, cond}
 use lib.ListN.{length}
 use Rattle.mapping.specs.Maps.{maps}
-use Rattle.acceptor.specs.declared.Settings.{Settings}
-use Rattle.acceptor.specs.declared.Phase.{Phase}
-use Rattle.acceptor.specs.declared.Request.{Request}
-use Rattle.acceptor.specs.Steps.{failedOf}
+use Rattle.visibility_steps.specs.declared.Settings.{Settings}
+use Rattle.visibility_steps.specs.declared.Phase.{Phase}
+use Rattle.visibility_steps.specs.declared.Request.{Request}
+use Rattle.visibility_steps.specs.Steps.{failedOf}
 use Rattle.protector_state.specs.State.{settingsOf, phaseIn}
 use Rattle.change_state.specs.State.{isChanging}
 use Rattle.protector.specs.World.{world}

@@ -4,8 +4,8 @@ use mathlib.Core.Path.{ap, _∙_}
 use mathlib.Core.List.{List}
 use Prim.Native.Nat.{ℕ}
 use Rattle.layout.specs.Layout.{entriesOf, isRam}
-use Rattle.pages.specs.Pages.{pagesOf}
-use Rattle.request.specs.Request.{stopAt}
+use Rattle.page_list.specs.Pages.{pagesOf}
+use Rattle.request_pages.specs.Request.{stopAt}
 use Rattle.underhill_mem.proofs.protector_query_host_visibility.Statement.{statement}
 use Rattle.underhill_mem.proofs.protector_query_host_visibility.Tie as tie
 use Rattle.underhill_mem.proofs.Laws as laws

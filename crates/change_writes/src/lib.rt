@@ -1,0 +1,278 @@
+// A step of a protection change, a default change or an overlay call carried out: what it writes, and what crosses.
+ghost use mathlib.Core.Path.{_≡_};
+ghost use Prim.Native.Nat.{_+_, _<_, _≤_, _^_};
+ghost use lib.ListN.{length};
+ghost use Rattle.laws.specs.Ranges.{between};
+ghost use Rattle.bitmap.specs.Pages.{written};
+ghost use Rattle.layout.specs.Layout.{entriesOf};
+ghost use Rattle.permissions.specs.Flags.{flagsOf};
+ghost use Rattle.mapping.specs.Maps.{perms};
+ghost use Rattle.overlay_table.specs.Overlays.{entry, addWords};
+ghost use Rattle.protector_state.specs.State.{stateLen, settingsOf};
+ghost use Rattle.protector_state.specs.Reply.{flatOf};
+ghost use Rattle.change_steps.specs.Changes.{flushStage, flushChange};
+ghost use Rattle.change_state.specs.State.{stageIn, changeIn, withChange};
+ghost use Rattle.change_writes.specs.Flush.{flushReply};
+ghost use Rattle.protector.specs.World.{tablesLen, overlaysOf, withOverlays, permittedRun, withoutPage, entered};
+ghost use Rattle.protector.specs.Calls.{pieceAfter, nextIn, afterDone, afterFailed};
+use abi::operation;
+use abi::table;
+use change_steps::Change;
+use change_steps::ChangeStep;
+use change_steps::Entry;
+use change_steps::Stage;
+use overlay_table::OverlayPage;
+use page_list::PageRun;
+use permissions::GuestVtl;
+use permissions::HvMapGpaFlags;
+use permissions::IsolationType;
+use protector_state::Reply;
+
+fn set_run(map: &mut [u8], run: PageRun, state: bool)
+    requires { ⌜ run .first + run .count ≤ 2 ^ 64 ⌝ }
+    ensures { λ _. ⌜ now (map .exit) ≡ written 8 (between (run .first) (run .first + run .count)) state (now (map .entry)) ⌝ }
+{
+    if run.count == 0 {
+        return;
+    }
+    let last = run.first + (run.count - 1);
+    request_pages::set_run(map, run.first, last, state);
+}
+
+// The permissions of a run of pages.
+pub fn permit(
+    read: &mut [u8],
+    write: &mut [u8],
+    kernel: &mut [u8],
+    user: &mut [u8],
+    run: PageRun,
+    flags: HvMapGpaFlags,
+)
+    requires { ⌜ run .first + run .count ≤ 2 ^ 64 ⌝ }
+    ensures { λ _. ⌜ perms (now (read .exit)) (now (write .exit)) (now (kernel .exit)) (now (user .exit)) ≡ permittedRun run flags (perms (now (read .entry)) (now (write .entry)) (now (kernel .entry)) (now (user .entry))) ⌝ }
+{
+    set_run(read, run, flags.readable);
+    set_run(write, run, flags.writable);
+    set_run(kernel, run, flags.kernel_executable);
+    set_run(user, run, flags.user_executable);
+}
+
+fn add_in(overlays: &mut [u64], q: Change)
+    ensures { λ _. ⌜ now (overlays .exit) ≡ addWords (now (overlays .entry)) (entry (q .at) (q .previous) (q .flags) 1 (q .source)) ⌝ }
+{
+    let _ = overlay_table::add(
+        overlays,
+        OverlayPage {
+            gpn: q.at,
+            previous_permissions: q.previous,
+            overlay_permissions: q.flags,
+            ref_count: 1,
+            gpn_source: q.source,
+        },
+    );
+}
+
+fn remove_in(overlays: &mut [u64], gpn: u64)
+    ensures { λ _. ⌜ now (overlays .exit) ≡ withoutPage (now (overlays .entry)) gpn ⌝ }
+{
+    let place = overlay_table::find(overlays, gpn);
+    if place != 0 {
+        overlay_table::remove(overlays, place);
+    }
+}
+
+fn add(tables: &mut [u64], q: Change)
+    requires { ⌜ length (now tables) ≡ tablesLen ⌝ }
+    ensures { λ _. ⌜ now (tables .exit) ≡ withOverlays (now (tables .entry)) (q .vtl) (addWords (overlaysOf (now (tables .entry)) (q .vtl)) (entry (q .at) (q .previous) (q .flags) 1 (q .source))) ⌝ }
+{
+    let vtl = q.vtl;
+    match vtl {
+        GuestVtl::Vtl0 => add_in(&mut tables[table::OVERLAYS0..table::OVERLAYS1], q),
+        GuestVtl::Vtl1 => add_in(&mut tables[table::OVERLAYS1..table::LOCKS0], q),
+    }
+}
+
+fn remove(tables: &mut [u64], q: Change)
+    requires { ⌜ length (now tables) ≡ tablesLen ⌝ }
+    ensures { λ _. ⌜ now (tables .exit) ≡ withOverlays (now (tables .entry)) (q .vtl) (withoutPage (overlaysOf (now (tables .entry)) (q .vtl)) (q .at)) ⌝ }
+{
+    let vtl = q.vtl;
+    match vtl {
+        GuestVtl::Vtl0 => remove_in(&mut tables[table::OVERLAYS0..table::OVERLAYS1], q.at),
+        GuestVtl::Vtl1 => remove_in(&mut tables[table::OVERLAYS1..table::LOCKS0], q.at),
+    }
+}
+
+// The overlay entry of a change.
+fn enter(tables: &mut [u64], entry: Entry, q: Change)
+    requires { ⌜ length (now tables) ≡ tablesLen ⌝ }
+    ensures { λ _. ⌜ now (tables .exit) ≡ entered entry q (now (tables .entry)) ⌝ }
+{
+    match entry {
+        Entry::Keep => {}
+        Entry::Add => add(tables, q),
+        Entry::Remove => remove(tables, q),
+    }
+}
+
+// A step carried out: its permissions and its entry written, its stage and change kept.
+pub fn carry_out(
+    read: &mut [u8],
+    write: &mut [u8],
+    kernel: &mut [u8],
+    user: &mut [u8],
+    state: &mut [u64],
+    tables: &mut [u64],
+    isolation: IsolationType,
+    x: ChangeStep,
+) -> Reply
+    requires { ⌜ (length (now state) ≡ stateLen) × (length (now tables) ≡ tablesLen) × (x .written .first + x .written .count ≤ 2 ^ 64) ⌝ }
+    ensures { λ _. ⌜ perms (now (read .exit)) (now (write .exit)) (now (kernel .exit)) (now (user .exit)) ≡ permittedRun (x .written) (flagsOf (x .change .flags)) (perms (now (read .entry)) (now (write .entry)) (now (kernel .entry)) (now (user .entry))) ⌝ }
+    ensures { λ _. ⌜ now (state .exit) ≡ withChange (x .stage) (x .change) (now (state .entry)) ⌝ }
+    ensures { λ _. ⌜ now (tables .exit) ≡ entered (x .entry) (x .change) (now (tables .entry)) ⌝ }
+    ensures { λ r. ⌜ r ≡ flatOf isolation (x .answer) ⌝ }
+{
+    let stage = x.stage;
+    let change = x.change;
+    let answer = x.answer;
+    let run = x.written;
+    let entry = x.entry;
+    let flags = HvMapGpaFlags::from_bits(change.flags);
+    permit(read, write, kernel, user, run, flags);
+    change_state::save(state, stage, change);
+    enter(tables, entry, change);
+    protector_state::flatten(isolation, answer)
+}
+
+// The next piece of a default change, where that is what waits.
+fn piece_after(stage: Stage, private: &[u8], overlays: &[u64], ram: &[u64], at: u64) -> PageRun
+    ensures { λ r. ⌜ r ≡ pieceAfter stage (now (private .entry)) (now (overlays .entry)) (entriesOf (now (ram .entry))) at ⌝ }
+    ensures { λ r. ⌜ r .first + r .count < 2 ^ 64 ⌝ }
+{
+    let none = PageRun { first: 0, count: 0 };
+    match stage {
+        Stage::Idle => none,
+        Stage::Halted => none,
+        Stage::ProtectPages => none,
+        Stage::ProtectRam => default_change::next_piece(private, overlays, ram, at),
+        Stage::ProtectNew => none,
+        Stage::ProtectOld => none,
+        Stage::Wait => none,
+        Stage::Flush => none,
+        Stage::TlbWait => none,
+    }
+}
+
+fn next_in(private: &[u8], state: &[u64], tables: &[u64]) -> PageRun
+    requires { ⌜ (length (now state) ≡ stateLen) × (length (now tables) ≡ tablesLen) ⌝ }
+    ensures { λ r. ⌜ r ≡ nextIn (now (private .entry)) (now (state .entry)) (now (tables .entry)) ⌝ }
+    ensures { λ r. ⌜ r .first + r .count < 2 ^ 64 ⌝ }
+{
+    let stage = change_state::stage(state);
+    let q = change_state::load(state);
+    let vtl = q.vtl;
+    let overlays = protector::overlays_of(tables, vtl);
+    let ram = protector_state::ram_of(state);
+    piece_after(stage, private, overlays, ram, q.at)
+}
+
+// What the answer done leads a change to.
+fn after_done(private: &[u8], state: &[u64], pages: &[u64], tables: &[u64]) -> ChangeStep
+    requires { ⌜ (length (now state) ≡ stateLen) × (length (now tables) ≡ tablesLen) ⌝ }
+    ensures { λ r. ⌜ r ≡ afterDone (now (private .entry)) (now (state .entry)) (now (pages .entry)) (now (tables .entry)) ⌝ }
+    ensures { λ r. ⌜ r .written .first + r .written .count ≤ 2 ^ 64 ⌝ }
+{
+    let set = protector_state::settings(state);
+    let stage = change_state::stage(state);
+    let q = change_state::load(state);
+    let next = next_in(private, state, tables);
+    change_steps::done(set.tracked, stage, q, pages, next)
+}
+
+fn after_failed(state: &[u64]) -> ChangeStep
+    requires { ⌜ length (now state) ≡ stateLen ⌝ }
+    ensures { λ r. ⌜ r ≡ afterFailed (now (state .entry)) ⌝ }
+    ensures { λ r. ⌜ r .written .first + r .written .count ≤ 2 ^ 64 ⌝ }
+{
+    let stage = change_state::stage(state);
+    let q = change_state::load(state);
+    change_steps::failed(stage, q)
+}
+
+// What crosses for the stage that follows Wait, Flush or TlbWait.
+fn flush_reply(stage: Stage, q: Change) -> Reply
+    ensures { λ r. ⌜ r ≡ flushReply stage q ⌝ }
+{
+    let vtl = q.vtl;
+    let flush = q.flush;
+    match stage {
+        Stage::Idle => protector_state::finished(0, 0, 0, q.count),
+        Stage::Halted => protector_state::finished(0, 0, 0, q.count),
+        Stage::ProtectPages => protector_state::finished(0, 0, 0, q.count),
+        Stage::ProtectRam => protector_state::finished(0, 0, 0, q.count),
+        Stage::ProtectNew => protector_state::finished(0, 0, 0, q.count),
+        Stage::ProtectOld => protector_state::finished(0, 0, 0, q.count),
+        Stage::Wait => protector_state::finished(0, 0, 0, q.count),
+        Stage::Flush => protector_state::on_vtl(operation::FLUSH, flush),
+        Stage::TlbWait => protector_state::on_vtl(operation::TLB_WAIT, vtl),
+    }
+}
+
+// Wait, Flush or TlbWait is done: no map and no entry is written.
+fn flush_done(state: &mut [u64]) -> Reply
+    requires { ⌜ length (now state) ≡ stateLen ⌝ }
+    ensures { λ _. ⌜ now (state .exit) ≡ withChange (flushStage (stageIn (now (state .entry)))) (flushChange (flushStage (stageIn (now (state .entry)))) (changeIn (now (state .entry)))) (now (state .entry)) ⌝ }
+    ensures { λ r. ⌜ r ≡ flushReply (flushStage (stageIn (now (state .entry)))) (changeIn (now (state .entry))) ⌝ }
+{
+    let q = change_state::load(state);
+    let next = change_steps::flush_stage(change_state::stage(state));
+    change_state::save(state, next, change_steps::flush_change(next, q));
+    flush_reply(next, q)
+}
+
+// The operation asked for is done.
+pub fn answer_done(
+    private: &[u8],
+    read: &mut [u8],
+    write: &mut [u8],
+    kernel: &mut [u8],
+    user: &mut [u8],
+    state: &mut [u64],
+    pages: &[u64],
+    tables: &mut [u64],
+) -> Reply
+    requires { ⌜ (length (now state) ≡ stateLen) × (length (now tables) ≡ tablesLen) ⌝ }
+    ensures { λ _. ⌜ perms (now (read .exit)) (now (write .exit)) (now (kernel .exit)) (now (user .exit)) ≡ permittedRun (afterDone (now (private .entry)) (now (state .entry)) (now (pages .entry)) (now (tables .entry)) .written) (flagsOf (afterDone (now (private .entry)) (now (state .entry)) (now (pages .entry)) (now (tables .entry)) .change .flags)) (perms (now (read .entry)) (now (write .entry)) (now (kernel .entry)) (now (user .entry))) ⌝ }
+    ensures { λ _. ⌜ now (state .exit) ≡ withChange (afterDone (now (private .entry)) (now (state .entry)) (now (pages .entry)) (now (tables .entry)) .stage) (afterDone (now (private .entry)) (now (state .entry)) (now (pages .entry)) (now (tables .entry)) .change) (now (state .entry)) ⌝ }
+    ensures { λ _. ⌜ now (tables .exit) ≡ entered (afterDone (now (private .entry)) (now (state .entry)) (now (pages .entry)) (now (tables .entry)) .entry) (afterDone (now (private .entry)) (now (state .entry)) (now (pages .entry)) (now (tables .entry)) .change) (now (tables .entry)) ⌝ }
+    ensures { λ r. ⌜ r ≡ flatOf (settingsOf (now (state .entry)) .isolation) (afterDone (now (private .entry)) (now (state .entry)) (now (pages .entry)) (now (tables .entry)) .answer) ⌝ }
+{
+    if change_steps::is_flushing(change_state::stage(state)) {
+        return flush_done(state);
+    }
+    let set = protector_state::settings(state);
+    let isolation = set.isolation;
+    let x = after_done(private, state, pages, tables);
+    carry_out(read, write, kernel, user, state, tables, isolation, x)
+}
+
+// The operation asked for failed.
+pub fn answer_failed(
+    read: &mut [u8],
+    write: &mut [u8],
+    kernel: &mut [u8],
+    user: &mut [u8],
+    state: &mut [u64],
+    tables: &mut [u64],
+) -> Reply
+    requires { ⌜ (length (now state) ≡ stateLen) × (length (now tables) ≡ tablesLen) ⌝ }
+    ensures { λ _. ⌜ perms (now (read .exit)) (now (write .exit)) (now (kernel .exit)) (now (user .exit)) ≡ permittedRun (afterFailed (now (state .entry)) .written) (flagsOf (afterFailed (now (state .entry)) .change .flags)) (perms (now (read .entry)) (now (write .entry)) (now (kernel .entry)) (now (user .entry))) ⌝ }
+    ensures { λ _. ⌜ now (state .exit) ≡ withChange (afterFailed (now (state .entry)) .stage) (afterFailed (now (state .entry)) .change) (now (state .entry)) ⌝ }
+    ensures { λ _. ⌜ now (tables .exit) ≡ entered (afterFailed (now (state .entry)) .entry) (afterFailed (now (state .entry)) .change) (now (tables .entry)) ⌝ }
+    ensures { λ r. ⌜ r ≡ flatOf (settingsOf (now (state .entry)) .isolation) (afterFailed (now (state .entry)) .answer) ⌝ }
+{
+    let set = protector_state::settings(state);
+    let isolation = set.isolation;
+    let x = after_failed(state);
+    carry_out(read, write, kernel, user, state, tables, isolation, x)
+}

@@ -1,0 +1,128 @@
+-- What the definitions give: the limits, and the entries as a list. Assumes nothing.
+use native.Mathlib.Omega.{arith}
+use mathlib.Core.Path.{_≡_, refl, sym, ap, subst, _∙_}
+use mathlib.Core.Bool.{Bool, true, false, not, cond}
+use mathlib.Core.List.{List}
+use Prim.Native.Nat.{ℕ, _+_, _-_, _≤_, _<_}
+use lib.ListN.{length, length-set}
+use borrow.Author.Tests.{eq-eqb, lt-ltb, le-ltb}
+use Rattle.laws.specs.Refusal.{passes, refuses}
+use Rattle.bitmap.specs.Pages.{bitAt}
+use Rattle.layout.specs.declared.MemoryRangeWithNode.{MemoryRangeWithNode}
+use Rattle.layout.specs.Layout.{isRam}
+use Rattle.permissions.specs.declared.HvMapGpaFlags.{HvMapGpaFlags}
+use Rattle.permissions.specs.Flags.{vtlOf, flagsOf, bitsOf, boolOf}
+use Rattle.overlay_table.specs.declared.OverlayPage.{OverlayPage}
+use Rattle.overlay_table.specs.Overlays.{knows, entryOf, changed, withCount, tableOf, isOverlay, placeOf, entryAt, addCode, countWords}
+use Rattle.overlay_table.proofs.Lists.{first, table-length, table-overlay, table-entry, table-count, table-add-code}
+use Rattle.change_steps.specs.Changes.{startNew, startOld}
+use Rattle.protector_state.specs.State.{settingsOf}
+use Rattle.protector_state.specs.Reply.{finished}
+use Rattle.protector.specs.World.{World, Outcome, tablesLen, overlaysOf, locksOf, isLocked, fits}
+use Rattle.protector.specs.Calls.{refusedBy, carriedChange}
+pub use Rattle.protector.proofs.Tables.{overlays-written, locks-kept, vtl1-kept, vtl0-kept}
+use Rattle.overlay_refusals.specs.Refusals.{callRefusal, unregisterRefusal, flagsRefusal, within, neededOf, knownRefusal, guestRefusal, dmaRefusal, pageRefusal, registerRefusal}
+use Rattle.overlay_entries.specs.Calls.{entryIn, recounted, counting, unregisterTaken, unregisterOf, currentIn, registerTaken, registerOf}
+use Rattle.overlay_refusals.proofs.Laws as laws
+
+-- ---- a known page: no RAM, mark, lock or source is looked at; a count of 65,535 refuses the next
+
+pub known-page : (es : List MemoryRangeWithNode) (shared o locks : List ℕ) (p source : ℕ) (current : HvMapGpaFlags) (checked new : ℕ) → isOverlay o p ≡ true
+    → pageRefusal es shared o locks p source current checked new ≡ knownRefusal (entryAt o (placeOf o p)) checked new
+unfolding pageRefusal
+known-page es shared o locks p source current checked new h =
+    ap (λ (b : Bool). cond b (knownRefusal (entryAt o (placeOf o p)) checked new) (cond (boolOf source) (dmaRefusal es o locks p) (guestRefusal es shared o locks p current checked))) h
+
+module _ (e : OverlayPage) (checked new : ℕ) (h : within (flagsOf (e .«overlay_permissions»)) (flagsOf (neededOf checked new)) ≡ true) where
+  pub count-room : e .«ref_count» < 65535 → knownRefusal e checked new ≡ 0
+  unfolding knownRefusal
+  count-room d = sym (passes _ _ _ _ h (passes _ _ _ _ (lt-ltb _ _ d) refl))
+
+  pub count-full : e .«ref_count» ≡ 65535 → knownRefusal e checked new ≡ 17
+  unfolding knownRefusal
+  count-full d = sym (passes _ _ _ _ h (refuses _ _ _ (le-ltb (e .«ref_count») 65535 (omega (arith, d)))))
+
+-- as a call, once nothing is refused before it
+module _ (s : List ℕ) (fit : Bool) (shared t : List ℕ) (current : HvMapGpaFlags) (vtl p source checked new : ℕ) (a : callRefusal s fit vtl 0 ≡ 0) (b : flagsRefusal source checked new 0 ≡ 0) where
+  pub known-call : isOverlay (overlaysOf t (vtlOf vtl)) p ≡ true → registerRefusal s fit shared t current vtl p source checked new ≡ knownRefusal (entryIn t (vtlOf vtl) p) checked new
+  unfolding registerRefusal
+  known-call h =
+      sym (laws.call-goes s fit vtl _ refl _ _ a (laws.flags-go source checked new _ _ _ refl b (sym (known-page _ shared (overlaysOf t (vtlOf vtl)) (locksOf t (vtlOf vtl)) p source current checked new h))))
+
+  pub register-65536th : isOverlay (overlaysOf t (vtlOf vtl)) p ≡ true → within (flagsOf (entryIn t (vtlOf vtl) p .«overlay_permissions»)) (flagsOf (neededOf checked new)) ≡ true
+      → entryIn t (vtlOf vtl) p .«ref_count» ≡ 65535 → registerRefusal s fit shared t current vtl p source checked new ≡ 17
+  register-65536th h d f = known-call h ∙ count-full (entryIn t (vtlOf vtl) p) checked new d f
+
+-- ---- a new page that nothing else refuses: room for it, or 17
+
+module _ (es : List MemoryRangeWithNode) (shared o locks : List ℕ) (p : ℕ) (current : HvMapGpaFlags) (checked new : ℕ) (h : isOverlay o p ≡ false) (l : isLocked o locks p ≡ false) where
+  pub guest-page : isRam es p ≡ true → within current (flagsOf checked) ≡ true → bitAt 8 shared p ≡ false → pageRefusal es shared o locks p 0 current checked new ≡ addCode o
+  unfolding pageRefusal guestRefusal
+  guest-page a b d =
+      ap (λ (c : Bool). cond c (knownRefusal (entryAt o (placeOf o p)) checked new) (guestRefusal es shared o locks p current checked)) h
+      ∙ sym (passes _ _ _ _ a (passes _ _ _ _ b (passes _ _ _ _ (ap not d) (passes _ _ _ _ (ap not l) refl))))
+
+  pub dma-page : isRam es p ≡ false → pageRefusal es shared o locks p 1 current checked new ≡ addCode o
+  unfolding pageRefusal dmaRefusal
+  dma-page a =
+      ap (λ (c : Bool). cond c (knownRefusal (entryAt o (placeOf o p)) checked new) (dmaRefusal es o locks p)) h
+      ∙ sym (passes _ _ _ _ (ap not a) (passes _ _ _ _ (ap not l) refl))
+
+-- the 128th overlay page is taken, the 129th is 17
+pub overlay-128th : (es : List OverlayPage) → length es ≡ 127 → addCode (tableOf es) ≡ 0
+overlay-128th es h = table-add-code es (omega (arith, h)) ∙ ap (λ (b : Bool). cond b 0 17) (lt-ltb (length es) 128 (omega (arith, h)))
+
+pub overlay-129th : (es : List OverlayPage) → length es ≡ 128 → addCode (tableOf es) ≡ 17
+overlay-129th es h = table-add-code es (omega (arith, h)) ∙ ap (λ (b : Bool). cond b 0 17) (le-ltb (length es) 128 (omega (arith, h)))
+
+-- ---- where the words of the VTL are the table of a list: the calls on the list
+
+module _ (w : World) (vtl p : ℕ) (es : List OverlayPage) (few : length es ≤ 128) (len : length (w .tables) ≡ tablesLen) (is : overlaysOf (w .tables) (vtlOf vtl) ≡ tableOf es) where
+  pub known-in : isOverlay (overlaysOf (w .tables) (vtlOf vtl)) p ≡ knows es p
+  known-in = ap (λ (o : List ℕ). isOverlay o p) is ∙ table-overlay es few p
+
+  pub entry-in : knows es p ≡ true → entryIn (w .tables) (vtlOf vtl) p ≡ entryOf es p
+  entry-in k = ap (λ (o : List ℕ). entryAt o (placeOf o p)) is ∙ table-entry es few p (first es p k)
+
+  recounted-in : knows es p ≡ true → (n : ℕ) → overlaysOf (recounted (w .tables) (vtlOf vtl) p n) (vtlOf vtl) ≡ tableOf (changed (withCount n) es p)
+  recounted-in k n =
+      let o : List ℕ = overlaysOf (w .tables) (vtlOf vtl) in
+      let d : length (countWords o (placeOf o p) n) ≡ 641 = length-set o (placeOf o p + 3) n ∙ ap (length {A = ℕ}) is ∙ table-length es few in
+      overlays-written (w .tables) (countWords o (placeOf o p) n) (vtlOf vtl) len d
+      ∙ ap (λ (x : List ℕ). countWords x (placeOf x p) n) is ∙ table-count es few p (first es p k) n
+
+  -- a known page is counted once more, and nothing is asked
+  pub register-known : (source checked new : ℕ) → registerRefusal (w .state) (fits w) (w .maps .shared) (w .tables) (currentIn w (vtlOf vtl) p source) vtl p source checked new ≡ 0 → knows es p ≡ true
+      → (overlaysOf (registerOf w vtl p source checked new .world .tables) (vtlOf vtl) ≡ tableOf (changed (withCount (entryOf es p .«ref_count» + 1)) es p))
+      × (registerOf w vtl p source checked new .world .maps ≡ w .maps) × (registerOf w vtl p source checked new .world .state ≡ w .state) × (registerOf w vtl p source checked new .reply ≡ finished 0 0 0 0)
+  unfolding registerOf registerTaken
+  register-known source checked new z k =
+      let x : Outcome = counting w (vtlOf vtl) p (entryIn (w .tables) (vtlOf vtl) p .«ref_count» + 1) in
+      let d : registerOf w vtl p source checked new ≡ x
+      = ap (λ (b : Bool). cond b (registerTaken w (vtlOf vtl) p source new) (refusedBy w (registerRefusal (w .state) (fits w) (w .maps .shared) (w .tables) (currentIn w (vtlOf vtl) p source) vtl p source checked new))) (eq-eqb _ 0 z)
+      ∙ ap (λ (b : Bool). cond b x (carriedChange w (w .pages) (startNew (settingsOf (w .state) .tracked) (vtlOf vtl) p source (bitsOf (currentIn w (vtlOf vtl) p source)) new))) (known-in ∙ k) in (
+        ap (λ (y : Outcome). overlaysOf (y .world .tables) (vtlOf vtl)) d ∙ recounted-in k (entryIn (w .tables) (vtlOf vtl) p .«ref_count» + 1)
+            ∙ ap (λ (y : OverlayPage). tableOf (changed (withCount (y .«ref_count» + 1)) es p)) (entry-in k),
+        ap (λ (y : Outcome). y .world .maps) d,
+        ap (λ (y : Outcome). y .world .state) d,
+        ap (λ (y : Outcome). y .reply) d,
+      )
+
+  -- a count above 1 is lowered, and nothing is asked
+  pub unregister-lowers : unregisterRefusal (w .state) (fits w) (w .tables) vtl p ≡ 0 → knows es p ≡ true → 1 < entryOf es p .«ref_count»
+      → (overlaysOf (unregisterOf w vtl p .world .tables) (vtlOf vtl) ≡ tableOf (changed (withCount (entryOf es p .«ref_count» - 1)) es p))
+      × (unregisterOf w vtl p .world .maps ≡ w .maps) × (unregisterOf w vtl p .world .state ≡ w .state) × (unregisterOf w vtl p .reply ≡ finished 0 0 0 0)
+  unfolding unregisterOf unregisterTaken
+  unregister-lowers z k h =
+      let e : OverlayPage = entryIn (w .tables) (vtlOf vtl) p in
+      let x : Outcome = counting w (vtlOf vtl) p (e .«ref_count» - 1) in
+      let d : unregisterOf w vtl p ≡ x
+      = ap (λ (b : Bool). cond b (unregisterTaken w (vtlOf vtl) p) (refusedBy w (unregisterRefusal (w .state) (fits w) (w .tables) vtl p))) (eq-eqb _ 0 z)
+      ∙ ap (λ (b : Bool). cond b x (carriedChange w (w .pages) (startOld (settingsOf (w .state) .tracked) (vtlOf vtl) p (e .«previous_permissions») (e .«gpn_source»))))
+      (lt-ltb 1 (e .«ref_count») (subst (λ (y : OverlayPage). 1 < y .«ref_count») (sym (entry-in k)) h)) in (
+        ap (λ (y : Outcome). overlaysOf (y .world .tables) (vtlOf vtl)) d ∙ recounted-in k (e .«ref_count» - 1)
+            ∙ ap (λ (y : OverlayPage). tableOf (changed (withCount (y .«ref_count» - 1)) es p)) (entry-in k),
+        ap (λ (y : Outcome). y .world .maps) d,
+        ap (λ (y : Outcome). y .world .state) d,
+        ap (λ (y : Outcome). y .reply) d,
+      )

@@ -1,0 +1,98 @@
+-- What refuses the calls on overlay pages (01, "Overlays and locks", "From the input" 4, 7 and 8, "From the state" 10, 12 to 14, 17, 19 and 20, and the
+-- order of refusals).
+use mathlib.Core.Bool.{Bool, true, cond, not, _&&_}
+use mathlib.Core.List.{List}
+use Prim.Native.Nat.{ℕ, _+_}
+use lib.Dec.{eqb, ltb}
+use lib.ListN.{length}
+use Rattle.abi.specs.Flags as bits
+use Rattle.abi.specs.Limits as limit
+use Rattle.abi.specs.Refusals as refusal
+use Rattle.laws.specs.Refusal.{unless}
+use Rattle.bitmap.specs.Pages.{bitAt}
+use Rattle.layout.specs.declared.MemoryRangeWithNode.{MemoryRangeWithNode}
+use Rattle.layout.specs.Layout.{isRam}
+use Rattle.permissions.specs.declared.GuestVtl.{GuestVtl}
+use Rattle.permissions.specs.declared.HvMapGpaFlags.{HvMapGpaFlags}
+use Rattle.permissions.specs.Flags.{fitVtl, vtlOf, fitFlags, flagsOf, noFlags, fitBool, boolOf}
+use Rattle.mapping.specs.Maps.{Permissions}
+use Rattle.access.specs.Query.{lowerFlags}
+use Rattle.overlay_table.specs.declared.OverlayPage.{OverlayPage}
+use Rattle.overlay_table.specs.Overlays.{isOverlay, placeOf, entryAt, addCode}
+use Rattle.protector_state.specs.State.{stateLen, settingsOf, entriesIn}
+use Rattle.protector.specs.World.{overlaysOf, locksOf, isLocked, statusIn}
+
+-- ---- what all of them test first: 4 of the state, 20, 19, 4 of what else is lent, 8 of the VTL
+
+unfoldable pub callRefusal : List ℕ → Bool → ℕ → ℕ → ℕ
+callRefusal s fit vtl rest =
+    unless (eqb (length s) stateLen) refusal.wrongLength
+    (unless (eqb (statusIn s) 0) (statusIn s)
+    (unless fit refusal.wrongLength
+    (unless (fitVtl vtl) refusal.unfitNumber
+    rest)))
+
+-- ---- unregister_overlay_page: 14
+
+unfoldable pub unregisterRefusal : List ℕ → Bool → List ℕ → ℕ → ℕ → ℕ
+unregisterRefusal s fit t vtl p = callRefusal s fit vtl (unless (isOverlay (overlaysOf t (vtlOf vtl)) p) refusal.noOverlay 0)
+
+-- ---- register_overlay_page: a source as it crosses, guest memory 0 and Dma 1; new flags, 16 where none are given
+
+abbrev pub flagsRefusal : ℕ → ℕ → ℕ → ℕ → ℕ
+flagsRefusal source checked new rest =
+    unless (fitBool source) refusal.unfitNumber
+    (unless (fitFlags checked) refusal.unfitNumber
+    (unless (ltb new (bits.noFlags + 1)) refusal.unfitNumber
+    rest))
+
+-- each flag that is needed is among a page's own
+abbrev pub holds : Bool → Bool → Bool
+holds own needed = cond needed own true
+
+unfoldable pub within : HvMapGpaFlags → HvMapGpaFlags → Bool
+within own needed =
+    holds (own .readable) (needed .readable)
+    && (holds (own .writable) (needed .writable)
+    && (holds (own .«kernel_executable») (needed .«kernel_executable») && holds (own .«user_executable») (needed .«user_executable»)))
+
+-- a known page: the new flags, else the checked, within the overlay's own; then room in its count
+abbrev pub neededOf : ℕ → ℕ → ℕ
+neededOf checked new = cond (ltb new bits.noFlags) new checked
+
+unfoldable pub knownRefusal : OverlayPage → ℕ → ℕ → ℕ
+knownRefusal e checked new =
+    unless (within (flagsOf (e .«overlay_permissions»)) (flagsOf (neededOf checked new))) refusal.narrow
+    (unless (ltb (e .«ref_count») limit.refCount) refusal.full
+    0)
+
+-- a new page of guest memory: 7, 13 unless its current flags hold the checked, 12 where it is shared, 10, 17
+unfoldable pub guestRefusal : List MemoryRangeWithNode → List ℕ → List ℕ → List ℕ → ℕ → HvMapGpaFlags → ℕ → ℕ
+guestRefusal es shared overlays locks p current checked =
+    unless (isRam es p) refusal.notRam
+    (unless (within current (flagsOf checked)) refusal.narrow
+    (unless (not (bitAt 8 shared p)) refusal.shared
+    (unless (not (isLocked overlays locks p)) refusal.locked
+    (addCode overlays))))
+
+-- a new Dma page: 7 where it is RAM, 10, 17
+unfoldable pub dmaRefusal : List MemoryRangeWithNode → List ℕ → List ℕ → ℕ → ℕ
+dmaRefusal es overlays locks p =
+    unless (not (isRam es p)) refusal.notRam
+    (unless (not (isLocked overlays locks p)) refusal.locked
+    (addCode overlays))
+
+unfoldable pub pageRefusal : List MemoryRangeWithNode → List ℕ → List ℕ → List ℕ → ℕ → ℕ → HvMapGpaFlags → ℕ → ℕ → ℕ
+pageRefusal es shared overlays locks p source current checked new =
+    cond (isOverlay overlays p) (knownRefusal (entryAt overlays (placeOf overlays p)) checked new)
+    (cond (boolOf source) (dmaRefusal es overlays locks p) (guestRefusal es shared overlays locks p current checked))
+
+unfoldable pub registerRefusal : List ℕ → Bool → List ℕ → List ℕ → HvMapGpaFlags → ℕ → ℕ → ℕ → ℕ → ℕ → ℕ
+registerRefusal s fit shared t current vtl p source checked new =
+    callRefusal s fit vtl
+    (flagsRefusal source checked new
+    (pageRefusal (entriesIn s) shared (overlaysOf t (vtlOf vtl)) (locksOf t (vtlOf vtl)) p source current checked new))
+
+-- the flags that a page has: a Dma page none, guest memory those of the VTL
+unfoldable pub currentOf : List ℕ → Permissions → GuestVtl → ℕ → ℕ → HvMapGpaFlags
+currentOf s m v p source = cond (boolOf source) noFlags (lowerFlags m (settingsOf s .tracked) v p)

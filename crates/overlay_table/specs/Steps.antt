@@ -1,0 +1,46 @@
+-- `findFrom`, step by step: the search from i finds i, or is the search from i + 1, and at the length it finds nothing.
+-- Assumes nothing.
+use mathlib.Core.Path.{_≡_, refl, sym, _∙_}
+use mathlib.Core.Bool.{Bool, true, false, not}
+use Prim.Native.Nat.{ℕ, _+_, _<_}
+use native.Mathlib.Numerals.{add-one}
+use mathlib.Core.List.{List}
+use lib.ListN.{length, getD, drop as dropL}
+use lib.Seq.{drop-cons, drop-length}
+use lib.Dec.{T as Holds, eqb}
+use borrow.Author.Tests.{eq-eqb, ne-eqb}
+use Rattle.overlay_table.specs.Search.{none, pick, findFrom}
+use Rattle.overlay_table.specs.declared.OverlayPage.{OverlayPage}
+use Rattle.overlay_table.specs.declared.Found.{Found}
+use Rattle.overlay_table.specs.declared.Found.the-variants.{At, Nothing}
+
+step-is : (ys : List OverlayPage) (page i : ℕ) → i < length ys → findFrom (dropL i ys) page i ≡ pick (eqb (getD ys i none .gpn) page) (At i) (findFrom (dropL (i + 1) ys) page (i + 1))
+unfolding findFrom
+step-is ys page i l = rw (drop-cons ys i none l, add-one i)
+
+on-true : (t : Bool) (a b : Found) → Holds t → pick t a b ≡ a
+on-true true a b h = refl
+on-true false a b h = absurd h
+
+on-false : (t : Bool) (a b : Found) → Holds (not t) → pick t a b ≡ b
+on-false true a b h = absurd h
+on-false false a b h = refl
+
+pub seen : (ys : List OverlayPage) (page i : ℕ) → i < length ys → Holds (eqb (getD ys i none .gpn) page) → At i ≡ findFrom (dropL i ys) page i
+seen ys page i l hit = sym (step-is ys page i l ∙ on-true (eqb (getD ys i none .gpn) page) (At i) (findFrom (dropL (i + 1) ys) page (i + 1)) hit)
+
+pub past : (ys : List OverlayPage) (page i : ℕ) → i < length ys → Holds (not (eqb (getD ys i none .gpn) page)) → findFrom (dropL (i + 1) ys) page (i + 1) ≡ findFrom (dropL i ys) page i
+past ys page i l miss = sym (step-is ys page i l ∙ on-false (eqb (getD ys i none .gpn) page) (At i) (findFrom (dropL (i + 1) ys) page (i + 1)) miss)
+
+pub none-left : (ys : List OverlayPage) (page : ℕ) → findFrom (dropL (length ys) ys) page (length ys) ≡ Nothing
+unfolding findFrom
+none-left ys page = rw drop-length
+
+-- the same where the test is a fact of numbers, and what stands past the end is any overlay
+pub seen-at : (ys : List OverlayPage) (page i : ℕ) (d : OverlayPage) → i < length ys → getD ys i d .gpn ≡ page → At i ≡ findFrom (dropL i ys) page i
+unfolding findFrom
+seen-at ys page i d l e = rw (drop-cons ys i d l, eq-eqb (getD ys i d .gpn) page e)
+
+pub past-at : (ys : List OverlayPage) (page i : ℕ) (d : OverlayPage) → i < length ys → (getD ys i d .gpn ≡ page → ⊥) → findFrom (dropL (i + 1) ys) page (i + 1) ≡ findFrom (dropL i ys) page i
+unfolding findFrom
+past-at ys page i d l n = rw (drop-cons ys i d l, ne-eqb (getD ys i d .gpn) page n, add-one i)

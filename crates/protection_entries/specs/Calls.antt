@@ -1,0 +1,109 @@
+-- The protection change and the default change, each as a definition of what it gives (01, "Defaults", "The request under way", its last paragraph,
+-- refusals 4, 5, 7, 8, 10 to 12, 19 and 20, and the order of refusals).
+use mathlib.Core.Bool.{Bool, true, not, cond}
+use mathlib.Core.List.{List}
+use Prim.Native.Nat.{ℕ, _+_}
+use lib.Dec.{eqb}
+use lib.ListN.{length, set}
+use Rattle.abi.specs.Places as place
+use Rattle.abi.specs.Refusals as refusal
+use Rattle.bitmap.specs.Pages.{bitAt}
+use Rattle.laws.specs.Refusal.{unless}
+use Rattle.permissions.specs.declared.GuestVtl.{GuestVtl}
+use Rattle.permissions.specs.Flags.{fitVtl, vtlOf, vtlNumber, fitFlags}
+use Rattle.page_list.specs.declared.PageRun.{PageRun}
+use Rattle.page_list.specs.Pages.{pagesOf, isLong, isRagged}
+use Rattle.request_pages.specs.Request.{tableOf}
+use Rattle.default_change.specs.Pieces.{nextPiece}
+use Rattle.default_change.specs.Barred as barring
+use Rattle.default_change.specs.Renewed.{renewed}
+use Rattle.change_steps.specs.declared.ChangeStep.{ChangeStep}
+use Rattle.change_steps.specs.Changes as changes
+use Rattle.protector_state.specs.State.{stateLen, settingsOf, entriesIn}
+use Rattle.protector.specs.World.{World, Outcome, world, overlaysOf, locksOf, fits, statusIn, withOverlays}
+use Rattle.protector.specs.Calls.{decided, refusedBy, carriedChange, pageRefusal, firstRefusal}
+
+-- ---- a default change: 4, 20, 19, 4, 8
+
+unfoldable pub defaultRefusal : List ℕ → Bool → ℕ → ℕ → ℕ
+defaultRefusal s fit vtl flags =
+    unless (eqb (length s) stateLen) refusal.wrongLength
+    (unless (eqb (statusIn s) 0) (statusIn s)
+    (unless fit refusal.wrongLength
+    (unless (fitVtl vtl) refusal.unfitNumber
+    (unless (fitFlags flags) refusal.unfitNumber
+    0))))
+
+-- the default is stored before locks are looked at ("Defaults"): that of VTL1 stands behind that of VTL0
+abbrev pub storedDefault : List ℕ → GuestVtl → ℕ → List ℕ
+storedDefault s v flags = set s (place.default0 + vtlNumber v) flags
+
+abbrev pub stored : World → GuestVtl → ℕ → World
+stored w v flags = world (w .maps) (storedDefault (w .state) v flags) (w .pages) (w .tables)
+
+-- 10: a private RAM page without an overlay is locked, in the target VTL
+abbrev pub barred : List ℕ → List ℕ → List ℕ → GuestVtl → Bool
+barred private s tables v = barring.barred private (overlaysOf tables v) (locksOf tables v) (entriesIn s)
+
+-- the target VTL's overlays on private RAM pages get the new previous permissions, before the first Protect
+abbrev pub renewedTables : List ℕ → List ℕ → List ℕ → GuestVtl → ℕ → List ℕ
+renewedTables private s tables v flags = withOverlays tables v (renewed private (entriesIn s) flags (overlaysOf tables v))
+
+abbrev pub renewedIn : World → GuestVtl → ℕ → World
+renewedIn w v flags = world (w .maps) (w .state) (w .pages) (renewedTables (w .maps .private) (w .state) (w .tables) v flags)
+
+-- the first piece is looked for from page 0 on
+abbrev pub firstPiece : List ℕ → List ℕ → List ℕ → GuestVtl → PageRun
+firstPiece private s tables v = nextPiece private (overlaysOf tables v) (entriesIn s) 0
+
+abbrev pub defaultStep : List ℕ → List ℕ → List ℕ → GuestVtl → ℕ → ChangeStep
+defaultStep private s tables v flags = changes.startRam (settingsOf s .tracked) v flags (firstPiece private s tables v)
+
+unfoldable pub defaultStarted : World → GuestVtl → ℕ → Outcome
+defaultStarted w v flags = carriedChange w (w .pages) (defaultStep (w .maps .private) (w .state) (w .tables) v flags)
+
+-- once the default is stored: a refusal by 10 leaves it
+unfoldable pub defaultTaken : World → GuestVtl → ℕ → Outcome
+defaultTaken w v flags = cond (barred (w .maps .private) (w .state) (w .tables) v) (refusedBy w refusal.locked) (defaultStarted (renewedIn w v flags) v flags)
+
+unfoldable pub defaultOf : World → ℕ → ℕ → Outcome
+defaultOf w vtl flags = decided w (defaultRefusal (w .state) (fits w) vtl flags) (defaultTaken (stored w (vtlOf vtl) flags) (vtlOf vtl) flags)
+
+-- ---- a protection change: 4, 20, 19, 4, 5, 8; each page in turn, 7, 10 and 11 as of a page to be shared; then 12 where any page is shared
+
+abbrev pub anyShared : List ℕ → List ℕ → Bool
+anyShared shared ps = barring.anyOf (bitAt 8 shared) ps
+
+abbrev pub eachRefusal : List ℕ → List ℕ → GuestVtl → List ℕ → ℕ
+eachRefusal s tables v l = firstRefusal (pageRefusal (entriesIn s) (overlaysOf tables v) (locksOf tables v) true) (pagesOf l)
+
+abbrev pub pagesRefusal : List ℕ → List ℕ → List ℕ → GuestVtl → List ℕ → ℕ
+pagesRefusal s shared tables v l =
+    unless (eqb (eachRefusal s tables v l) 0) (eachRefusal s tables v l)
+    (unless (not (anyShared shared (pagesOf l))) refusal.shared
+    0)
+
+unfoldable pub protectionRefusal : List ℕ → Bool → List ℕ → List ℕ → ℕ → ℕ → List ℕ → ℕ
+protectionRefusal s fit shared tables vtl flags l =
+    unless (eqb (length s) stateLen) refusal.wrongLength
+    (unless (eqb (statusIn s) 0) (statusIn s)
+    (unless fit refusal.wrongLength
+    (unless (not (isLong l)) refusal.longList
+    (unless (fitVtl vtl) refusal.unfitNumber
+    (unless (fitFlags flags) refusal.unfitNumber
+    (unless (not (isRagged l)) refusal.unfitNumber
+    (pagesRefusal s shared tables (vtlOf vtl) l)))))))
+
+-- all listed pages with their places, in list order
+abbrev pub allListed : List ℕ → List ℕ → List ℕ
+allListed l t = tableOf (λ p. true) (pagesOf l) t
+
+abbrev pub protectionStep : List ℕ → List ℕ → GuestVtl → ℕ → ℕ → ChangeStep
+protectionStep s t v flags n = changes.startPages (settingsOf s .tracked) v flags n t
+
+unfoldable pub protectionTaken : World → GuestVtl → ℕ → List ℕ → Outcome
+protectionTaken w v flags l = carriedChange w (allListed l (w .pages)) (protectionStep (w .state) (allListed l (w .pages)) v flags (length (pagesOf l)))
+
+unfoldable pub protectionOf : World → ℕ → ℕ → List ℕ → Outcome
+protectionOf w vtl flags l =
+    decided w (protectionRefusal (w .state) (fits w) (w .maps .shared) (w .tables) vtl flags l) (protectionTaken w (vtlOf vtl) flags l)

@@ -1,0 +1,347 @@
+// The entries that change the protections of pages, and the default of a VTL.
+ghost use mathlib.Core.Path.{_≡_};
+ghost use Prim.Native.Nat.{_+_, _<_, _≤_, _^_};
+ghost use lib.ListN.{length};
+ghost use Rattle.permissions.specs.Flags.{flagsOf};
+ghost use Rattle.page_list.specs.Pages.{pagesOf};
+ghost use Rattle.mapping.specs.Maps.{maps, perms};
+ghost use Rattle.protector_state.specs.State.{stateLen, settingsOf};
+ghost use Rattle.protector_state.specs.Reply.{flatOf};
+ghost use Rattle.change_state.specs.State.{withChange};
+ghost use Rattle.protector.specs.World.{world, outcome, tablesLen, lengthsFit, permittedRun};
+ghost use Rattle.protection_entries.specs.Calls.{defaultRefusal, storedDefault, barred, renewedTables, firstPiece, defaultStep, defaultOf, anyShared, pagesRefusal, protectionRefusal, protectionStep, protectionOf};
+use abi::STATE_WORDS;
+use abi::place;
+use abi::refusal;
+use abi::table;
+use change_steps::ChangeStep;
+use page_list::PageRun;
+use permissions::GuestVtl;
+use permissions::HvMapGpaFlags;
+use protector_state::Reply;
+
+// The number that refuses a default change: 0 where none does.
+fn default_refusal(
+    state: &[u64],
+    private: u64,
+    shared: u64,
+    read: u64,
+    write: u64,
+    kernel: u64,
+    user: u64,
+    pages: u64,
+    tables: u64,
+    vtl: u64,
+    flags: u64,
+) -> u64
+    ensures { λ r. ⌜ r ≡ defaultRefusal (now (state .entry)) (lengthsFit (now (state .entry)) private shared read write kernel user pages tables) vtl flags ⌝ }
+{
+    if state.len() != STATE_WORDS {
+        return refusal::WRONG_LENGTH;
+    }
+    let busy = protector::status(state);
+    if busy != 0 {
+        return busy;
+    }
+    if !protector::lengths_fit(
+        state,
+        private,
+        shared,
+        read,
+        write,
+        kernel,
+        user,
+        pages,
+        tables,
+    ) {
+        return refusal::WRONG_LENGTH;
+    }
+    if !permissions::is_vtl(vtl) {
+        return refusal::UNFIT_NUMBER;
+    }
+    if !permissions::is_flags(flags) {
+        return refusal::UNFIT_NUMBER;
+    }
+    0
+}
+
+fn store_default(state: &mut [u64], vtl: GuestVtl, flags: u64)
+    requires { ⌜ length (now state) ≡ stateLen ⌝ }
+    ensures { λ _. ⌜ now (state .exit) ≡ storedDefault (now (state .entry)) vtl flags ⌝ }
+{
+    let v = permissions::vtl_number(vtl);
+    let i = place::DEFAULT0 as u64 + v;
+    state[i as usize] = flags;
+}
+
+// Whether a locked page of a VTL bars a change of its default.
+fn is_barred(private: &[u8], state: &[u64], tables: &[u64], vtl: GuestVtl) -> bool
+    requires { ⌜ (length (now state) ≡ stateLen) × (length (now tables) ≡ tablesLen) ⌝ }
+    ensures { λ r. ⌜ r ≡ barred (now (private .entry)) (now (state .entry)) (now (tables .entry)) vtl ⌝ }
+{
+    default_change::is_barred(
+        private,
+        protector::overlays_of(tables, vtl),
+        protector::locks_of(tables, vtl),
+        protector_state::ram_of(state),
+    )
+}
+
+// The previous permissions of a VTL's overlays on private RAM pages.
+fn renew(tables: &mut [u64], private: &[u8], state: &[u64], vtl: GuestVtl, flags: u64)
+    requires { ⌜ (length (now state) ≡ stateLen) × (length (now tables) ≡ tablesLen) ⌝ }
+    ensures { λ _. ⌜ now (tables .exit) ≡ renewedTables (now (private .entry)) (now (state .entry)) (now (tables .entry)) vtl flags ⌝ }
+{
+    let ram = protector_state::ram_of(state);
+    match vtl {
+        GuestVtl::Vtl0 => default_change::renew(
+            &mut tables[table::OVERLAYS0..table::OVERLAYS1],
+            private,
+            ram,
+            flags,
+        ),
+        GuestVtl::Vtl1 => default_change::renew(
+            &mut tables[table::OVERLAYS1..table::LOCKS0],
+            private,
+            ram,
+            flags,
+        ),
+    }
+}
+
+fn first_piece(private: &[u8], state: &[u64], tables: &[u64], vtl: GuestVtl) -> PageRun
+    requires { ⌜ (length (now state) ≡ stateLen) × (length (now tables) ≡ tablesLen) ⌝ }
+    ensures { λ r. ⌜ r ≡ firstPiece (now (private .entry)) (now (state .entry)) (now (tables .entry)) vtl ⌝ }
+    ensures { λ r. ⌜ r .first + r .count < 2 ^ 64 ⌝ }
+{
+    default_change::next_piece(
+        private,
+        protector::overlays_of(tables, vtl),
+        protector_state::ram_of(state),
+        0,
+    )
+}
+
+// The first step of a default change.
+fn default_step(
+    private: &[u8],
+    state: &[u64],
+    tables: &[u64],
+    vtl: GuestVtl,
+    flags: u64,
+) -> ChangeStep
+    requires { ⌜ (length (now state) ≡ stateLen) × (length (now tables) ≡ tablesLen) ⌝ }
+    ensures { λ r. ⌜ r ≡ defaultStep (now (private .entry)) (now (state .entry)) (now (tables .entry)) vtl flags ⌝ }
+    ensures { λ r. ⌜ r .written .first + r .written .count ≤ 2 ^ 64 ⌝ }
+{
+    let piece = first_piece(private, state, tables, vtl);
+    change_steps::start_ram(state[place::TRACKED] == 1, vtl, flags, piece)
+}
+
+// A step that enters no overlay carried out.
+fn carry_out(
+    read: &mut [u8],
+    write: &mut [u8],
+    kernel: &mut [u8],
+    user: &mut [u8],
+    state: &mut [u64],
+    x: ChangeStep,
+) -> Reply
+    requires { ⌜ (length (now state) ≡ stateLen) × (x .written .first + x .written .count ≤ 2 ^ 64) ⌝ }
+    ensures { λ _. ⌜ perms (now (read .exit)) (now (write .exit)) (now (kernel .exit)) (now (user .exit)) ≡ permittedRun (x .written) (flagsOf (x .change .flags)) (perms (now (read .entry)) (now (write .entry)) (now (kernel .entry)) (now (user .entry))) ⌝ }
+    ensures { λ _. ⌜ now (state .exit) ≡ withChange (x .stage) (x .change) (now (state .entry)) ⌝ }
+    ensures { λ r. ⌜ r ≡ flatOf (settingsOf (now (state .entry)) .isolation) (x .answer) ⌝ }
+{
+    let isolation = permissions::isolation_of(state[place::ISOLATION]);
+    let stage = x.stage;
+    let change = x.change;
+    let answer = x.answer;
+    let run = x.written;
+    let flags = HvMapGpaFlags::from_bits(change.flags);
+    change_writes::permit(read, write, kernel, user, run, flags);
+    change_state::save(state, stage, change);
+    protector_state::flatten(isolation, answer)
+}
+
+// A VTL has another default, to which its overlays on private RAM will return: asks for a Protect of each run of private RAM
+// between them, then for Wait, Flush and TlbWait. 10 refuses it with the default stored; every other refusal changes nothing.
+#[no_mangle]
+pub extern "C" fn protector_change_default_vtl_protections(
+    private: &[u8],
+    shared: &[u8],
+    read: &mut [u8],
+    write: &mut [u8],
+    kernel: &mut [u8],
+    user: &mut [u8],
+    state: &mut [u64],
+    pages: &[u64],
+    tables: &mut [u64],
+    vtl: u64,
+    flags: u64,
+) -> Reply
+    ensures { λ r. ⌜ outcome (maps (now (private .entry)) (now (shared .entry)) (now (read .exit)) (now (write .exit)) (now (kernel .exit)) (now (user .exit))) (now (state .exit)) (now (pages .entry)) (now (tables .exit)) r ≡ defaultOf (world (maps (now (private .entry)) (now (shared .entry)) (now (read .entry)) (now (write .entry)) (now (kernel .entry)) (now (user .entry))) (now (state .entry)) (now (pages .entry)) (now (tables .entry))) vtl flags ⌝ }
+{
+    let n = default_refusal(
+        state,
+        private.len() as u64,
+        shared.len() as u64,
+        read.len() as u64,
+        write.len() as u64,
+        kernel.len() as u64,
+        user.len() as u64,
+        pages.len() as u64,
+        tables.len() as u64,
+        vtl,
+        flags,
+    );
+    if n != 0 {
+        return protector_state::refused(n);
+    }
+    let v = permissions::vtl_of(vtl);
+    store_default(state, v, flags);
+    if is_barred(private, state, tables, v) {
+        return protector_state::refused(refusal::LOCKED);
+    }
+    renew(tables, private, state, v, flags);
+    let x = default_step(private, state, tables, v, flags);
+    carry_out(read, write, kernel, user, state, x)
+}
+
+// Whether a page of a list is shared.
+fn is_any_shared(shared: &[u8], list: &[u8]) -> bool
+    ensures { λ r. ⌜ r ≡ anyShared (now (shared .entry)) (pagesOf (now (list .entry))) ⌝ }
+{
+    let count = page_list::page_count(list);
+    let mut i: u64 = 0;
+    while i < count {
+        let p = page_list::page_at(list, i);
+        if bitmap::page_state(shared, p) {
+            return true;
+        }
+        i += 1;
+    }
+    false
+}
+
+// The number that refuses the pages of a protection change: 0 where none does.
+fn pages_refusal(state: &[u64], shared: &[u8], tables: &[u64], vtl: GuestVtl, list: &[u8]) -> u64
+    requires { ⌜ (length (now state) ≡ stateLen) × (length (now tables) ≡ tablesLen) ⌝ }
+    ensures { λ r. ⌜ r ≡ pagesRefusal (now (state .entry)) (now (shared .entry)) (now (tables .entry)) vtl (now (list .entry)) ⌝ }
+{
+    let each = protector::listed_refusal(state, tables, vtl, true, list);
+    let any = is_any_shared(shared, list);
+    if each != 0 {
+        return each;
+    }
+    if any {
+        return refusal::SHARED;
+    }
+    0
+}
+
+// The number that refuses a protection change: 0 where none does.
+fn protection_refusal(
+    state: &[u64],
+    private: u64,
+    shared: &[u8],
+    read: u64,
+    write: u64,
+    kernel: u64,
+    user: u64,
+    pages: u64,
+    tables: &[u64],
+    vtl: u64,
+    flags: u64,
+    list: &[u8],
+) -> u64
+    ensures { λ r. ⌜ r ≡ protectionRefusal (now (state .entry)) (lengthsFit (now (state .entry)) private (length (now (shared .entry))) read write kernel user pages (length (now (tables .entry)))) (now (shared .entry)) (now (tables .entry)) vtl flags (now (list .entry)) ⌝ }
+{
+    if state.len() != STATE_WORDS {
+        return refusal::WRONG_LENGTH;
+    }
+    let busy = protector::status(state);
+    if busy != 0 {
+        return busy;
+    }
+    let marks = shared.len() as u64;
+    let held = tables.len() as u64;
+    if !protector::lengths_fit(
+        state,
+        private,
+        marks,
+        read,
+        write,
+        kernel,
+        user,
+        pages,
+        held,
+    ) {
+        return refusal::WRONG_LENGTH;
+    }
+    if page_list::is_long(list) {
+        return refusal::LONG_LIST;
+    }
+    if !permissions::is_vtl(vtl) {
+        return refusal::UNFIT_NUMBER;
+    }
+    if !permissions::is_flags(flags) {
+        return refusal::UNFIT_NUMBER;
+    }
+    if page_list::is_ragged(list) {
+        return refusal::UNFIT_NUMBER;
+    }
+    let v = permissions::vtl_of(vtl);
+    pages_refusal(state, shared, tables, v, list)
+}
+
+// The first step of a protection change of the first n pages of a table.
+fn protection_step(state: &[u64], pages: &[u64], vtl: GuestVtl, flags: u64, n: u64) -> ChangeStep
+    requires { ⌜ length (now state) ≡ stateLen ⌝ }
+    ensures { λ r. ⌜ r ≡ protectionStep (now (state .entry)) (now (pages .entry)) vtl flags n ⌝ }
+    ensures { λ r. ⌜ r .written .first + r .written .count ≤ 2 ^ 64 ⌝ }
+{
+    change_steps::start_pages(state[place::TRACKED] == 1, vtl, flags, n, pages)
+}
+
+// A VTL has other flags for the pages of a list: asks for a Protect of each run in it, then for Wait, Flush and TlbWait. A
+// refusal changes nothing.
+#[no_mangle]
+pub extern "C" fn protector_change_vtl_protections(
+    private: &[u8],
+    shared: &[u8],
+    read: &mut [u8],
+    write: &mut [u8],
+    kernel: &mut [u8],
+    user: &mut [u8],
+    state: &mut [u64],
+    pages: &mut [u64],
+    tables: &[u64],
+    vtl: u64,
+    flags: u64,
+    list: &[u8],
+) -> Reply
+    ensures { λ r. ⌜ outcome (maps (now (private .entry)) (now (shared .entry)) (now (read .exit)) (now (write .exit)) (now (kernel .exit)) (now (user .exit))) (now (state .exit)) (now (pages .exit)) (now (tables .entry)) r ≡ protectionOf (world (maps (now (private .entry)) (now (shared .entry)) (now (read .entry)) (now (write .entry)) (now (kernel .entry)) (now (user .entry))) (now (state .entry)) (now (pages .entry)) (now (tables .entry))) vtl flags (now (list .entry)) ⌝ }
+{
+    let n = protection_refusal(
+        state,
+        private.len() as u64,
+        shared,
+        read.len() as u64,
+        write.len() as u64,
+        kernel.len() as u64,
+        user.len() as u64,
+        pages.len() as u64,
+        tables,
+        vtl,
+        flags,
+        list,
+    );
+    if n != 0 {
+        return protector_state::refused(n);
+    }
+    let v = permissions::vtl_of(vtl);
+    let count = page_list::page_count(list);
+    request_pages::store_all(pages, list);
+    let x = protection_step(state, pages, v, flags, count);
+    carry_out(read, write, kernel, user, state, x)
+}

@@ -1,0 +1,154 @@
+// The pages of the request under way, in a table of 1,024 words: pages in the first 512, then their places in the list
+// as sent.
+ghost use mathlib.Core.Path.{_≡_};
+ghost use mathlib.Core.Bool.{true, cond, _&&_};
+ghost use Prim.Native.Nat.{_+_, _<_, _≤_};
+ghost use lib.ListN.{length, getD, set, take};
+ghost use Rattle.abi.specs.Limits as limit;
+ghost use Rattle.abi.specs.Lengths.{pagesLen, placesStart};
+ghost use Rattle.laws.specs.Ranges.{between};
+ghost use Rattle.bitmap.specs.Pages.{bitAt, written};
+ghost use Rattle.page_list.specs.Pages.{pagesOf};
+ghost use Rattle.page_list.specs.Runs.{runAt};
+ghost use Rattle.request_pages.specs.Request.{pick, tableOf, stopAt, isOpen, wanted, runEnd, put};
+use abi::PLACES_START;
+use page_list::PageRun;
+
+// Whether a page is readable and writable.
+fn is_open(read: &[u8], write: &[u8], p: u64) -> bool
+    ensures { λ r. ⌜ r ≡ (bitAt 8 (now (read .entry)) p && bitAt 8 (now (write .entry)) p) ⌝ }
+{
+    bitmap::page_state(read, p) && bitmap::page_state(write, p)
+}
+
+// How many pages of a list come before the first that isn't open, where that is asked.
+pub fn stop_at(read: &[u8], write: &[u8], asked: bool, list: &[u8]) -> u64
+    ensures { λ r. ⌜ r ≡ stopAt (isOpen (now (read .entry)) (now (write .entry)) asked) (pagesOf (now (list .entry))) ⌝ }
+{
+    let n = page_list::page_count(list);
+    if !asked {
+        return n;
+    }
+    let mut i: u64 = 0;
+    while i < n {
+        if !is_open(read, write, page_list::page_at(list, i)) {
+            return i;
+        }
+        i += 1;
+    }
+    i
+}
+
+// Whether a page's shared mark isn't yet as asked.
+fn is_wanted(shared: &[u8], share: bool, p: u64) -> bool
+    ensures { λ r. ⌜ r ≡ wanted (now (shared .entry)) share p ⌝ }
+{
+    if bitmap::page_state(shared, p) {
+        !share
+    } else {
+        share
+    }
+}
+
+// A page stored with its place behind the k stored before, where it is kept; how many are stored then.
+fn store_one(t: &mut [u64], k: u64, p: u64, place: u64, keep: bool) -> u64
+    requires { ⌜ (k < limit.listedPages) × (length (now t) ≡ pagesLen) ⌝ }
+    ensures { λ r. ⌜ (r ≡ cond keep (k + 1) k) × (now (t .exit) ≡ cond keep (set (set (now (t .entry)) k p) (placesStart + k) place) (now (t .entry))) ⌝ }
+{
+    if keep {
+        let i = k as usize;
+        t[i] = p;
+        t[PLACES_START + i] = place;
+        return k + 1;
+    }
+    k
+}
+
+// The pages before place `stop` of a list that are wanted, with their places; how many they are.
+pub fn store(t: &mut [u64], shared: &[u8], share: bool, list: &[u8], stop: u64) -> u64
+    requires { ⌜ (length (now t) ≡ pagesLen) × (length (now list) ≤ limit.listBytes) ⌝ }
+    ensures { λ r. ⌜ (r ≡ length (pick (wanted (now (shared .entry)) share) (take stop (pagesOf (now (list .entry)))))) × (now (t .exit) ≡ tableOf (wanted (now (shared .entry)) share) (take stop (pagesOf (now (list .entry)))) (now (t .entry))) ⌝ }
+{
+    let n = numbers::least(stop, page_list::page_count(list));
+    let mut k: u64 = 0;
+    let mut i: u64 = 0;
+    while i < n {
+        let p = page_list::page_at(list, i);
+        k = store_one(t, k, p, i, is_wanted(shared, share, p));
+        i += 1;
+    }
+    k
+}
+
+// All pages of a list, with their places.
+pub fn store_all(t: &mut [u64], list: &[u8])
+    requires { ⌜ (length (now t) ≡ pagesLen) × (length (now list) ≤ limit.listBytes) ⌝ }
+    ensures { λ _. ⌜ now (t .exit) ≡ tableOf (λ p. true) (pagesOf (now (list .entry))) (now (t .entry)) ⌝ }
+{
+    let n = page_list::page_count(list);
+    let mut i: u64 = 0;
+    while i < n {
+        let p = page_list::page_at(list, i);
+        let _ = store_one(t, i, p, i, true);
+        i += 1;
+    }
+}
+
+// The place in the list as sent of the page at place i of the table.
+pub fn place_at(t: &[u64], i: u64) -> u64
+    ensures { λ r. ⌜ r ≡ getD (now (t .entry)) (placesStart + i) 0 ⌝ }
+{
+    if i < t.len() as u64 {
+        numbers::word_at(t, PLACES_START as u64 + i)
+    } else {
+        0
+    }
+}
+
+// The place after the run of ascending neighbours that starts at a place, among the first n.
+pub fn run_end(t: &[u64], n: u64, at: u64) -> u64
+    ensures { λ r. ⌜ r ≡ runEnd (now (t .entry)) n at ⌝ }
+{
+    let run = page_list::run_at(t, n, at);
+    at + run.count
+}
+
+// The pages from `first` to `last`, with it.
+pub fn set_run(map: &mut [u8], first: u64, last: u64, state: bool)
+    requires { ⌜ first ≤ last ⌝ }
+    ensures { λ _. ⌜ now (map .exit) ≡ written 8 (between first (last + 1)) state (now (map .entry)) ⌝ }
+{
+    if first == last {
+        bitmap::set_page(map, first, state);
+        return;
+    }
+    bitmap::update(map, first, last, state);
+    bitmap::set_page(map, last, state);
+}
+
+// The pages of the run at a place, of the first n.
+pub fn set_run_at(map: &mut [u8], t: &[u64], n: u64, at: u64, run: PageRun, state: bool)
+    requires { ⌜ (at < n) × (n ≤ length (now t)) × (run ≡ runAt (now t) n at) ⌝ }
+    ensures { λ _. ⌜ now (map .exit) ≡ put (now (t .entry)) at (runEnd (now (t .entry)) n at) state (now (map .entry)) ⌝ }
+{
+    let last = numbers::word_at(t, at + (run.count - 1));
+    set_run(map, run.first, last, state);
+}
+
+// The pages at the places from `from` to before `to`, run by run.
+pub fn set_places(map: &mut [u8], t: &[u64], from: u64, to: u64, state: bool)
+    ensures { λ _. ⌜ now (map .exit) ≡ put (now (t .entry)) from to state (now (map .entry)) ⌝ }
+{
+    let stop = numbers::least(to, t.len() as u64);
+    let mut i = from;
+    while i < stop {
+        let end = run_end(t, to, i);
+        set_run(
+            map,
+            numbers::word_at(t, i),
+            numbers::word_at(t, end - 1),
+            state,
+        );
+        i = end;
+    }
+}
