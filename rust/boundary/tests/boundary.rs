@@ -115,29 +115,23 @@ fn constants_are_the_same_in_rust() {
     }
 }
 
-/// The file of that name among the definitions of `history`, or among its proofs.
-fn of_history(name: &str, holds: &str) -> String {
-    let folders = ["specs", "proofs"].map(|folder| format!("crates/history/{folder}/{name}"));
-    let mut there = folders
-        .iter()
-        .filter_map(|path| fs::read_to_string(place(path)).ok());
-    there
-        .find(|text| text.contains(holds))
-        .unwrap_or_else(|| panic!("no {name} of history holds `{holds}`"))
+/// What `history` reads of the entries: their contracts (`Made`), and what they ask for (`Unasked`).
+fn made_text() -> String {
+    read("crates/history/specs/Made.antt")
 }
 
-/// The protector's entries of the header with their crates, and those whose part a file reads.
-fn theorem_differs(header: &Signatures, file: &str, holds: &str, part: &str) -> Vec<String> {
+/// The protector's entries of the header with their crates, and those whose part `history` reads.
+fn theorem_differs(header: &Signatures, part: &str) -> Vec<String> {
     let (_, crates) = in_crates();
     let of_protector = header.keys().filter(|name| name.starts_with("protector_"));
     let wanted = of_protector.map(|name| {
         let place = crates.get(name).cloned();
         (name.clone(), place.unwrap_or_default())
     });
-    let read = theorem::entries(&of_history(file, holds), part);
+    let read = theorem::entries(&made_text(), part);
     differences(
         ("the header", &wanted.collect()),
-        (file, &read),
+        ("the theorem", &read),
         String::clone,
     )
 }
@@ -145,13 +139,8 @@ fn theorem_differs(header: &Signatures, file: &str, holds: &str, part: &str) -> 
 #[test]
 fn the_theorem_is_about_every_entry() {
     let header = in_header(&header_text());
-    same(theorem_differs(&header, "Made.antt", "data Made", "Learnt"));
-    same(theorem_differs(
-        &header,
-        "Unasked.antt",
-        "record Unasked",
-        "Asked",
-    ));
+    same(theorem_differs(&header, "Learnt"));
+    same(theorem_differs(&header, "Asked"));
 }
 
 #[test]
@@ -211,27 +200,19 @@ fn an_entry_that_is_left_out_is_seen() {
     header.remove(setter).expect("the setter");
     let unlike = differences(("header", &header), ("crates", &entries), shown);
     assert_eq!(unlike.len(), 1, "{unlike:?}");
-    let unlike = theorem_differs(&header, "Made.antt", "data Made", "Learnt");
+    let unlike = theorem_differs(&header, "Learnt");
     assert!(
         unlike.len() == 1 && unlike[0].starts_with(setter),
         "{unlike:?}"
     );
-    // One that the theorem doesn't know, and one that it imports and doesn't use.
-    let made = of_history("Made.antt", "data Made");
+    // A contract that isn't read, and one that is read and not used.
+    let made = made_text();
     let known = theorem::entries(&made, "Learnt").len();
-    for (from, to) in [
-        (
-            "use Rattle.locked_pages.proofs.protector_lock_gpns.Reads",
-            "-- ",
-        ),
-        ("rLock.Learnt", "rUnlock.Learnt"),
-    ] {
-        assert!(made.contains(from), "{from}");
-        let edited = made.replace(from, to);
-        assert_eq!(
-            theorem::entries(&edited, "Learnt").len(),
-            known - 1,
-            "{from}"
-        );
+    let reads = made.lines().find(|line| line.contains(".Reads as "));
+    let reads = reads.expect("a contract is read");
+    let name = reads.rsplit(' ').next().expect("its name");
+    let used = format!("{name}.Learnt");
+    for edited in [made.replace(reads, ""), made.replace(&used, name)] {
+        assert_eq!(theorem::entries(&edited, "Learnt").len(), known - 1);
     }
 }

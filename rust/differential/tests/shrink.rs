@@ -109,8 +109,14 @@ fn differs_past_2_51(acts: &[Act]) -> Option<usize> {
     })
 }
 
+/// One test of two parts: what the original asks for goes into one list of the process.
 #[test]
-fn a_difference_on_a_large_layout_is_shortened() {
+fn a_difference_on_a_large_layout_is_shortened_and_shown() {
+    is_shortened();
+    is_shown();
+}
+
+fn is_shortened() {
     let short = shrink(&large(), differs_past_2_51);
     let lines: Vec<_> = short.iter().map(Act::line).collect();
     assert_eq!(lines[1..], ["register 0 0 fail=1:5:0"]);
@@ -122,8 +128,7 @@ fn a_difference_on_a_large_layout_is_shortened() {
 }
 
 /// Every simpler case is run before it is told.
-#[test]
-fn a_difference_on_a_large_layout_is_shown() {
+fn is_shown() {
     let [a, b] = ["one", "another"].map(str::to_string);
     let told = Case::Registrar(large().to_vec()).report(Difference {
         place: 1,
