@@ -68,15 +68,16 @@ stands-marked es w o k n =
 -- of every list of calls from any world that meets the invariant, whatever was seen before
 claim-from : (es : List MemoryRangeWithNode) (l : List ℕ) (i t r : ℕ) {w v : World} {a o : Seen} → Invariant es l i t r w a → ordered 0 es ≡ true → isWaiting a ≡ false
     → (h : History w a v o) → ClaimFrom es i t r h
-claim-from es l i t r {w} {v} {a} {o} k end free h =
+claim-from es l i t r {w} {v} {a} {o} k order free h =
     let x : Invariant es l i t r v o = invariant-kept es l i t r h k in
     record {
       unasked = unasked;
       answered = answered h;
       composed = composed h;
-      asked = asked-from es (k .stands) end free h;
+      asked = asked-from es (k .stands) order free h;
       long = x .whole .long;
       lent = x .whole .fit;
+      layout = x .stands .layout;
       holds = record { marks = stands-marked es v o (x .stands) (x .unlisted); settled = λ e. x .ages e .ages .settled };
       tables = x .tables;
       settings = x .settings;

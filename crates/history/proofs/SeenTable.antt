@@ -45,4 +45,9 @@ seen-table =
       halted-last = refl;
       late-untaken = refl;
       late-listed = refl;
+      returned-halted-last = refl;
+      returned-halted-age = refl;
+      returned-halted-listed = refl;
+      shared-halted-first = refl;
+      shared-halted-second = refl;
     }

@@ -11,7 +11,7 @@ use Rattle.history.specs.Call.{Call, gives}
 use Rattle.history.specs.Made.{Made, Built}
 use Rattle.history.specs.History.{Stray, StrayLock, IsRefusal}
 
--- every call, of a world of any lengths; and a build that is refused, as with 9 for an isolation
+-- every call, of a world of any lengths; and a build that is refused, as for any isolation outside the domain
 pub record Callable (w : World) : Type 0 where
   pub made : (c : Call) → Made c w (gives c w .world) (gives c w .answer)
   pub built : (ram : List ℕ) (isolation tracked release : ℕ) → let X = buildOf w ram isolation tracked release in Built ram isolation tracked release w (X .world) (X .reply)

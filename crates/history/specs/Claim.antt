@@ -8,7 +8,7 @@ use Rattle.layout.specs.declared.MemoryRangeWithNode.{MemoryRangeWithNode}
 use Rattle.layout.specs.Layout.{entriesOf}
 use Rattle.permissions.specs.Flags.{isolationOf}
 use Rattle.protector_state.specs.declared.Reply.{Reply}
-use Rattle.protector_state.specs.State.{stateLen, settingsOf}
+use Rattle.protector_state.specs.State.{stateLen, settingsOf, entriesIn}
 use Rattle.protector.specs.World.{World, fits}
 use Rattle.protector.specs.Calls.{buildOf}
 use Rattle.history.specs.Seen.{Seen, unseen}
@@ -31,10 +31,11 @@ pub record ClaimFrom (es : List MemoryRangeWithNode) (isolation tracked release 
   pub composed : v ≡ leaves h
   -- each that asked for something has asked, answered and left what the whole call as 01 writes it does, under the answers taken so far
   pub asked : Asked h
-  -- where the list stops: all that is lent has its length; the marks are what the hypervisor last took; the tables are tables; the settings fit; no permission is of a
+  -- where the list stops: all that is lent has its length; the layout is es still; the marks are what the hypervisor last took; the tables are tables; the settings fit; no permission is of a
   -- page outside RAM
   pub long : length (v .state) ≡ stateLen
   pub lent : fits v ≡ true
+  pub layout : entriesIn (v .state) ≡ es
   pub holds : Holds es (isolationOf isolation) (v .maps) o
   pub tables : TablesFit es v
   pub settings : SettingsFit isolation tracked release (v .state)

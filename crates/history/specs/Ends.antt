@@ -1,4 +1,4 @@
--- Every request ends (01, "The request under way"): while one is under way, a taken answer lowers the number of the operations to come, and no other call
+-- Every request ends (01, "The request under way"): while one is under way, a taken answer lowers a number that bounds the operations to come, and no other call
 -- changes anything. Under way and taken are told from the calls and what they gave.
 use mathlib.Core.Path.{_≡_}
 use mathlib.Core.Bool.{Bool, true, false, cond, not, _||_}

@@ -13,12 +13,10 @@ use Rattle.protector_state.specs.declared.Reply.{Reply}
 use Rattle.protector_state.specs.Reply.{finished}
 use Rattle.visibility_claims.specs.Whole.{Given, Succeeds, Fails}
 
--- ---- the numbers that are looked at: of operations, as they cross; and of 01's refusals
-
+-- in the place of an operation's number: none is asked for
 abbrev pub noOperation : ℕ
 noOperation = 0
 
--- a lent buffer of wrong length; a request under way; halted; an answer with nothing asked, or a failure of what cannot fail
 -- ---- what is seen
 
 -- of a page: never returned, or since its return nothing, validated, validated and then zeroed
@@ -37,7 +35,7 @@ abbrev pub tookAs : Bool → Took
 tookAs b = cond b Shared Private
 
 pub record Seen : Type 0 where
-  -- the reply of the last call or taken answer: the operation outstanding, or none where it asks for none
+  -- the last reply of a call that asked or of a taken answer: the operation outstanding, or none where it asks for none
   pub op : Reply
   -- the pages run as that call left it: the pages of a Modify are its first
   pub table : List ℕ

@@ -94,6 +94,13 @@ halted = seesAnswer (Fails 5 0) (finished refusal.halted 0 0 3) three (done thre
 abbrev pub late : Seen
 late = seesAnswer Succeeds (finished refusal.halted 0 0 0) three halted
 
+-- a Modify of P3 that is said to have failed with both its pages processed, and one of P2 with one of three: halted
+abbrev pub returned-halted : Seen
+returned-halted = seesAnswer (Fails 77 2) (finished refusal.halted 0 0 3) two returning
+
+abbrev pub shared-halted : Seen
+shared-halted = seesAnswer (Fails 77 1) (finished refusal.halted 0 0 9) three sharing
+
 pub record SeenTable : Type 0 where
   -- these are what the whole call asks for
   pub sharing-asks : replies Snp (P2 .asked) ≡ waits ∷ sharingReplies
@@ -135,3 +142,9 @@ pub record SeenTable : Type 0 where
   pub halted-last : halted .last 3 ≡ Private
   pub late-untaken : isTaken halted (finished refusal.halted 0 0 0) ≡ false
   pub late-listed : among (late .listed) 10 ≡ true
+  -- a Modify that halts the call took what it processed all the same
+  pub returned-halted-last : returned-halted .last 10 ≡ Private
+  pub returned-halted-age : returned-halted .age 10 ≡ Returned
+  pub returned-halted-listed : among (returned-halted .listed) 10 ≡ true
+  pub shared-halted-first : shared-halted .last 3 ≡ Shared
+  pub shared-halted-second : shared-halted .last 9 ≡ Private

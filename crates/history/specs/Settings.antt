@@ -2,8 +2,10 @@
 use mathlib.Core.Path.{_≡_}
 use mathlib.Core.Bool.{true, false}
 use mathlib.Core.List.{List}
-use Prim.Native.Nat.{ℕ, _<_}
+use Prim.Native.Nat.{ℕ, _+_, _<_}
 use lib.ListN.{getD}
+use Rattle.abi.specs.Places as place
+use Rattle.abi.specs.Flags.{flagsEnd}
 use Rattle.permissions.specs.Flags.{fitIsolation, isolationOf, fitBool, boolOf}
 use Rattle.permissions.specs.Defaults.{firstDefaults}
 use Rattle.visibility_steps.specs.declared.Settings.{Settings}
@@ -13,17 +15,17 @@ abbrev pub firstSettings : (isolation tracked release : ℕ) → Settings
 firstSettings isolation tracked release =
     record { isolation = isolationOf isolation; tracked = boolOf tracked; release = boolOf release; enabled = false; defaults = firstDefaults }
 
--- between calls, of words 16 to 21 of the state block s: those that the build was given stay, and are numbers of such; protections are enabled only where permissions are
+-- between calls, of the state block s: those that the build was given stay, and are numbers of such; protections are enabled only where permissions are
 -- tracked; the defaults are flags
 pub record SettingsFit (isolation tracked release : ℕ) (s : List ℕ) : Type 0 where
-  pub same-isolation : getD s 16 0 ≡ isolation
-  pub same-tracked : getD s 17 0 ≡ tracked
-  pub same-release : getD s 18 0 ≡ release
+  pub same-isolation : getD s place.isolation 0 ≡ isolation
+  pub same-tracked : getD s place.tracked 0 ≡ tracked
+  pub same-release : getD s place.release 0 ≡ release
   pub fit-isolation : fitIsolation isolation ≡ true
   pub fit-tracked : fitBool tracked ≡ true
   pub fit-release : fitBool release ≡ true
-  pub enabled : getD s 19 0 < 2
-  pub only-tracked : getD s 19 0 ≡ 1 → tracked ≡ 1
-  pub default0 : getD s 20 0 < 16
-  -- 16 where none is given
-  pub default1 : getD s 21 0 < 17
+  pub enabled : getD s place.enabled 0 < 2
+  pub only-tracked : getD s place.enabled 0 ≡ 1 → tracked ≡ 1
+  pub default0 : getD s place.default0 0 < flagsEnd
+  -- or the number after them, where none is given
+  pub default1 : getD s place.default1 0 < flagsEnd + 1

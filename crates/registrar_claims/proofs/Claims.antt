@@ -6,6 +6,7 @@ use Prim.Native.Nat.{ℕ}
 use borrow.Author.Tests.{eq-eqb}
 use Rattle.registrar_state.specs.World.{World, buildRefusal, buildOf}
 use Rattle.registrar_claims.specs.Runs.{underWay, after, awaitsAfter, builtWith, settingsAfter}
+use Rattle.registrar_claims.specs.Entries.{Unasked}
 use Rattle.registrar_claims.specs.Claims.{FromBuild}
 use Rattle.registrar_claims.proofs.Refusals.{refusals-keep, marks-stay}
 use Rattle.registrar_claims.proofs.Counts.{register-counts-operations, all-counts-operations}
@@ -17,11 +18,15 @@ built-idle : (w : World) (ram : List ℕ) (o g : ℕ) → buildRefusal w ram o g
 unfolding buildOf
 built-idle w ram o g z = rw (eq-eqb (buildRefusal w ram o g) 0 z)
 
+unasked : Unasked
+unasked = record { build = λ κs a. tt; register = λ κs a. tt; register-all = λ κs a. tt; done = λ κs a. tt; failed = λ κs a. tt }
+
 -- THE CLAIM
 pub from-build : (w : World) (ram : List ℕ) (o g : ℕ) → buildRefusal w ram o g ≡ 0 → FromBuild w ram o g
 from-build w ram o g z =
     let u : World = buildOf w ram o g .world in
     record {
+      unasked = unasked;
       always =
           λ xs.
           record {

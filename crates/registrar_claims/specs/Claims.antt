@@ -16,6 +16,7 @@ use Rattle.registrar_claims.specs.Runs.{Call, give, isBuild, isTaken, un
 use Rattle.registrar_claims.specs.Changes.{withTaken, withFailed, Kept, Stays}
 use Rattle.registrar_claims.specs.Whole.{wholeRegister, wholeAll, Match}
 use Rattle.registrar_claims.specs.Ends.{RequestEnds}
+use Rattle.registrar_claims.specs.Entries.{Unasked}
 
 -- ---- what is lent stays a registrar's, and what 01 takes is taken
 
@@ -105,6 +106,8 @@ pub record Claim (v : World) (b : Settings) (awaits : Bool) : Type 0 where
 
 -- from a build that is taken on
 pub record FromBuild (w : World) (ram : List ℕ) (offset g : ℕ) : Type 0 where
+  -- no entry asks anything of its arguments
+  pub unasked : Unasked
   pub always : (xs : List Call) → let u : World = buildOf w ram offset g .world in
       Claim (after u xs) (settingsAfter u (builtWith ram offset g) xs) (awaitsAfter u false xs)
   -- with no other build the settings stay this one's

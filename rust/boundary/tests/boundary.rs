@@ -115,20 +115,25 @@ fn constants_are_the_same_in_rust() {
     }
 }
 
-/// What `history` reads of the entries: their contracts (`Made`), and what they ask for (`Unasked`).
+/// What the claims read of the protector's entries: their contracts (`Made`), and what they ask
+/// for (`Unasked`); and of the registrar's what they ask for.
 fn made_text() -> String {
     read("crates/history/specs/Made.antt")
 }
 
-/// The protector's entries of the header with their crates, and those whose part `history` reads.
-fn theorem_differs(header: &Signatures, part: &str) -> Vec<String> {
+fn asked_of_registrar() -> String {
+    read("crates/registrar_claims/specs/Entries.antt")
+}
+
+/// The entries of the header with that prefix, with their crates, and those whose part a text reads.
+fn theorem_differs(header: &Signatures, prefix: &str, text: &str, part: &str) -> Vec<String> {
     let (_, crates) = in_crates();
-    let of_protector = header.keys().filter(|name| name.starts_with("protector_"));
-    let wanted = of_protector.map(|name| {
+    let of_prefix = header.keys().filter(|name| name.starts_with(prefix));
+    let wanted = of_prefix.map(|name| {
         let place = crates.get(name).cloned();
         (name.clone(), place.unwrap_or_default())
     });
-    let read = theorem::entries(&made_text(), part);
+    let read = theorem::entries(text, part);
     differences(
         ("the header", &wanted.collect()),
         ("the theorem", &read),
@@ -137,10 +142,13 @@ fn theorem_differs(header: &Signatures, part: &str) -> Vec<String> {
 }
 
 #[test]
-fn the_theorem_is_about_every_entry() {
+fn the_theorems_are_about_every_entry() {
     let header = in_header(&header_text());
-    same(theorem_differs(&header, "Learnt"));
-    same(theorem_differs(&header, "Asked"));
+    let made = made_text();
+    same(theorem_differs(&header, "protector_", &made, "Learnt"));
+    same(theorem_differs(&header, "protector_", &made, "Asked"));
+    let asked = asked_of_registrar();
+    same(theorem_differs(&header, "registrar_", &asked, "Asked"));
 }
 
 #[test]
@@ -200,7 +208,7 @@ fn an_entry_that_is_left_out_is_seen() {
     header.remove(setter).expect("the setter");
     let unlike = differences(("header", &header), ("crates", &entries), shown);
     assert_eq!(unlike.len(), 1, "{unlike:?}");
-    let unlike = theorem_differs(&header, "Learnt");
+    let unlike = theorem_differs(&header, "protector_", &made_text(), "Learnt");
     assert!(
         unlike.len() == 1 && unlike[0].starts_with(setter),
         "{unlike:?}"
