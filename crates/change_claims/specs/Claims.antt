@@ -82,7 +82,7 @@ requestedPages w v share l = pagesIn (requestedOf w v share l .listed)
 abbrev pub requestedPlaces : World → GuestVtl → Bool → List ℕ → List ℕ
 requestedPlaces w v share l = placesIn (requestedOf w v share l .listed)
 
--- a layout that a build takes, and its entries in order alone
+-- a layout that a build takes; and one whose entries ascend within 01's bounds, aligned or not
 abbrev pub FitLayout : World → Type 0
 FitLayout w = refusalOf (ramOf (w .state)) ≡ 0
 

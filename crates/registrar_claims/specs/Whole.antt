@@ -69,8 +69,8 @@ offerStretch o g a b [] r f next = asking o (range (a * g) (b * g)) (ended r f W
 offerStretch o g a b (true ∷ bs) r f next = asking o (range (a * g) (b * g)) (next bs (marked a b r))
 offerStretch o g a b (false ∷ bs) r f next = asking o (range (a * g) (b * g)) (ended r (marked a b f) (FailedAt (a * g)))
 
--- n chunks of an aligned part from c on; those from a to before c are an unregistered stretch, not yet offered. A chunk that failed before ends the call, the
--- stretch before it unoffered; one registered closes the stretch, and so does the end of the part
+-- n chunks of an aligned part from c on; those from a to before c are a stretch, neither registered nor offered so far. A chunk that failed earlier ends the call
+-- with that stretch left out; a registered chunk closes it, and so does the end of the part
 unfoldable pub wholeSpan : ℕ → ℕ → ℕ → ℕ → ℕ → List Bool → List ℕ → List ℕ → (List Bool → List ℕ → Whole) → Whole
 wholeSpan o g zero a c bs r f next = cond (ltb a c) (offerStretch o g a c bs r f next) (next bs r)
 wholeSpan o g (suc n) a c bs r f next =

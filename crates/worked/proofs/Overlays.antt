@@ -4,7 +4,7 @@ use Rattle.bitmap.specs.Pages.{word, writtenFrom}
 use Rattle.words.specs.Words.{closed, closedTo}
 use Rattle.layout.specs.Layout.{entriesOf, ramByte}
 use Rattle.permissions.specs.Rmpadjust.{operandOf}
-use Rattle.page_list.specs.Pages.{numberOf, numberAt, numbersFrom}
+use Rattle.page_list.specs.Pages.{numberOf, numberAt, numbersFrom, among}
 use Rattle.page_list.specs.Runs.{neighbours, runAt}
 use Rattle.request_pages.specs.Request.{pick, pickPlaces, tableOf, runEnd}
 use Rattle.overlay_table.specs.Overlays.{placeFrom}
@@ -26,7 +26,8 @@ use Rattle.visibility_claims.specs.Calls.{follow}
 use Rattle.worked.specs.Overlays.{NewOverlays, KnownOverlays}
 
 pub new-overlays : NewOverlays
-unfolding word writtenFrom closed closedTo entriesOf ramByte operandOf numberOf numberAt numbersFrom neighbours runAt pick pickPlaces tableOf runEnd
+unfolding word writtenFrom closed closedTo entriesOf ramByte operandOf numberOf numberAt numbersFrom among neighbours runAt pick pickPlaces tableOf
+    runEnd
     placeFrom listsFrom held span nextOf anyOf anyIn renewedFrom protect changes.ask wait finish changes.halt changes.keep protectPages protectRam
     changes.doneOf changes.failedOf startNew startOld firstPhases phaseOf askedOf flatOf stageOf entered carriedChange firstRefusal answerRefusal
     afterDone afterFailed answerDone answerFailed protectionRefusal protectionTaken protectionOf defaultRefusal defaultStarted defaultTaken defaultOf
@@ -62,6 +63,13 @@ new-overlays =
       guest-hole = refl;
       shared-page = refl;
       shared-narrow = refl;
+      hole-narrow = refl;
+      shared-locked = refl;
+      narrow-locked = refl;
+      locked = refl;
+      dma-ram-locked = refl;
+      dma-locked = refl;
+      other-locked = refl;
       vtl-2 = refl;
       source-2 = refl;
       checked-16 = refl;

@@ -27,6 +27,8 @@ registrar-builds =
       granularity-2048 = refl;
       granularity-4096 = refl;
       granularity-12288 = refl;
+      block-first = refl;
+      bitmaps-last = refl;
     }
 
 pub registers : Registers

@@ -1,4 +1,4 @@
--- What bars a call, each refusal with its number and code, locks and their limits, and the visibility query: document 01, "Overlays and locks", "From the input" 7,
+-- What bars a call, each refusal with its number and code, locked lists, and the visibility query: document 01, "Overlays and locks", "From the input" 7,
 -- "From the state" 10, 11, 17 to 20, "Misreadings to shut out".
 use mathlib.Core.List.{List, [], _∷_}
 use mathlib.Core.Path.{_≡_}
@@ -108,7 +108,7 @@ lists = tables [] [] [] (5 ∷ 1 ∷ 1 ∷ 2 ∷ 2 ∷ 1 ∷ 1 ∷ 1 ∷ 1 ∷ 3
 
 pub record Locks : Type 0 where
   pub lists-made : lockOf state (tables [] [] [] (4 ∷ 1 ∷ 1 ∷ 2 ∷ 2 ∷ 1 ∷ 1 ∷ 1 ∷ 1 ∷ 3 ∷ [])) 1 [] ≡ kept lists (ok 0)
-  -- the first equal list goes and the last takes its place
+  -- of two equal lists the earlier goes, and its place is taken by the list at the end
   pub first-equal : unlockOf state lists 1 (page 1 []) ≡ kept (tables [] [] [] (4 ∷ 0 ∷ 2 ∷ 2 ∷ 1 ∷ 1 ∷ 1 ∷ 1 ∷ 3 ∷ [])) (ok 0)
   pub last-itself : unlockOf state lists 1 [] ≡ kept (tables [] [] [] (4 ∷ 1 ∷ 1 ∷ 2 ∷ 2 ∷ 1 ∷ 1 ∷ 1 ∷ 1 ∷ 3 ∷ [])) (ok 0)
   -- equal in every place, and in its VTL

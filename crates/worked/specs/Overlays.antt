@@ -3,7 +3,7 @@
 use mathlib.Core.List.{List, [], _∷_}
 use mathlib.Core.Path.{_≡_}
 use Prim.Native.Nat.{ℕ, _+_, _^_}
-use Rattle.mapping.specs.Maps.{maps}
+use Rattle.mapping.specs.Maps.{Maps, maps}
 use Rattle.protector_state.specs.declared.Reply.{Reply}
 use Rattle.protector_state.specs.Reply.{finished}
 use Rattle.protector.specs.World.{World}
@@ -35,11 +35,15 @@ without = rest untracked (settings 2 0 0 0 15 16) noTables
 abbrev pub counted : ℕ → World
 counted n = rest (maps whole clear whole (low 0xdf) whole (low 0xdf)) (settings 2 1 0 0 15 16) (in0 (1 ∷ 5 ∷ 15 ∷ 5 ∷ n ∷ 0 ∷ []))
 
+-- these maps, with pages 3, 5 and 16 locked by VTL0
+abbrev pub locking : Maps → World
+locking m = rest m (settings 2 1 0 0 15 16) (tables [] [] (1 ∷ 3 ∷ 3 ∷ 5 ∷ 16 ∷ []) [])
+
 abbrev pub register : World → ℕ → ℕ → ℕ → ℕ → ℕ → Reply
 register w vtl p source checked new = registerOf w vtl p source checked new .reply
 
 pub record NewOverlays : Type 0 where
-  -- Protect, then Wait, Flush and TlbWait, all on its VTL
+  -- what a new page asks for, each on the VTL that registers it
   pub vtl0-kernel : replies (registerOf fresh 0 5 0 15 4) (dones 4) ≡ protects 0 4 2050 5 1 ∷ waits ∷ flushes 0 ∷ tlbWaits 0 ∷ ok 4 ∷ []
   pub vtl1-user : replies (registerOf fresh 1 5 0 15 8) (dones 4) ≡ protects 1 8 1025 5 1 ∷ waits ∷ flushes 1 ∷ tlbWaits 1 ∷ ok 4 ∷ []
   pub tdx-vtl1 : replies (registerOf (on 3 1 first) 1 5 0 15 8) (dones 4) ≡ protects 1 8 0 5 1 ∷ waits ∷ flushes 1 ∷ tlbWaits 1 ∷ ok 4 ∷ []
@@ -73,6 +77,14 @@ pub record NewOverlays : Type 0 where
   -- 13 before 12, both with their code; 8 before either
   pub shared-page : register (off closed) 0 3 0 0 16 ≡ refused 12 8
   pub shared-narrow : register (off closed) 0 3 0 1 16 ≡ refused 13 8
+  -- 7 before 13, 12 and 13 before 10, 7 before 10 of a Dma page; a lock of VTL0 bars VTL0 alone
+  pub hole-narrow : register fresh 0 16 0 15 16 ≡ refused 7 8
+  pub shared-locked : register (locking closed) 0 3 0 0 16 ≡ refused 12 8
+  pub narrow-locked : register (locking (kernel-only .maps)) 0 5 0 8 16 ≡ refused 13 8
+  pub locked : register (locking first) 0 5 0 15 16 ≡ refused 10 8
+  pub dma-ram-locked : register (locking first) 0 5 1 0 16 ≡ refused 7 8
+  pub dma-locked : register (locking first) 0 16 1 0 16 ≡ refused 10 8
+  pub other-locked : register (locking first) 1 5 0 15 16 ≡ waits
   pub vtl-2 : register fresh 2 16 0 0 16 ≡ refused 8 0
   pub source-2 : register fresh 0 16 2 0 16 ≡ refused 8 0
   pub checked-16 : register fresh 0 5 1 16 16 ≡ refused 8 0
@@ -82,7 +94,7 @@ pub record NewOverlays : Type 0 where
   pub fails-left : forgotten (follow (registerOf fresh 0 5 0 15 4) (Fails 77 0 ∷ []) .last .world) ≡ kernel-only
 
 pub record KnownOverlays : Type 0 where
-  -- the new flags, else the checked, within its own (5); no operation, and one more in its count
+  -- its own flags (5) hold the new ones, or the checked where none are new: one registration more, and nothing is asked
   pub new-kernel : registerOf (counted 1) 0 5 0 15 4 ≡ keeps (counted 2) (ok 0)
   pub new-both : registerOf (counted 2) 0 5 0 2 5 ≡ keeps (counted 3) (ok 0)
   pub new-write : registerOf (counted 1) 0 5 0 0 2 ≡ keeps (counted 1) (refused 13 8)

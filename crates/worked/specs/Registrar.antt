@@ -74,6 +74,9 @@ pub record RegistrarBuilds : Type 0 where
   pub granularity-2048 : built 1 ram offset 2048 ≡ refused 9
   pub granularity-4096 : built 1 ram offset 4096 ≡ ok 0
   pub granularity-12288 : built 1 ram offset 12288 ≡ refused 9
+  -- a state block of another length is told before an unfit granularity, bitmaps of another length after it
+  pub block-first : buildOf (world [] (0 ∷ []) (0 ∷ [])) ram offset 2048 .reply ≡ refused 4
+  pub bitmaps-last : built 2 ram offset 2048 ≡ refused 9
 
 -- ---- register: granularity 131,072; chunk 0 has no RAM, chunk 1 has a hole before each of two spans
 
@@ -99,7 +102,7 @@ pub record Registers : Type 0 where
   pub P8-asked : registerOf (at ram 65536) 4096 0 .reply ≡ registers offset (offset + 65536)
   pub P8-registered : doneOf (registerOf (at ram 65536) 4096 0 .world) ≡ keeps (with ram 65536 1 0) (ok 1)
   pub registered-again : registerOf (with ram 65536 1 0) 0 65536 ≡ keeps (with ram 65536 1 0) (ok 0)
-  -- one Register a span, at offset + address; the chunk without RAM is registered with none, and the other once both are done
+  -- the first chunk has no RAM and asks for nothing; the second has two pieces, both with the offset added, and is marked after the last
   pub first-asked : first .reply ≡ registers (offset + 163840) (offset + 196608)
   pub first-passed : first .world .registered ≡ 1 ∷ []
   pub second-asked : second .reply ≡ registers (offset + 229376) (offset + 262144)
@@ -109,7 +112,7 @@ pub record Registers : Type 0 where
   pub first-fails : failedOf (first .world) ≡ keeps (with holed 131072 1 2) (failed 163840 1)
   pub second-fails : failedOf (second .world) ≡ keeps (with holed 131072 1 2) (failed 229376 2)
   pub failed-again : registerOf (with holed 131072 1 2) 229376 1 ≡ keeps (with holed 131072 1 2) (failed 131072 0)
-  -- a request is widened to pages, then to chunks: two bytes of chunks 0 and 1
+  -- two bytes, the last of chunk 0 and the first of chunk 1, ask for both chunks
   pub widened : registerOf (at four 32768) 32767 2 .reply ≡ registers offset (offset + 32768)
   pub widened-on : doneOf (registerOf (at four 32768) 32767 2 .world) .reply ≡ registers (offset + 32768) (offset + 65536)
   -- a fresh chunk before a failed one is offered
@@ -158,9 +161,9 @@ pub record AllAligned : Type 0 where
   pub ignored-both : doneOf (ignoring (span 32768 229376) .world) ≡ keeps (with (span 32768 229376) 32768 60 0) (ok 1)
   pub ignored-joined : ignoring joined .reply ≡ registers offset (offset + 65536)
   pub ignored-none : ignoring (span 32768 98304) ≡ keeps (at (span 32768 98304) 32768) (ok 0)
-  -- an earlier span is registered before the edge of a later one is told
+  -- a span with both edges aligned
   pub aligned-span : all (span 0 131072) .reply ≡ registers offset (offset + 131072)
-  -- unregistered stretches one by one; a failed chunk ends it, the stretch before it unoffered
+  -- chunk 1 is registered: what lies on its two sides is asked for in turn; a failed chunk ends the call before what precedes it is asked for
   pub stretches : allOf (with four 32768 2 0) 32768 0 .reply ≡ registers offset (offset + 32768)
   pub stretches-on : doneOf (allOf (with four 32768 2 0) 32768 0 .world) .reply ≡ registers (offset + 65536) (offset + 131072)
   pub stretches-done : doneOf (doneOf (allOf (with four 32768 2 0) 32768 0 .world) .world) ≡ keeps (with four 32768 15 0) (ok 2)

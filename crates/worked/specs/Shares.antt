@@ -83,7 +83,7 @@ pub record Moves : Type 0 where
   -- VTL1 clears no permission, and neither does anyone where none are tracked
   pub share-vtl1 : share-after 1 9 ≡ maps less these whole whole whole whole
   pub share-untracked : after 9 (visibilityOf (rest untracked (settings 2 0 0 0 15 16) noTables) 0 1 three) .maps ≡ maps less these [] [] [] []
-  -- shared marks at once; private marks with the answer to the last Zero (SNP), the last Accept (TDX), Modify (CCA); permissions with each Protect of VTL0
+  -- a return clears shared marks at the call; its private marks come after Zero on SNP, after Accept on TDX, after Modify on CCA; then a Protect of VTL0 writes permissions
   pub return-called : return-after 2 0 ≡ maps less clear less less less less
   pub snp-zeroing : return-after 2 6 ≡ maps less clear less less less less
   pub snp-zeroed : return-after 2 7 ≡ maps whole clear (0xff ∷ 0xf9 ∷ 0x00 ∷ 0x00 ∷ 0xff ∷ []) (0xff ∷ 0xf9 ∷ 0x00 ∷ 0x00 ∷ 0xff ∷ []) (0xff ∷ 0xf9 ∷ 0x00 ∷ 0x00 ∷ 0xff ∷ []) (0xff ∷ 0xf9 ∷ 0x00 ∷ 0x00 ∷ 0xff ∷ [])
@@ -198,13 +198,13 @@ pub record Failures : Type 0 where
   pub one-maps : failed-maps 1 .shared ≡ 0x00 ∷ 0x06 ∷ 0x00 ∷ 0x00 ∷ 0x00 ∷ []
   pub one-private : failed-maps 1 .private ≡ 0xff ∷ 0xf9 ∷ 0x00 ∷ 0x00 ∷ 0xff ∷ []
   pub all-maps : failed-maps 3 ≡ maps less clear less less less less
-  -- a share whose Modify fails halts, whatever was processed; so do the other operations that can fail
+  -- a share whose Modify fails halts, whatever was processed; so do a failed Protect and a failed Accept
   pub share-halts : replies (visibilityOf (off first) 0 1 (page 3 [])) (Succeeds ∷ Succeeds ∷ Succeeds ∷ Succeeds ∷ Succeeds ∷ Fails 77 0 ∷ [])
       ≡ waits ∷ flushesAll ∷ protects 0 0 2 3 1 ∷ protects 1 0 1 3 1 ∷ invalidates 3 1 ∷ shares 1 ∷ finished 20 0 0 6 ∷ []
   pub protect-halts : replies (visibilityOf (off first) 0 1 (page 3 [])) (Succeeds ∷ Succeeds ∷ Fails 77 0 ∷ []) ≡ waits ∷ flushesAll ∷ protects 0 0 2 3 1 ∷ finished 20 0 0 3 ∷ []
   pub accept-halts : replies (visibilityOf (off shared) 0 0 four) (Succeeds ∷ Succeeds ∷ Fails 77 1 ∷ Fails 5 0 ∷ [])
       ≡ waits ∷ flushesAll ∷ returns 3 ∷ accepts 3 1 ∷ finished 20 0 0 4 ∷ []
-  -- Wait and FlushAll cannot fail: nothing changes, what was asked stays asked
+  -- a failure of Wait or FlushAll is refused, and the same operation still waits for its answer
   pub wait-fails : answerFailed (visibilityOf fresh 0 1 three .world) 77 0 ≡ keeps (visibilityOf fresh 0 1 three .world) (refused 21 0)
   pub flush-fails : replies (visibilityOf (off first) 0 1 []) (Fails 77 0 ∷ Succeeds ∷ Fails 77 0 ∷ Succeeds ∷ Succeeds ∷ []) ≡ waits ∷ flushesAll ∷ shares 0 ∷ ok 3 ∷ []
   pub nothing-asked : answerDone fresh ≡ keeps fresh (refused 21 0)
