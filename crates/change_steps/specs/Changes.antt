@@ -92,7 +92,7 @@ doneOf tracked at.Wait q t next = ask at.Flush q (Flush (q .flush)) Keep
 doneOf tracked at.Flush q t next = ask at.TlbWait q (TlbWait (q .vtl)) Keep
 doneOf tracked at.TlbWait q t next = finish (Done (q .count))
 
--- Wait, Flush and TlbWait: they follow each other, then the call ends; no map and no entry is written (law `flush-done` of `protections`)
+-- Wait, Flush and TlbWait: they follow each other, then the call ends; no map and no entry is written (law `flush-done` of `change_writes`)
 abbrev pub isFlushing : Stage → Bool
 isFlushing at.Idle = false
 isFlushing at.Halted = false

@@ -1,4 +1,4 @@
--- What crosses for Flush, TlbWait and the end that follows them: `flushAnswer` of `changes`, whatever the isolation.
+-- What crosses for Flush, TlbWait and the end that follows them: `flushAnswer` of `change_steps`, whatever the isolation.
 use Rattle.abi.specs.Operations as operation
 use Rattle.change_steps.specs.declared.Stage.{Stage}
 use Rattle.change_steps.specs.declared.Stage.the-variants as at
