@@ -33,8 +33,6 @@ full =
     record {
       count-65535 = refl;
       count-full = refl;
-      overlay-128 = refl;
-      overlay-129 = refl;
       list-64 = limits.list-64;
       list-65 = limits.list-65;
       pages-1024 = limits.pages-1024;

@@ -13,3 +13,4 @@ pub mod Refusals
 pub mod Examples
 pub mod Pages
 pub mod Made
+pub mod Table

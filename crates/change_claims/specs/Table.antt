@@ -1,29 +1,22 @@
 -- Worked cases of changes, computed by the definitions: RAM pages 0 to 15 and 32 to 39, as in document 01, "Worked".
 use mathlib.Core.List.{List, [], _∷_, _++_}
-use mathlib.Core.Path.{_≡_, refl}
+use mathlib.Core.Path.{_≡_}
 use Prim.Native.Nat.{ℕ, _+_, _-_, _≤_, _<_}
-use lib.ListN.{length, getD, replicate}
-use Rattle.bitmap.specs.Pages.{word, writtenFrom}
-use Rattle.words.specs.Words.{closed, closedTo}
-use Rattle.layout.specs.Layout.{entriesOf, ramByte}
+use lib.ListN.{length, replicate}
 use Rattle.permissions.specs.declared.GuestVtl.the-variants.{Vtl0, Vtl1}
 use Rattle.permissions.specs.Flags.{vtlOf, flagsOf}
 use Rattle.permissions.specs.HvError.{codeOf}
-use Rattle.page_list.specs.Pages.{pagesOf, numberOf, numberAt, numbersFrom}
-use Rattle.page_list.specs.Runs.{run, runsOf}
-use Rattle.overlay_table.specs.Overlays.{placeFrom}
-use Rattle.default_change.specs.Renewed.{renewedFrom}
-use Rattle.default_change.specs.Visit.{upTo, pick}
+use Rattle.page_list.specs.Pages.{pagesOf}
+use Rattle.page_list.specs.Runs.{run}
 use Rattle.lock_table.specs.Locks.{total}
 use Rattle.lock_entries.specs.Calls.{ended, lockRefusal, lockOf}
 use Rattle.lock_entries.specs.Lists.{Lists, listsAt, withLists, Holds, Makes}
 use Rattle.protector_state.specs.Reply.{finished}
 use Rattle.protector.specs.World.{World, world, overlaysOf}
-use Rattle.overlay_refusals.specs.Refusals.{currentOf}
 use Rattle.overlay_entries.specs.Calls.{registerOf}
-use Rattle.visibility_claims.specs.Whole.{Wait, Protect, Flush, TlbWait, Succeeds, Fails, Ok, FailedAt, Halts, one, inTurn, perRun}
+use Rattle.visibility_claims.specs.Whole.{Wait, Protect, Flush, TlbWait, Succeeds, Fails, Ok, FailedAt, Halts}
 use Rattle.visibility_claims.specs.Table.{page, dones, fresh}
-use Rattle.change_claims.specs.Whole.{Change, wholeRuns, ramRuns, wholeEntry, wholeOverlay}
+use Rattle.change_claims.specs.Whole.{Change}
 use Rattle.change_claims.specs.Calls.{protectionWhole, defaultWhole, registerWhole, unregisterWhole}
 
 -- a fresh protector with these overlays of VTL0: how many, then five words for each
@@ -44,12 +37,9 @@ repeated = protectionWhole fresh Vtl1 3 (page 3 (page 4 (page 3 []))) (dones 5)
 abbrev pub halted : Change
 halted = protectionWhole fresh Vtl0 0 (page 3 (page 4 (page 8 []))) (Succeeds ∷ Fails 77 0 ∷ [])
 
--- a page with a count of n, and n entries of page 0
+-- a page with a count of n
 abbrev pub counts : ℕ → World
 counts n = with (1 ∷ 5 ∷ 15 ∷ 15 ∷ n ∷ 0 ∷ [])
-
-abbrev pub entries : ℕ → World
-entries n = with (n ∷ [])
 
 pub record Changes : Type 0 where
   pub default-asked : defaultTwo .whole .asked
@@ -72,8 +62,6 @@ pub record Changes : Type 0 where
 pub record Limits : Type 0 where
   pub count-65535 : registerOf (counts 65534) 0 5 0 15 16 .reply ≡ finished 0 0 0 0
   pub count-full : registerOf (counts 65535) 0 5 0 15 16 .reply ≡ finished 17 (codeOf 17) 0 0
-  pub overlay-128 : getD (registerOf (entries 127) 0 5 0 15 16 .world .tables) 0 0 ≡ 128
-  pub overlay-129 : registerOf (entries 128) 0 5 0 15 16 .reply ≡ finished 17 (codeOf 17) 0 0
   pub list-64 : (s t : List ℕ) (vtl : ℕ) (l : List ℕ) → lockRefusal s (length t) vtl l ≡ 0 → (x : Lists) → Holds t x → length (listsAt x (vtlOf vtl)) ≡ 63
       → total (listsAt x (vtlOf vtl)) + length (pagesOf l) ≤ 1024 → Makes t (withLists x (vtlOf vtl) (listsAt x (vtlOf vtl) ++ (pagesOf l ∷ []))) (lockOf s t vtl l)
   pub list-65 : (s t : List ℕ) (vtl : ℕ) (l : List ℕ) → lockRefusal s (length t) vtl l ≡ 0 → (x : Lists) → Holds t x → length (listsAt x (vtlOf vtl)) ≡ 64 → lockOf s t vtl l ≡ ended t 17
@@ -81,23 +69,3 @@ pub record Limits : Type 0 where
       → total (listsAt x (vtlOf vtl)) + length (pagesOf l) ≡ 1024 → Makes t (withLists x (vtlOf vtl) (listsAt x (vtlOf vtl) ++ (pagesOf l ∷ []))) (lockOf s t vtl l)
   pub pages-1025 : (s t : List ℕ) (vtl : ℕ) (l : List ℕ) → lockRefusal s (length t) vtl l ≡ 0 → (x : Lists) → Holds t x → total (listsAt x (vtlOf vtl)) + length (pagesOf l) ≡ 1025
       → lockOf s t vtl l ≡ ended t 17
-
-pub changes : Changes
-unfolding word writtenFrom entriesOf ramByte numberOf numberAt numbersFrom runsOf placeFrom upTo pick renewedFrom currentOf one inTurn perRun wholeRuns ramRuns wholeEntry wholeOverlay closed closedTo
-changes =
-    record {
-      default-asked = refl;
-      default-ok = refl;
-      default-kernel = refl;
-      default-renewed = refl;
-      repeated-asked = refl;
-      repeated-ok = refl;
-      halted-asked = refl;
-      halted-read = refl;
-      halted-stands = refl;
-      new-asked = refl;
-      new-entered = refl;
-      new-failed = refl;
-      old-asked = refl;
-      old-gone = refl;
-    }

@@ -1,26 +1,24 @@
 -- How far each page is since it was returned, kept by every step of a visibility change on SNP. Assumes nothing.
-use Prim.Native.Nat.{ℕ, suc, _+_, _≤_, _<_, min}
+use Prim.Native.Nat.{ℕ, _+_, _≤_, _<_, min}
 use mathlib.Core.Path.{_≡_, refl, sym, ap, ap₂, _∙_}
-use mathlib.Core.List.{List, [], _∷_}
-use mathlib.Core.Bool.{Bool, true, false, cond, _&&_, _||_}
+use mathlib.Core.List.{List}
+use mathlib.Core.Bool.{Bool, true, false, cond, _&&_}
 use mathlib.Core.Logic.{⊎-elim}
 use native.Mathlib.Omega.{arith}
 use lib.ListN.{length, getD, take, drop}
-use lib.Seq.{take-take, take-add, drop-at, length-take-le}
 use lib.Dec.{eqb, ltb, leb}
-use borrow.Author.Tests.{eqb-true, ltb-true, ltb-false, leb-false}
-use Rattle.laws.specs.Bools.{false≢true, or-swap, and-right, lt-or-le}
-use Rattle.laws.specs.Ranges.{between, between-join}
+use borrow.Author.Tests.{ltb-true, ltb-false, leb-false}
+use Rattle.laws.specs.Bools.{false≢true, and-right, lt-or-le}
+use Rattle.laws.specs.Ranges.{between}
 use Rattle.bitmap.specs.Pages.{bitAt, written}
-use Rattle.bitmap.proofs.Runs.{one-between}
 use Rattle.permissions.specs.declared.IsolationType.{IsolationType}
 use Rattle.permissions.specs.declared.IsolationType.the-variants.{Snp, Tdx, Cca}
 use Rattle.permissions.specs.declared.OptionFlags.{OptionFlags}
 use Rattle.permissions.specs.declared.OptionFlags.the-variants.{Some, None}
 use Rattle.page_list.specs.Pages.{among}
-use Rattle.page_list.specs.Runs.{part, neighbours, runAt, run}
+use Rattle.page_list.specs.Runs.{part, runAt, run}
 use Rattle.page_list.specs.declared.PageRun.{PageRun}
-use Rattle.page_list.proofs.RunLaws.{run-here, run-none, part-next}
+use Rattle.page_list.proofs.RunLaws.{run-none}
 use Rattle.request_pages.specs.Request.{runEnd, put}
 use Rattle.request_pages.proofs.Runs.{end-le, end-none, run-places}
 use Rattle.visibility_steps.specs.declared.Phase.{Phase}

@@ -3,7 +3,7 @@ use mathlib.Core.Path.{refl}
 use Rattle.bitmap.specs.Pages.{word, writtenFrom}
 use Rattle.words.specs.Words.{closed, closedTo, swapped}
 use Rattle.layout.specs.Layout.{entriesOf, ramByte}
-use Rattle.page_list.specs.Pages.{numberOf, numberAt, numbersFrom}
+use Rattle.page_list.specs.Pages.{numberOf, numberAt, numbersFrom, among}
 use Rattle.overlay_table.specs.Overlays.{placeFrom}
 use Rattle.lock_table.specs.Locks as lock
 use Rattle.lock_table.specs.Locks.{listsFrom, endFrom, held, total, same, kept, without}
@@ -21,7 +21,8 @@ use Rattle.visibility_claims.specs.Calls.{follow}
 use Rattle.worked.specs.Limits.{blocks, dmaFrom, holdings, lockBlocks, lockSingles, registered, singlesFrom, tablesFrom, OverlayLimit, FirstOverlays, LastOverlays, LockLimits, PageLimits}
 
 pub overlay-limit : OverlayLimit
-unfolding word writtenFrom entriesOf ramByte placeFrom listsFrom held protect changes.ask wait finish changes.doneOf startNew firstPhases phaseOf
+unfolding word writtenFrom entriesOf ramByte among placeFrom listsFrom held protect changes.ask wait finish changes.doneOf startNew firstPhases
+    phaseOf
     askedOf flatOf stageOf entered carriedChange answerRefusal afterDone answerDone callRefusal within knownRefusal guestRefusal dmaRefusal
     pageRefusal registerRefusal currentOf registerTaken registerOf follow dmaFrom
 overlay-limit =
@@ -29,12 +30,14 @@ overlay-limit =
       none = refl;
       full = refl;
       full-guest = refl;
+      full-held = refl;
       full-known = refl;
       full-other = refl;
     }
 
 pub first-overlays : FirstOverlays
-unfolding word writtenFrom entriesOf ramByte placeFrom listsFrom held protect changes.ask wait finish changes.doneOf startNew firstPhases phaseOf
+unfolding word writtenFrom entriesOf ramByte among placeFrom listsFrom held protect changes.ask wait finish changes.doneOf startNew firstPhases
+    phaseOf
     askedOf flatOf stageOf entered carriedChange answerRefusal afterDone answerDone callRefusal within knownRefusal guestRefusal dmaRefusal
     pageRefusal registerRefusal currentOf registerTaken registerOf follow registered dmaFrom holdings
 first-overlays =
@@ -43,7 +46,8 @@ first-overlays =
     }
 
 pub last-overlays : LastOverlays
-unfolding word writtenFrom entriesOf ramByte placeFrom listsFrom held protect changes.ask wait finish changes.doneOf startNew firstPhases phaseOf
+unfolding word writtenFrom entriesOf ramByte among placeFrom listsFrom held protect changes.ask wait finish changes.doneOf startNew firstPhases
+    phaseOf
     askedOf flatOf stageOf entered carriedChange answerRefusal afterDone answerDone callRefusal within knownRefusal guestRefusal dmaRefusal
     pageRefusal registerRefusal currentOf registerTaken registerOf follow registered dmaFrom holdings
 last-overlays =

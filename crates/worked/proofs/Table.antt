@@ -1,7 +1,7 @@
 -- The table, its families put together. Assumes nothing.
 use mathlib.Core.Path.{refl}
 use Rattle.permissions.specs.Rmpadjust.{operandOf}
-use Rattle.change_claims.specs.Table.{changes}
+use Rattle.change_claims.proofs.Table.{changes}
 use Rattle.change_claims.proofs.Examples.{full}
 use Rattle.visibility_claims.proofs.Table.{visibility}
 use Rattle.worked.specs.Table.{Worked}

@@ -7,7 +7,7 @@ use lib.ListN.{replicate}
 use Rattle.mapping.specs.Maps.{Maps, maps}
 use Rattle.protector_state.specs.declared.Reply.{Reply}
 use Rattle.protector_state.specs.Reply.{finished}
-use Rattle.protector.specs.World.{World}
+use Rattle.protector.specs.World.{World, world}
 use Rattle.protector.specs.Calls.{visibilityOf, answerDone, answerFailed}
 use Rattle.protection_entries.specs.Calls.{protectionOf, defaultOf}
 use Rattle.overlay_entries.specs.Calls.{registerOf, unregisterOf, isOverlayIn}
@@ -159,6 +159,10 @@ abbrev pub passes : World → List ℕ
 passes w =
     faultIn (w .state) (w .maps) 0 0 16384 0 1 .number ∷ lowerIn (w .state) (w .maps) 0 4 .number ∷ accessIn (w .state) (w .maps) 4 .number ∷ []
 
+-- lent no `pages` run and no tables
+abbrev pub short : World → World
+short w = world (w .maps) (w .state) [] []
+
 pub record Turns : Type 0 where
   pub busy-19 : refusals busy ≡ replicate 12 19
   pub halted-20 : refusals halted ≡ replicate 12 20
@@ -166,6 +170,14 @@ pub record Turns : Type 0 where
   pub busy-passes : passes busy ≡ 0 ∷ 0 ∷ 0 ∷ []
   pub halted-passes : passes halted ≡ 0 ∷ 0 ∷ 0 ∷ []
   pub busy-keeps : visibilityOf busy 0 1 (page 4 []) ≡ keeps busy (refused 19 0)
+  -- 19 and 20 before a run of wrong length, and that before the other input; the setter, the getters and the query are not lent these runs
+  pub busy-short : refusals (short busy) ≡ replicate 12 19
+  pub halted-short : refusals (short halted) ≡ replicate 12 20
+  pub idle-short : refusals (short fresh) ≡ 4 ∷ 4 ∷ 4 ∷ 4 ∷ 4 ∷ 4 ∷ 4 ∷ 4 ∷ 0 ∷ 0 ∷ 0 ∷ 8 ∷ []
+  -- of an answer too, and before 21: nothing is asked, or a Wait is said to have failed
+  pub halted-short-done : answerDone (short halted) ≡ keeps (short halted) (refused 20 0)
+  pub idle-short-done : answerDone (short fresh) ≡ keeps (short fresh) (refused 4 0)
+  pub busy-short-failed : answerFailed (short busy) 77 0 ≡ keeps (short busy) (refused 4 0)
   -- an answer after a halt isn't taken
   pub halted-done : answerDone halted ≡ keeps halted (refused 20 0)
   pub halted-failed : answerFailed halted 77 0 ≡ keeps halted (refused 20 0)

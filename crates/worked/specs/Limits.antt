@@ -16,6 +16,10 @@ unfoldable pub dmaFrom : ℕ → ℕ → List ℕ
 dmaFrom p zero = []
 dmaFrom p (suc k) = p ∷ 0 ∷ 0 ∷ 1 ∷ 1 ∷ dmaFrom (suc p) k
 
+-- 128 of them, and page 5 locked
+abbrev pub full-locked : World
+full-locked = rest first (settings 2 1 0 0 15 16) (tables (128 ∷ dmaFrom 40 128) [] (1 ∷ 1 ∷ 5 ∷ []) [])
+
 abbrev pub holding : ℕ → World
 holding n = rest first (settings 2 1 0 0 15 16) (tables (n ∷ dmaFrom 40 n) [] [] [])
 
@@ -32,6 +36,8 @@ pub record OverlayLimit : Type 0 where
   pub none : holding 0 ≡ fresh
   pub full : registerOf (holding 128) 0 168 1 0 16 ≡ keeps (holding 128) (refused 17 0)
   pub full-guest : registerOf (holding 128) 0 5 0 15 4 ≡ keeps (holding 128) (refused 17 0)
+  -- a locked page is told first
+  pub full-held : registerOf full-locked 0 5 0 15 4 ≡ keeps full-locked (refused 10 8)
   -- neither a known page is barred, nor the other VTL
   pub full-known : registerOf (holding 128) 0 40 1 0 16 .reply ≡ ok 0
   pub full-other : registerOf (holding 128) 1 168 1 0 16 .reply ≡ waits

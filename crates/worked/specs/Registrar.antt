@@ -42,6 +42,10 @@ offset = 2 ^ 40
 abbrev pub at : List ℕ → ℕ → World
 at layout g = world (builtState layout offset g) (0 ∷ []) (0 ∷ [])
 
+-- lent no bitmaps
+abbrev pub short : World → World
+short w = world (w .state) [] []
+
 -- these chunks registered, and these failed
 abbrev pub with : List ℕ → ℕ → ℕ → ℕ → World
 with layout g registered failed = world (builtState layout offset g) (registered ∷ []) (failed ∷ [])
@@ -112,6 +116,11 @@ pub record Registers : Type 0 where
   pub first-fails : failedOf (first .world) ≡ keeps (with holed 131072 1 2) (failed 163840 1)
   pub second-fails : failedOf (second .world) ≡ keeps (with holed 131072 1 2) (failed 229376 2)
   pub failed-again : registerOf (with holed 131072 1 2) 229376 1 ≡ keeps (with holed 131072 1 2) (failed 131072 0)
+  -- without bitmaps: 19 first, then 4, which comes before 9 and before the 21 of an answer
+  pub short-busy : registerOf (short (first .world)) 0 1 ≡ keeps (short (first .world)) (refused 19)
+  pub short-idle : registerOf (short (at holed 131072)) (2 ^ 40) 1 ≡ keeps (short (at holed 131072)) (refused 4)
+  pub short-done : doneOf (short (at holed 131072)) ≡ keeps (short (at holed 131072)) (refused 4)
+  pub short-failed : failedOf (short (at holed 131072)) ≡ keeps (short (at holed 131072)) (refused 4)
   -- two bytes, the last of chunk 0 and the first of chunk 1, ask for both chunks
   pub widened : registerOf (at four 32768) 32767 2 .reply ≡ registers offset (offset + 32768)
   pub widened-on : doneOf (registerOf (at four 32768) 32767 2 .world) .reply ≡ registers (offset + 32768) (offset + 65536)
@@ -155,6 +164,8 @@ pub record AllAligned : Type 0 where
   pub no-aligned-part : all (span 32768 98304) .reply ≡ unaligned 0 32768 98304 32768 98304 7 32768 98304 65536
   -- in a joined span the node of the edge, and its range
   pub second-node : all joined .reply ≡ unaligned 0 0 98304 65536 98304 9 65536 98304 65536
+  -- of an edge over both nodes the node that it begins in
+  pub both-nodes : allOf (at joined 32768) 131072 0 .reply ≡ unaligned 0 0 98304 0 98304 3 0 65536 131072
   pub first-node : all joined-front .reply ≡ unaligned 0 32768 131072 32768 65536 3 32768 65536 65536
   -- edges ignored: the aligned part alone, in one Register
   pub ignored-front : ignoring (span 32768 196608) .reply ≡ registers (offset + 65536) (offset + 196608)
