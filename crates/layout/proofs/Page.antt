@@ -9,7 +9,8 @@ use lib.Dec.{eqb}
 use Rattle.laws.specs.Bools.{both-true}
 use Rattle.laws.specs.Ranges.{between, between-same}
 use Rattle.layout.specs.declared.MemoryRangeWithNode.{MemoryRangeWithNode}
-use Rattle.layout.specs.Layout.{ramByte, isRam, onBytes, aligned}
+use Rattle.layout.specs.Layout.{entriesOf, ramByte, isRam, onBytes, aligned}
+use Rattle.layout.proofs.Laws.{Fit}
 
 entry-page : (e : MemoryRangeWithNode) (p k : ℕ) → onBytes e ≡ true → k < 4096 → between (e .start) (e .end) (p * 4096 + k) ≡ between (e .start) (e .end) (p * 4096)
 entry-page e p k h l =
@@ -24,3 +25,7 @@ page-whole [] p k h l = refl
 page-whole (e ∷ es) p k h l =
     let a = both-true (onBytes e) _ h in
     ap₂ (λ (x y : Bool). x || y) (entry-page e p k (a .0) l) (page-whole es p k (a .1) l)
+
+-- so of every layout that is taken
+pub fit-page : (ws : List ℕ) → Fit ws → (p k : ℕ) → k < 4096 → ramByte (entriesOf ws) (p * 4096 + k) ≡ isRam (entriesOf ws) p
+fit-page ws f p k l = page-whole (entriesOf ws) p k (f .on-edges) l
