@@ -24,6 +24,22 @@ fn put(w: World, c: Call, list: &[u8], ram: &[u64]) -> World {
     answers::finish(calls::call(fresh, c, list), c)
 }
 
+// Of a call that fails nowhere the place of the code says how often it is put before.
+fn times_before(c: Call) -> u64 {
+    if c.place == 0 { c.code } else { 0 }
+}
+
+fn put_often(w: World, c: Call, list: &[u8], ram: &[u64]) -> World {
+    let n = times_before(c);
+    let mut v = w;
+    let mut i: u64 = 0;
+    while i < n {
+        v = put(v, c, list, ram);
+        i += 1;
+    }
+    put(v, c, list, ram)
+}
+
 fn compare(w: World, f: &[u64; 16], tally: &mut [u64]) {
     let r = w.reply;
     let state = w.state;
@@ -52,7 +68,7 @@ fn line(input: &[u8], s: Step, tally: &mut [u64]) -> Step {
     let c = tally::call_of(&f);
     let filled = lists::fill(&mut list, input, at, c.runs);
     let words = lists::ram(&mut ram, input, at, c.runs);
-    let w = put(
+    let w = put_often(
         s.world,
         c,
         lists::part(&list, filled.len),

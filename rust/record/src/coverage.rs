@@ -67,11 +67,7 @@ impl Coverage {
         for (what, count) in &self.met {
             eprintln!("{count:6} {what}");
         }
-        eprintln!(
-            "An overlay is counted {} times at most: a line a registration leaves no room for \
-             65,535 (differential/tests/counts.rs has them)",
-            self.most
-        );
+        eprintln!("An overlay is counted {} times at most", self.most);
         eprintln!(
             "{} calls, {} left out on which the original panics",
             self.calls, self.panics

@@ -20,12 +20,16 @@ pub const ACCESS: u64 = 15;
 pub const REGISTRAR: u64 = 16;
 pub const REGISTER: u64 = 17;
 pub const REGISTER_ALL: u64 = 18;
+/// In the place of an overlay's new flags: none are given.
+pub const NO_FLAGS: u64 = 16;
+
 /// A call as it is written down.
 #[derive(Debug, Clone, Default)]
 pub struct Call {
     pub kind: u64,
     pub arguments: [u64; 5],
-    /// The operation that fails, its code, the pages processed; 0 where none fails.
+    /// The operation that fails, its code, the pages processed. Where none fails: 0, how often the
+    /// call is put before the one that is written down, 0.
     pub failure: [u64; 3],
     /// Pages, or the layout's entries, as a first page and a count.
     pub runs: Vec<(u64, u64)>,

@@ -71,6 +71,7 @@ fn changes(seed: u64, coverage: &mut Coverage) -> Part {
             enable: true,
         };
         calls::record_locked_overlay(build, &mut part, coverage);
+        calls::record_count(build, &mut part, coverage);
     }
     part
 }

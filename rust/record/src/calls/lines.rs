@@ -42,7 +42,7 @@ fn register_overlay(call: &Call) -> String {
     let [vtl, gpn, source, checked, new] = call.arguments;
     let source = ["guest", "dma"][source as usize];
     let new = match new {
-        16 => ".".to_string(),
+        file::NO_FLAGS => ".".to_string(),
         flags => flags.to_string(),
     };
     format!("register_overlay_page {vtl} {gpn} {source} {checked} {new}")
