@@ -1,5 +1,5 @@
 -- The limits of the tables, on tables that calls make: document 01, "Overlays and locks", "From the state" 17. Each call begins from the table that the call before
--- it left; of the 128 register calls the first sixteen and the last sixteen are computed.
+-- it left.
 use mathlib.Core.List.{List, [], _∷_, _++_}
 use mathlib.Core.Path.{_≡_}
 use Prim.Native.Nat.{ℕ, zero, suc, _+_}
@@ -43,10 +43,10 @@ pub record OverlayLimit : Type 0 where
   pub full-other : registerOf (holding 128) 1 168 1 0 16 .reply ≡ waits
 
 pub record FirstOverlays : Type 0 where
-  pub made : registered 0 16 ≡ holdings 1 16
+  pub made : registered 0 64 ≡ holdings 1 64
 
 pub record LastOverlays : Type 0 where
-  pub made : registered 112 16 ≡ holdings 113 16
+  pub made : registered 64 64 ≡ holdings 65 64
 
 -- ---- n lists of VTL0, of one page each; and n of 64 pages each
 

@@ -47,7 +47,7 @@ pub record Worked : Type 0 where
   pub locks : Locks
   pub queries : Queries
   pub turns : Turns
-  -- 128 overlays (the first and the last sixteen made by calls), 64 lists and 1,024 pages (all made by calls)
+  -- 128 overlays, 64 lists and 1,024 pages, made by calls
   pub overlay-limit : OverlayLimit
   pub first-overlays : FirstOverlays
   pub last-overlays : LastOverlays
