@@ -15,7 +15,7 @@ use Rattle.permissions.specs.Flags.{vtlOf, flagsOf, bitsOf}
 use Rattle.page_list.specs.Pages.{pagesOf}
 use Rattle.page_list.specs.Runs.{part, runsOf, run}
 use Rattle.request_pages.specs.Request.{pick}
-use Rattle.request_pages.proofs.Table.{in-use, length-table, pages-few}
+use Rattle.request_pages.proofs.Table.{in-use, length-table, pages-few, pick-each}
 use Rattle.overlay_table.specs.declared.OverlayPage.{OverlayPage}
 use Rattle.overlay_table.specs.Overlays.{isOverlay, entry, addWords}
 use Rattle.visibility_steps.specs.declared.Settings.{Settings}
@@ -83,13 +83,8 @@ from-call w t T x W gs h =
 
 -- ---- change_vtl_protections
 
-pick-all : (ps : List ℕ) → pick (λ p. true) ps ≡ ps
-unfolding pick
-pick-all [] = refl
-pick-all (p ∷ ps) = ap (λ (qs : List ℕ). p ∷ qs) (pick-all ps)
-
 listed : (l t : List ℕ) → part (allListed l t) (length (pagesOf l)) 0 ≡ pagesOf l
-listed l t = subst (λ (ps : List ℕ). part (allListed l t) (length ps) 0 ≡ ps) (pick-all (pagesOf l)) (in-use (λ p. true) (pagesOf l) t)
+listed l t = subst (λ (ps : List ℕ). part (allListed l t) (length ps) 0 ≡ ps) (pick-each (pagesOf l)) (in-use (λ p. true) (pagesOf l) t)
 
 module _ (w : World) (vtl flags : ℕ) (l : List ℕ) (z : protectionRefusal (w .state) (fits w) (w .maps .shared) (w .tables) vtl flags l ≡ 0) (gs : List Given) where
   abbrev protecting : Change

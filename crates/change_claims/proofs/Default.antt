@@ -1,14 +1,14 @@
 -- A default change through its calls is the whole call. Assumes nothing.
 use native.Mathlib.Omega.{arith}
 use mathlib.Core.Path.{_≡_, refl, sym, ap, fun-ext, _∙_, subst}
-use mathlib.Core.Bool.{Bool, true, false, cond}
+use mathlib.Core.Bool.{Bool, true, false}
 use mathlib.Core.List.{List, [], _∷_}
 use Prim.Native.Nat.{ℕ, zero, suc, _+_, _^_, _≤_, _<_}
 use lib.Dec.{eqb}
 use lib.ListN.{length, drop, set, length-set}
 use lib.Seq.{getD-set-other}
-use borrow.Author.Tests.{eqb-true, eqb-false, eq-eqb}
-use Rattle.laws.specs.Refusal.{unless, passed}
+use borrow.Author.Tests.{eqb-true, eq-eqb}
+use Rattle.laws.specs.Refusal.{passed, first-passed}
 use Rattle.layout.specs.declared.MemoryRangeWithNode.{MemoryRangeWithNode}
 use Rattle.layout.specs.Layout.{ordered}
 use Rattle.layout.proofs.Laws.{ordered-cons}
@@ -61,19 +61,11 @@ pub tracked-stored : (w : World) (v : GuestVtl) (flags : ℕ) → trackedIn (sto
 tracked-stored w Vtl0 flags = rw (getD-set-other (w .state) 20 17 flags 0 (λ e. omega arith))
 tracked-stored w Vtl1 flags = rw (getD-set-other (w .state) 21 17 flags 0 (λ e. omega arith))
 
--- a number that is tested and is all that is left: both it and the rest are 0
-pub both-zero : (n rest : ℕ) → unless (eqb n 0) n rest ≡ 0 → (n ≡ 0) × (rest ≡ 0)
-both-zero n rest h = go (eqb n 0) refl h
-  where
-    go : (b : Bool) → eqb n 0 ≡ b → cond b rest n ≡ 0 → (n ≡ 0) × (rest ≡ 0)
-    go true e h = (eqb-true n 0 e, h)
-    go false e h = absurd (eqb-false n 0 e h)
-
 pub default-passed : (w : World) (vtl flags : ℕ) → defaultRefusal (w .state) (fits w) vtl flags ≡ 0 → (length (w .state) ≡ stateLen) × (fits w ≡ true)
 unfolding defaultRefusal
 default-passed w vtl flags z =
     let a = passed (eqb (length (w .state)) stateLen) 3 _ z in
-    let b = passed (fits w) 3 _ (both-zero (statusIn (w .state)) _ (a .1) .1) in
+    let b = passed (fits w) 3 _ (first-passed (statusIn (w .state)) _ (a .1) .1) in
     (eqb-true _ _ (a .0), b .0)
 
 -- ---- RAM ends by page 2^52 in a layout in order

@@ -8,7 +8,7 @@ use lib.Dec.{eqb, ltb}
 use lib.ListN.{length, take}
 use borrow.Author.Tests.{eqb-true, eqb-false, lt-ltb}
 use Rattle.laws.specs.Bools.{false≢true, both-true, and-left, or-true, or-left, or-right}
-use Rattle.laws.specs.Refusal.{passed}
+use Rattle.laws.specs.Refusal.{passed, first-passed}
 use Rattle.bitmap.specs.Pages.{bitAt}
 use Rattle.layout.specs.declared.MemoryRangeWithNode.{MemoryRangeWithNode}
 use Rattle.layout.specs.Layout.{isRam, mapLen}
@@ -36,7 +36,7 @@ use Rattle.change_claims.specs.Calls.{trackedIn, overlayIn, defaultWhole
 use Rattle.change_claims.specs.Pages.{Sets, all, within, PermitsFor, Leaves}
 use Rattle.change_claims.specs.Claims.{TakesProtection, storedIn, TakesVisibility, visibilityCall, requestedPages, requestedPlaces, FitLayout, takenRam, PermissionsLeft}
 use Rattle.change_claims.proofs.Calls.{protection-is-whole}
-use Rattle.change_claims.proofs.Default.{both-zero, tracked-stored, entries-stored, default-passed, default-is-whole}
+use Rattle.change_claims.proofs.Default.{tracked-stored, entries-stored, default-passed, default-is-whole}
 use Rattle.change_claims.proofs.Left.{permission-maps}
 
 -- ---- pages that every map has
@@ -105,18 +105,18 @@ listed-ram : (w : World) (vtl flags : ℕ) (l : List ℕ) → TakesProtection w 
 unfolding protectionRefusal
 listed-ram w vtl flags l z p h =
     let a = passed (eqb (length (w .state)) stateLen) 3 _ z in
-    let b = passed (fits w) 3 _ (both-zero (statusIn (w .state)) _ (a .1) .1) in
+    let b = passed (fits w) 3 _ (first-passed (statusIn (w .state)) _ (a .1) .1) in
     let c = passed (not (isLong l)) 4 _ (b .1) in
     let d = passed (fitVtl vtl) 7 _ (c .1) in
     let e = passed (fitFlags flags) 7 _ (d .1) in
     let f = passed (not (isRagged l)) 7 _ (e .1) in
-    each-ram (entriesIn (w .state)) (overlaysOf (w .tables) (vtlOf vtl)) (locksOf (w .tables) (vtlOf vtl)) true (pagesOf l) p (both-zero (eachRefusal (w .state) (w .tables) (vtlOf vtl) l) _ (f .1) .0) h
+    each-ram (entriesIn (w .state)) (overlaysOf (w .tables) (vtlOf vtl)) (locksOf (w .tables) (vtlOf vtl)) true (pagesOf l) p (first-passed (eachRefusal (w .state) (w .tables) (vtlOf vtl) l) _ (f .1) .0) h
 
 shown-ram : (w : World) (vtl visibility : ℕ) (l : List ℕ) → TakesVisibility w vtl visibility l → (fits w ≡ true) × ((p : ℕ) → among (pagesOf l) p ≡ true → isRam (entriesIn (w .state)) p ≡ true)
 unfolding visibilityRefusal
 shown-ram w vtl visibility l z =
     let a = passed (eqb (length (w .state)) stateLen) 3 _ z in
-    let b = passed (fits w) 3 _ (both-zero (statusIn (w .state)) _ (a .1) .1) in
+    let b = passed (fits w) 3 _ (first-passed (statusIn (w .state)) _ (a .1) .1) in
     let c = passed (not (isLong l)) 4 _ (b .1) in
     let d = passed (not (repeats (pagesOf l))) 5 _ (c .1) in
     let e = passed (fitVtl vtl) 7 _ (d .1) in

@@ -7,14 +7,13 @@ use Prim.Native.Nat.{ℕ, suc, _+_, _%_, _^_, _≤_, min}
 use lib.Dec.{eqb, leb, ltb}
 use lib.ListN.{length}
 use borrow.Author.Tests.{eq-eqb}
+use Rattle.permissions.proofs.Laws.{vtl-number}
 use Rattle.laws.specs.Bools.{false≢true}
 use Rattle.laws.specs.Refusal.{unless}
 use Rattle.bitmap.proofs.Steps.{run-none}
-use Rattle.permissions.specs.declared.GuestVtl.{GuestVtl}
-use Rattle.permissions.specs.declared.GuestVtl.the-variants.{Vtl0, Vtl1}
 use Rattle.permissions.specs.declared.IsolationType.{IsolationType}
 use Rattle.permissions.specs.declared.HvMapGpaFlags.{HvMapGpaFlags}
-use Rattle.permissions.specs.Flags.{vtlOf, vtlNumber, flagsOf}
+use Rattle.permissions.specs.Flags.{flagsOf}
 use Rattle.layout.specs.declared.MemoryRangeWithNode.{MemoryRangeWithNode}
 use Rattle.mapping.specs.Maps.{Maps, Permissions}
 use Rattle.page_list.specs.declared.PageRun.{PageRun}
@@ -54,14 +53,10 @@ stage-read stage.Wait e = (refl, refl)
 stage-read stage.Flush e = (refl, refl)
 stage-read stage.TlbWait e = (refl, refl)
 
-vtl-read : (v : GuestVtl) → vtlOf (vtlNumber v) ≡ v
-vtl-read Vtl0 = refl
-vtl-read Vtl1 = refl
-
 change-read : (g : Stage) (q : Change) (tail : List ℕ) → q .n ≤ 512 → changeIn (changeWords g q ++ tail) ≡ q
 change-read g q tail h =
     let e : min (q .n) 512 ≡ q .n = omega arith in
-    rw (vtl-read (q .vtl), vtl-read (q .flush), e)
+    rw (vtl-number (q .vtl), vtl-number (q .flush), e)
 
 -- ---- maps
 

@@ -10,7 +10,7 @@ use lib.Dec.{eqb, ltb}
 use borrow.Author.Tests.{eqb-true, ltb-false}
 use Rattle.abi.specs.Refusals as refusal
 use Rattle.laws.specs.Bools.{false≢true}
-use Rattle.laws.specs.Refusal.{passed}
+use Rattle.laws.specs.Refusal.{passed, first-passed}
 use Rattle.layout.specs.declared.MemoryRangeWithNode.{MemoryRangeWithNode}
 use Rattle.layout.specs.Layout.{isRam}
 use Rattle.permissions.specs.declared.GuestVtl.{GuestVtl}
@@ -29,7 +29,6 @@ use Rattle.change_state.specs.State.{isChanging}
 use Rattle.protector.specs.World.{World, world, Outcome, overlaysOf, locksOf, fits, statusIn, applied}
 use Rattle.protector.specs.Calls.{refusedBy, decided, carriedOut, carriedChange, pageRefusal, firstRefusal, visibilityRefusal, stopOf, askedFor, tableFor, visibilityTaken, visibilityOf}
 use Rattle.visibility_claims.proofs.Calls.{modify-pages}
-pub use Rattle.visibility_claims.proofs.Calls.{status}
 use Rattle.history.specs.Seen.{Seen, asks, seesCall}
 use Rattle.history.proofs.Took.{sharedIn}
 use Rattle.history.proofs.Bits.{among-own}
@@ -134,7 +133,7 @@ pub taken : (w : World) (vtl visibility : ℕ) (l : List ℕ) → visibilityRefu
 unfolding visibilityRefusal
 taken w vtl visibility l z =
     let a = passed (eqb (length (w .state)) stateLen) 3 _ z in
-    let b = status (statusIn (w .state)) _ (a .1) in
+    let b = first-passed (statusIn (w .state)) _ (a .1) in
     let c = passed (fits w) 3 _ (b .1) in
     let d = passed (not (isLong l)) 4 _ (c .1) in
     let e = passed (not (repeats (pagesOf l))) 5 _ (d .1) in

@@ -9,7 +9,7 @@ use lib.Seq.{take-at}
 use lib.Dec.{eqb, ltb}
 use borrow.Author.Tests.{eqb-true, eqb-false, lt-ltb}
 use Rattle.laws.specs.Bools.{and-left, and-right, and-true}
-use Rattle.laws.specs.Refusal.{passed}
+use Rattle.laws.specs.Refusal.{passed, first-passed}
 use Rattle.bitmap.specs.Pages.{bitAt}
 use Rattle.bitmap.proofs.Map.{length-written}
 use Rattle.layout.specs.declared.MemoryRangeWithNode.{MemoryRangeWithNode}
@@ -39,7 +39,6 @@ use Rattle.history.proofs.Bits.{clash}
 use Rattle.history.proofs.Fits.{tables-long}
 use Rattle.history.specs.Answered.{given}
 use Rattle.history.specs.Claim.{ClaimFrom, Claim}
-use Rattle.history.proofs.Calls.{status}
 use Rattle.history.proofs.Is.{build-is}
 use Rattle.history.proofs.Strays.{Whole}
 use Rattle.history.proofs.Histories.{Lent}
@@ -83,7 +82,7 @@ module _ (u : World) (ram : List ℕ) (i t r : ℕ) (z : buildRefusal ram i t r 
 
   ram-taken : refusalOf ram ≡ 0
   unfolding buildRefusal
-  ram-taken = status (refusalOf ram) _ z .0
+  ram-taken = first-passed (refusalOf ram) _ z .0
 
   well : Fit ram
   well = fit ram ram-taken
@@ -91,7 +90,7 @@ module _ (u : World) (ram : List ℕ) (i t r : ℕ) (z : buildRefusal ram i t r 
   lengths : buildFits (mapLen es) t u ≡ true
   unfolding buildRefusal
   lengths =
-      let b = passed (fitIsolation i) 2 _ (status (refusalOf ram) _ z .1) in
+      let b = passed (fitIsolation i) 2 _ (first-passed (refusalOf ram) _ z .1) in
       passed (buildFits (mapLen es) t u) 3 _ (b .1) .0
 
   marks-fit : marksFit (mapLen es) (length (u .maps .private)) (length (u .maps .shared)) ≡ true
@@ -106,7 +105,7 @@ module _ (u : World) (ram : List ℕ) (i t r : ℕ) (z : buildRefusal ram i t r 
   tracked-fit : fitBool t ≡ true
   unfolding buildRefusal
   tracked-fit =
-      let b = passed (fitIsolation i) 2 _ (status (refusalOf ram) _ z .1) in
+      let b = passed (fitIsolation i) 2 _ (first-passed (refusalOf ram) _ z .1) in
       let c = passed (buildFits (mapLen es) t u) 3 _ (b .1) in
       passed (fitBool t) 7 _ (c .1) .0
 
@@ -219,7 +218,7 @@ module _ {ram : List ℕ} {i t r : ℕ} {u w : World} {reply : Reply} (b : Built
   fresh-settings : SettingsFit i t r (buildTaken u ram i t r .world .state)
   unfolding buildTaken buildRefusal
   fresh-settings =
-      let a = status (refusalOf ram) _ (was .0) in
+      let a = first-passed (refusalOf ram) _ (was .0) in
       let c = passed (fitIsolation i) 2 _ (a .1) in
       let e = passed (buildFits (mapLen (entriesOf ram)) t u) 3 _ (c .1) in
       let f = passed (fitBool t) 7 _ (e .1) in

@@ -8,7 +8,7 @@ use Prim.Native.Nat.{ℕ}
 use lib.Dec.{eqb}
 use borrow.Author.Tests.{eqb-true, eqb-false}
 use contract.Lifetimes.{Lfts}
-use Rattle.laws.specs.Refusal.{passed}
+use Rattle.laws.specs.Refusal.{passed, first-passed}
 use Rattle.layout.specs.Layout.{entriesOf, refusalOf, mapLen}
 use Rattle.permissions.specs.Flags.{fitIsolation}
 use Rattle.protector.specs.World.{World, Outcome}
@@ -27,7 +27,6 @@ use Rattle.history.specs.Callable.{Callable, Strays}
 use Rattle.history.specs.Answered.{given}
 use Rattle.history.proofs.Bits.{clash}
 use Rattle.history.proofs.Fits.{mapsLong}
-use Rattle.history.proofs.Calls.{status}
 use Rattle.history.proofs.Spared.{visibility-same, protection-same, default-same, register-same, unregister-same}
 
 -- ---- a world as it is lent
@@ -115,7 +114,7 @@ unfit-refused w ram isolation tracked release f e = go (eqb n 0) refl e
     n = buildRefusal ram isolation tracked release (buildFits (mapLen (entriesOf ram)) tracked w)
 
     go : (b : Bool) → eqb n 0 ≡ b → cond b (buildTaken w ram isolation tracked release) (refusedBy w n) .reply .number ≡ 0 → ⊥
-    go true h _ = clash _ (passed (fitIsolation isolation) 2 _ (status (refusalOf ram) _ (eqb-true n 0 h) .1) .0) f
+    go true h _ = clash _ (passed (fitIsolation isolation) 2 _ (first-passed (refusalOf ram) _ (eqb-true n 0 h) .1) .0) f
     go false h z = eqb-false n 0 h z
 
 pub any-call : (w : World) → Callable w

@@ -7,7 +7,7 @@ use mathlib.Core.List.{List}
 use lib.Dec.{eqb}
 use lib.ListN.{length, set}
 use borrow.Author.Tests.{eqb-true}
-use Rattle.laws.specs.Refusal.{passed}
+use Rattle.laws.specs.Refusal.{passed, first-passed}
 use Rattle.permissions.specs.HvError.{codeOf}
 use Rattle.protector_state.specs.Reply.{finished}
 use Rattle.protector_state.specs.State.{stateLen, settingsOf}
@@ -16,7 +16,6 @@ use Rattle.setting_entries.specs.Calls.{stateRefusal, enableRefusal, enabled, e
 use Rattle.history.specs.Seen.{Seen}
 use Rattle.history.specs.Call.{Visibility, Protection, Default, Register, Unregister, Lock, Unlock, Enable, Call, Write, Read, Answer, gives, sees}
 use Rattle.history.proofs.Bits.{clash}
-use Rattle.history.proofs.Calls.{status}
 use Rattle.history.proofs.Wholes.{lock-tables-long, unlock-tables-long}
 
 -- what the setter does to the state block: nothing where it is refused
@@ -26,7 +25,7 @@ setter-frame K s k f = go (eqb (enableRefusal s) 0) refl
   where
     go : (b : Bool) → eqb (enableRefusal s) 0 ≡ b → K (cond b (enabled (set s 19 1) (finished 0 0 0 0)) (enabled s (finished (enableRefusal s) (codeOf (enableRefusal s)) 0 0)) .state)
     go true e =
-        let a = status (stateRefusal s) _ (eqb-true (enableRefusal s) 0 e) in
+        let a = first-passed (stateRefusal s) _ (eqb-true (enableRefusal s) 0 e) in
         f (passed (settingsOf s .tracked) 23 _ (a .1) .0) (eqb-true _ _ (passed (eqb (length s) stateLen) 3 _ (a .0) .0))
     go false e = k
 

@@ -6,7 +6,7 @@ use Prim.Native.Nat.{ℕ, _≤_}
 use lib.Dec.{eqb}
 use lib.ListN.{length}
 use borrow.Author.Tests.{eqb-true, eqb-false, ltb-false}
-use Rattle.laws.specs.Refusal.{passed}
+use Rattle.laws.specs.Refusal.{passed, first-passed}
 use Rattle.layout.specs.declared.MemoryRangeWithNode.{MemoryRangeWithNode}
 use Rattle.permissions.specs.declared.GuestVtl.{GuestVtl}
 use Rattle.permissions.specs.declared.GuestVtl.the-variants.{Vtl0, Vtl1}
@@ -21,7 +21,7 @@ use Rattle.lock_entries.specs.Calls.{Kept, ended, lockRefusal, lockOf, unlockOf
 use Rattle.lock_entries.specs.Lists.{Lists, lists, listsAt, withLists, Holds, Makes}
 use Rattle.lock_entries.proofs.Lists.{lock-room, lock-full, unlock-found, unlock-none, lock-refused, unlock-refused}
 use Rattle.history.specs.Tables.{EachShort, Overlays, Tables}
-use Rattle.history.proofs.Calls.{status, not-true}
+use Rattle.history.proofs.Calls.{not-true}
 
 -- ---- each list short
 
@@ -109,7 +109,7 @@ module _ (es : List MemoryRangeWithNode) (s t : List ℕ) (k : Tables es t) wher
     unfolding lockRefusal
     few z =
         let a = passed (eqb (length s) stateLen) 3 _ z in
-        let b = status (statusIn s) _ (a .1) in
+        let b = first-passed (statusIn s) _ (a .1) in
         let c = passed (eqb (length t) tablesLen) 3 _ (b .1) in
         let d = passed (not (isLong l)) 4 _ (c .1) in
         pages-few l (ltb-false 4096 (length l) (not-true (isLong l) (d .0)))

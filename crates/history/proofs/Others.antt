@@ -6,7 +6,7 @@ use mathlib.Core.Bool.{Bool, true, false, cond}
 use native.Mathlib.Omega.{arith}
 use lib.ListN.{length, set}
 use lib.Dec.{eqb, ltb}
-use Rattle.laws.specs.Refusal.{passed}
+use Rattle.laws.specs.Refusal.{passed, first-passed}
 use Rattle.layout.specs.declared.MemoryRangeWithNode.{MemoryRangeWithNode}
 use Rattle.permissions.specs.declared.GuestVtl.{GuestVtl}
 use Rattle.permissions.specs.declared.GuestVtl.the-variants.{Vtl0, Vtl1}
@@ -26,7 +26,7 @@ use Rattle.overlay_entries.specs.Calls.{entryIn, counting, unregisterTaken, unr
 use Rattle.history.specs.Seen.{Seen, seesCall}
 use Rattle.history.proofs.World.{Stands, stops}
 use Rattle.history.proofs.Answers.{new-told, old-told, start-pages-told, start-ram-told}
-use Rattle.history.proofs.Calls.{status, called, set-entries, set-stands, tables-stand, change-starts}
+use Rattle.history.proofs.Calls.{called, set-entries, set-stands, tables-stand, change-starts}
 
 -- ---- a start is no halt
 
@@ -54,15 +54,15 @@ old-goes tracked v p previous source = refl
 
 pub protection-idle : (w : World) (vtl flags : ℕ) (l : List ℕ) → protectionRefusal (w .state) (fits w) (w .maps .shared) (w .tables) vtl flags l ≡ 0 → statusIn (w .state) ≡ 0
 unfolding protectionRefusal
-protection-idle w vtl flags l z = status (statusIn (w .state)) _ (passed (eqb (length (w .state)) stateLen) 3 _ z .1) .0
+protection-idle w vtl flags l z = first-passed (statusIn (w .state)) _ (passed (eqb (length (w .state)) stateLen) 3 _ z .1) .0
 
 pub default-idle : (w : World) (vtl flags : ℕ) → defaultRefusal (w .state) (fits w) vtl flags ≡ 0 → statusIn (w .state) ≡ 0
 unfolding defaultRefusal
-default-idle w vtl flags z = status (statusIn (w .state)) _ (passed (eqb (length (w .state)) stateLen) 3 _ z .1) .0
+default-idle w vtl flags z = first-passed (statusIn (w .state)) _ (passed (eqb (length (w .state)) stateLen) 3 _ z .1) .0
 
 pub call-idle : (w : World) (vtl rest : ℕ) → callRefusal (w .state) (fits w) vtl rest ≡ 0 → statusIn (w .state) ≡ 0
 unfolding callRefusal
-call-idle w vtl rest z = status (statusIn (w .state)) _ (passed (eqb (length (w .state)) stateLen) 3 _ z .1) .0
+call-idle w vtl rest z = first-passed (statusIn (w .state)) _ (passed (eqb (length (w .state)) stateLen) 3 _ z .1) .0
 
 module _ (es : List MemoryRangeWithNode) (w : World) (o : Seen) (k : Stands es w o) where
   pub protection-stands : (vtl flags : ℕ) (l : List ℕ) → let X = protectionOf w vtl flags l in Stands es (X .world) (seesCall [] (X .reply) (X .world .pages) o)

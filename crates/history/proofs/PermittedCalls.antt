@@ -2,7 +2,7 @@
 use native.Mathlib.Omega.{arith}
 use mathlib.Core.Path.{_≡_, refl, sym, ap, _∙_, subst}
 use mathlib.Core.Bool.{Bool, true, false, cond, not}
-use mathlib.Core.List.{List, [], _∷_}
+use mathlib.Core.List.{List}
 use Prim.Native.Nat.{ℕ, _+_, _-_, _≤_, _<_, min}
 use lib.Dec.{eqb, ltb}
 use lib.ListN.{length, getD, take, set}
@@ -10,7 +10,7 @@ use lib.Seq.{getD-take, getD-set-other}
 use borrow.Author.Tests.{eqb-true, ltb-true, ltb-false}
 use Rattle.abi.specs.Refusals as refusal
 use Rattle.laws.specs.Bools.{and-left}
-use Rattle.laws.specs.Refusal.{passed}
+use Rattle.laws.specs.Refusal.{passed, first-passed}
 use Rattle.laws.specs.Ranges.{between, between-from, between-to}
 use Rattle.bitmap.specs.Pages.{bitAt}
 use Rattle.layout.specs.declared.MemoryRangeWithNode.{MemoryRangeWithNode}
@@ -23,7 +23,7 @@ use Rattle.page_list.specs.declared.PageRun.{PageRun}
 use Rattle.page_list.specs.Pages.{pagesOf, among, isLong, isRagged}
 use Rattle.page_list.specs.Runs.{part}
 use Rattle.request_pages.specs.Request.{pick, put}
-use Rattle.request_pages.proofs.Table.{in-use, length-table, pages-few}
+use Rattle.request_pages.proofs.Table.{in-use, length-table, pages-few, pick-each}
 use Rattle.overlay_table.specs.declared.OverlayPage.{OverlayPage}
 use Rattle.overlay_table.specs.Overlays.{isOverlay}
 use Rattle.default_change.specs.Pieces.{wanted, free, nextPiece}
@@ -54,7 +54,7 @@ use Rattle.history.specs.Permitted.{Inside, OnRam, isPages, isListing, P
 use Rattle.history.proofs.Fits.{pages-long}
 use Rattle.history.proofs.Bits.{among-own}
 use Rattle.history.proofs.Start.{first-all, ram-page}
-use Rattle.history.proofs.Calls.{not-true, status, taken, in-ram}
+use Rattle.history.proofs.Calls.{not-true, taken, in-ram}
 use Rattle.history.proofs.Strays.{answer-whole, protection-whole}
 use Rattle.history.proofs.Deciding.{decides, either}
 use Rattle.history.proofs.Entries.{overlays-entry, overlays-own}
@@ -84,11 +84,6 @@ not-listing s z e = go (isChanging s) (isPages (stageIn s)) (statusOf (phaseIn s
     go : (c a : Bool) (n : ℕ) → cond c refusal.busy n ≡ 0 → cond c a (eqb n refusal.busy) ≡ true → ⊥
     go true a n z e = omega (arith, z)
     go false a n z e = omega (arith, z, eqb-true n 19 e)
-
-pick-all : (ps : List ℕ) → pick (λ p. true) ps ≡ ps
-unfolding pick
-pick-all [] = refl
-pick-all (p ∷ ps) = ap (λ (l : List ℕ). p ∷ l) (pick-all ps)
 
 module _ (es : List MemoryRangeWithNode) where
   fewer : (n m : ℕ) (t : List ℕ) → m ≤ n → OnRam es n t → OnRam es m t
@@ -179,19 +174,19 @@ module _ (es : List MemoryRangeWithNode) where
     unfolding protectionRefusal
     listed-each =
         let a = passed (eqb (length (w .state)) stateLen) 3 _ z in
-        let b = status (statusIn (w .state)) _ (a .1) in
+        let b = first-passed (statusIn (w .state)) _ (a .1) in
         let c = passed (fits w) 3 _ (b .1) in
         let d = passed (not (isLong l)) 4 _ (c .1) in
         let e = passed (fitVtl vtl) 7 _ (d .1) in
         let f = passed (fitFlags flags) 7 _ (e .1) in
         let g = passed (not (isRagged l)) 7 _ (f .1) in
-        (ltb-false 4096 (length l) (not-true (isLong l) (d .0)), status (eachRefusal (w .state) (w .tables) (vtlOf vtl) l) _ (g .1) .0)
+        (ltb-false 4096 (length l) (not-true (isLong l) (d .0)), first-passed (eachRefusal (w .state) (w .tables) (vtlOf vtl) l) _ (g .1) .0)
 
     listed-ram : OnRam es (length (pagesOf l)) (allListed l (w .pages))
     listed-ram j h d =
         let t : List ℕ = allListed l (w .pages) in
         let ps : List ℕ = pagesOf l in
-        let first : take (length ps) t ≡ ps = subst (λ (x : List ℕ). take (length x) t ≡ x) (pick-all ps) (in-use (λ p. true) ps (w .pages)) in
+        let first : take (length ps) t ≡ ps = subst (λ (x : List ℕ). take (length x) t ≡ x) (pick-each ps) (in-use (λ p. true) ps (w .pages)) in
         let own : getD t j 0 ≡ getD ps j 0 = sym (getD-take (length ps) t j 0 h) ∙ ap (λ (m : List ℕ). getD m j 0) first in
         ap (λ (y : List MemoryRangeWithNode). isRam y (getD t j 0)) (sym layout)
         ∙ ram-page (entriesIn (w .state)) (overlaysOf (w .tables) (vtlOf vtl)) (locksOf (w .tables) (vtlOf vtl)) true (getD t j 0)

@@ -8,7 +8,7 @@ use lib.ListN.{length}
 use lib.Dec.{eqb}
 use borrow.Author.Tests.{ne-eqb}
 use Rattle.abi.specs.Refusals as refusal
-use Rattle.laws.specs.Refusal.{unless, passed}
+use Rattle.laws.specs.Refusal.{unless, passed, first-passed}
 use Rattle.layout.specs.Layout.{entriesOf, mapLen}
 use Rattle.permissions.specs.Flags.{vtlOf, boolOf}
 use Rattle.page_list.specs.Pages.{pagesOf}
@@ -30,7 +30,6 @@ use Rattle.history.specs.Call.{Writer, Visibility, Protection, Default, 
 use Rattle.history.specs.History.{Stray, StrayWriter, Wrong, IsRefusal}
 use Rattle.history.specs.Answered.{given}
 use Rattle.history.proofs.Bits.{clash}
-use Rattle.history.proofs.Calls.{status}
 use Rattle.history.proofs.Others.{protection-idle, default-idle, call-idle}
 use Rattle.history.proofs.Strays.{not-whole, visibility-whole, protection-whole, default-whole, register-whole, unregister-whole, answer-whole, lock-refused, enable-refused, untaken-seen, answer-stray}
 
@@ -119,7 +118,7 @@ busy : (n : ℕ) → eqb n refusal.busy ≡ true → n ≡ 0 → ⊥
 busy n e z = clash (eqb n refusal.busy) e (ap (λ n. eqb n refusal.busy) z)
 
 idle : (s : List ℕ) (rest : ℕ) → unless (eqb (length s) stateLen) refusal.wrongLength (unless (eqb (statusIn s) 0) (statusIn s) rest) ≡ 0 → statusIn s ≡ 0
-idle s rest z = status (statusIn s) _ (passed (eqb (length s) stateLen) 3 _ z .1) .0
+idle s rest z = first-passed (statusIn s) _ (passed (eqb (length s) stateLen) 3 _ z .1) .0
 
 busy-barred : (a : Writer) (x : World) → underWay x ≡ true → refusalIn a x ≡ 0 → ⊥
 unfolding visibilityRefusal registerRefusal unregisterRefusal lockRefusal enableRefusal stateRefusal
@@ -130,7 +129,7 @@ busy-barred (Register vtl page source checked new) x b z = busy _ b (call-idle x
 busy-barred (Unregister vtl page) x b z = busy _ b (call-idle x vtl _ z)
 busy-barred (Lock vtl list) x b z = busy _ b (idle (x .state) _ z)
 busy-barred (Unlock vtl list) x b z = busy _ b (idle (x .state) _ z)
-busy-barred Enable x b z = busy _ b (passed (eqb (length (x .state)) stateLen) 3 _ (status _ _ z .0) .1)
+busy-barred Enable x b z = busy _ b (passed (eqb (length (x .state)) stateLen) 3 _ (first-passed _ _ z .0) .1)
 
 pub busy-no-effect : (a : Writer) (x : World) → underWay x ≡ true → NoEffect x (givesWriter a x) (seesWriter a)
 busy-no-effect a x b = barred-no-effect a x (busy-barred a x b)

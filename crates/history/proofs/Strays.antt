@@ -7,7 +7,7 @@ use lib.ListN.{length}
 use lib.Dec.{eqb}
 use borrow.Author.Tests.{eqb-true, ne-eqb}
 use Rattle.abi.specs.Refusals as refusal
-use Rattle.laws.specs.Refusal.{unless, passed}
+use Rattle.laws.specs.Refusal.{unless, passed, first-passed}
 use Rattle.permissions.specs.Flags.{vtlOf}
 use Rattle.protector_state.specs.State.{stateLen}
 use Rattle.protector.specs.World.{World, Outcome, tablesLen, fits, statusIn, takesIn}
@@ -22,7 +22,6 @@ use Rattle.history.specs.Seen.{Seen, isTaken, seesTaken, seesAnswer}
 use Rattle.history.specs.History.{Stray, block, other, StrayLock, lockBlock, lockTables}
 use Rattle.history.proofs.Bits.{clash}
 use Rattle.history.proofs.Answers.{chain, counts, chain-untaken}
-use Rattle.history.proofs.Calls.{status}
 
 -- a state block of its length, and all else as it should be
 pub record Whole (x : World) : Type 0 where
@@ -36,7 +35,7 @@ not-whole u x (other e f) k = clash (fits x) (k .fit) f
 begins : (x : World) (rest : ℕ) → unless (eqb (length (x .state)) stateLen) refusal.wrongLength (unless (eqb (statusIn (x .state)) 0) (statusIn (x .state)) (unless (fits x) refusal.wrongLength rest)) ≡ 0 → Whole x
 begins x rest z =
     let a = passed (eqb (length (x .state)) stateLen) 3 _ z in
-    let b = status (statusIn (x .state)) _ (a .1) in
+    let b = first-passed (statusIn (x .state)) _ (a .1) in
     record { long = eqb-true _ _ (a .0); fit = passed (fits x) 3 _ (b .1) .0 }
 
 pub visibility-whole : (x : World) (vtl visibility : ℕ) (l : List ℕ) → visibilityRefusal (x .state) (fits x) (x .tables) vtl visibility l ≡ 0 → Whole x
@@ -123,7 +122,7 @@ pub lock-refused : (u x : World) (vtl : ℕ) (l : List ℕ) → StrayLock u x �
 unfolding lockRefusal
 lock-refused u x vtl l s z =
     let a = passed (eqb (length (x .state)) stateLen) 3 _ z in
-    let b = status (statusIn (x .state)) _ (a .1) in
+    let b = first-passed (statusIn (x .state)) _ (a .1) in
     let c = passed (eqb (length (x .tables)) tablesLen) 3 _ (b .1) in
     go s (eqb-true _ _ (a .0)) (eqb-true _ _ (c .0))
   where
@@ -133,4 +132,4 @@ lock-refused u x vtl l s z =
 
 pub enable-refused : (s : List ℕ) → (length s ≡ stateLen → ⊥) → enableRefusal s ≡ 0 → ⊥
 unfolding enableRefusal stateRefusal
-enable-refused s f z = f (eqb-true _ _ (passed (eqb (length s) stateLen) 3 _ (status _ _ z .0) .0))
+enable-refused s f z = f (eqb-true _ _ (passed (eqb (length s) stateLen) 3 _ (first-passed _ _ z .0) .0))

@@ -8,7 +8,7 @@ use lib.Dec.{eqb, ltb}
 use lib.ListN.{length, set}
 use borrow.Author.Tests.{eqb-true, eqb-false, eq-eqb, ne-eqb, ltb-true, ltb-false}
 use Rattle.laws.specs.Bools.{digit-le}
-use Rattle.laws.specs.Refusal.{passed}
+use Rattle.laws.specs.Refusal.{passed, first-passed}
 use Rattle.bitmap.specs.Pages.{bitAt}
 use Rattle.layout.specs.declared.MemoryRangeWithNode.{MemoryRangeWithNode}
 use Rattle.layout.specs.Layout.{isRam}
@@ -39,7 +39,7 @@ use Rattle.history.proofs.World.{Stands}
 use Rattle.history.proofs.Frame.{setter-frame}
 use Rattle.history.proofs.Histories.{KeepsWith, InWorld}
 use Rattle.history.proofs.Locked.{lock-tables, unlock-tables}
-use Rattle.history.proofs.Calls.{not-true, status}
+use Rattle.history.proofs.Calls.{not-true}
 use Rattle.history.proofs.Deciding.{decides, either}
 use Rattle.history.proofs.Entries.{overlays-entry, overlays-counted, overlays-renewed}
 use Rattle.history.proofs.Tables.{put, pending-written, pending-request, pending-idle, pending-same, pending-set, Sound, sound-pages, sound-ram, sound-done, sound-failed, sound-new, sound-old}
@@ -102,7 +102,7 @@ pub flags-fit : (w : World) (vtl flags : ℕ) → defaultRefusal (w .state) (fit
 unfolding defaultRefusal
 flags-fit w vtl flags z =
     let a = passed (eqb (length (w .state)) stateLen) 3 _ z in
-    let b = status (statusIn (w .state)) _ (a .1) in
+    let b = first-passed (statusIn (w .state)) _ (a .1) in
     let c = passed (fits w) 3 _ (b .1) in
     let d = passed (fitVtl vtl) 7 _ (c .1) in
     ltb-true flags 16 (passed (fitFlags flags) 7 _ (d .1) .0)

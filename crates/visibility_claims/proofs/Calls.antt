@@ -7,14 +7,14 @@ use Prim.Native.Nat.{ℕ, _≤_, min}
 use lib.Dec.{eqb, leb, ltb}
 use lib.ListN.{length, take, drop, length-take, length-drop}
 use lib.Seq.{getD-drop, drop-drop, length-take-le}
-use borrow.Author.Tests.{eqb-true, eqb-false, eq-eqb, ne-eqb, le-ltb, ltb-false}
+use borrow.Author.Tests.{eqb-true, eq-eqb, ne-eqb, le-ltb, ltb-false}
+use Rattle.permissions.proofs.Laws.{vtl-number}
 use Rattle.laws.specs.Bools.{false≢true, digit, and-left, and-right}
-use Rattle.laws.specs.Refusal.{unless, passed}
+use Rattle.laws.specs.Refusal.{unless, passed, first-passed}
 use Rattle.bitmap.proofs.Map.{length-written}
 use Rattle.permissions.specs.declared.GuestVtl.{GuestVtl}
-use Rattle.permissions.specs.declared.GuestVtl.the-variants.{Vtl0, Vtl1}
 use Rattle.permissions.specs.declared.IsolationType.{IsolationType}
-use Rattle.permissions.specs.Flags.{fitVtl, vtlOf, vtlNumber, fitBool, boolOf}
+use Rattle.permissions.specs.Flags.{fitVtl, vtlOf, fitBool, boolOf}
 use Rattle.layout.specs.Layout.{mapLen}
 use Rattle.mapping.specs.Maps.{Maps, Permissions, marksFit, permissionLen, permissionsFit}
 use Rattle.page_list.specs.declared.PageRun.{PageRun}
@@ -155,14 +155,10 @@ bool-read : (b : Bool) → boolOf (digit b) ≡ b
 bool-read true = refl
 bool-read false = refl
 
-vtl-read : (v : GuestVtl) → vtlOf (vtlNumber v) ≡ v
-vtl-read Vtl0 = refl
-vtl-read Vtl1 = refl
-
 pub request-read : (p : Phase) (q : Request) (tail : List ℕ) → q .n ≤ 512 → requestOf (requestWords p q ++ tail) ≡ q
 request-read p q tail h =
     let e : min (q .n) 512 ≡ q .n = omega arith in
-    rw (bool-read (q .share), vtl-read (q .vtl), e, bool-read (q .stopped), bool-read (q .failed))
+    rw (bool-read (q .share), vtl-number (q .vtl), e, bool-read (q .stopped), bool-read (q .failed))
 
 -- ---- replies
 
@@ -427,13 +423,6 @@ taken-pages w vtl visibility l z =
     let d : ℕ = denial w (vtlOf vtl) (boolOf visibility) (pagesOf l) in
     sym (ap (λ (n : ℕ). cond (eqb n 0) d n) (taken-input w vtl visibility l z)) ∙ sym (refusal-is w vtl visibility l) ∙ z
 
-pub status : (n rest : ℕ) → unless (eqb n 0) n rest ≡ 0 → (n ≡ 0) × (rest ≡ 0)
-status n rest h = go (eqb n 0) refl h
-  where
-    go : (b : Bool) → eqb n 0 ≡ b → cond b rest n ≡ 0 → (n ≡ 0) × (rest ≡ 0)
-    go true e h = (eqb-true n 0 e, h)
-    go false e h = absurd (eqb-false n 0 e h)
-
 -- one whose input and state don't refuse it: what it was found to have
 record Taken (w : World) (l : List ℕ) : Type 0 where
   block : length (w .state) ≡ 128
@@ -445,7 +434,7 @@ taken-call : (w : World) (vtl visibility : ℕ) (l : List ℕ) → inputRefusal 
 unfolding inputRefusal
 taken-call w vtl visibility l z =
     let a = passed (eqb (length (w .state)) stateLen) 3 _ z in
-    let b = status (statusIn (w .state)) _ (a .1) in
+    let b = first-passed (statusIn (w .state)) _ (a .1) in
     let c = passed (fits w) 3 _ (b .1) in
     let d = passed (not (isLong l)) 4 _ (c .1) in
     record { block = eqb-true _ _ (a .0); idle = b .0; fit = c .0; short = not-long (isLong l) refl (d .0) }
