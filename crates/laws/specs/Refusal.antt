@@ -11,6 +11,14 @@ use Rattle.laws.specs.Bools.{false≢true}
 abbrev pub unless : Bool → ℕ → ℕ → ℕ
 unless t code rest = cond t rest code
 
+-- the number where the test holds, else the rest
+abbrev pub when : Bool → ℕ → ℕ → ℕ
+when t code rest = cond t code rest
+
+-- another chain's number, or where that is 0 the rest
+abbrev pub first : ℕ → ℕ → ℕ
+first n rest = cond (eqb n 0) rest n
+
 -- the chain ends here, it goes on, and what is known of one that refuses nothing
 pub refuses : (t : Bool) (code rest : ℕ) → t ≡ false → code ≡ unless t code rest
 refuses t code rest e = rw e
@@ -22,8 +30,23 @@ pub passed : (t : Bool) (k rest : ℕ) → unless t (suc k) rest ≡ 0 → (t �
 passed true k rest h = (refl, h)
 passed false k rest h = absurd (omega arith)
 
--- a chain that begins with another's number n, where it refuses nothing
-pub first-passed : (n rest : ℕ) → unless (eqb n 0) n rest ≡ 0 → (n ≡ 0) × (rest ≡ 0)
+pub when-refuses : (t : Bool) (code rest : ℕ) → t ≡ true → code ≡ when t code rest
+when-refuses t code rest e = rw e
+
+pub when-passes : (t : Bool) (code rest x : ℕ) → t ≡ false → x ≡ rest → x ≡ when t code rest
+when-passes t code rest x e q = rw e q
+
+pub when-passed : (t : Bool) (k rest : ℕ) → when t (suc k) rest ≡ 0 → (t ≡ false) × (rest ≡ 0)
+when-passed true k rest h = absurd (omega arith)
+when-passed false k rest h = (refl, h)
+
+pub first-refuses : (n x rest : ℕ) → n ≡ x → (n ≡ 0 → ⊥) → n ≡ first x rest
+first-refuses n x rest e h = e ∙ ap (λ (b : Bool). cond b rest x) (sym (ne-eqb x 0 (λ z. h (e ∙ z))))
+
+pub first-passes : (n x rest y : ℕ) → n ≡ x → n ≡ 0 → y ≡ rest → y ≡ first x rest
+first-passes n x rest y e h q = q ∙ ap (λ (b : Bool). cond b rest x) (sym (eq-eqb x 0 (sym e ∙ h)))
+
+pub first-passed : (n rest : ℕ) → first n rest ≡ 0 → (n ≡ 0) × (rest ≡ 0)
 first-passed n rest h = go (eqb n 0) refl
   where
     go : (b : Bool) → eqb n 0 ≡ b → (n ≡ 0) × (rest ≡ 0)
