@@ -11,18 +11,17 @@ use Rattle.permissions.specs.declared.GuestVtl.{GuestVtl}
 use Rattle.permissions.specs.declared.GuestVtl.the-variants.{Vtl0, Vtl1}
 use Rattle.permissions.specs.declared.HvMapGpaFlags.{HvMapGpaFlags}
 use Rattle.permissions.specs.Flags.{vtlOf, allFlags}
-use Rattle.mapping.specs.Maps.{Permissions, Maps, fitLen, mapsFit, inMaps, flagsAt}
+use Rattle.mapping.specs.Maps.{Permissions, Maps, mapsFit, lengthsOf, inMaps, flagsAt}
 use Rattle.access.specs.declared.PermissionsAnswer.the-variants.{Flags, Refused}
 use Rattle.access.specs.Query.{accessRefusal, accessPermission, lowerRefusal, lowerFlags, lowerVtlPermissions}
 
 -- the permission queries
-module _ (es : List MemoryRangeWithNode) (m : Maps) (tracked : Bool) (p n len : ℕ) (fits : Bool) (l : len ≡ mapLen es) (f : fits ≡ fitLen len tracked m) where
+module _ (es : List MemoryRangeWithNode) (m : Maps) (tracked : Bool) (p n len : ℕ) (fits : Bool) (l : len ≡ mapLen es) (f : fits ≡ mapsFit len tracked (lengthsOf m)) where
   module _ (e : n ≡ accessRefusal fits tracked (ltb (p / 8) len)) where
-    access-tests : n ≡ accessRefusal (mapsFit es tracked m) tracked (inMaps es p)
-    unfolding mapsFit
+    access-tests : n ≡ accessRefusal (mapsFit (mapLen es) tracked (lengthsOf m)) tracked (inMaps es p)
     access-tests =
         e ∙ ap (λ (x : Bool). accessRefusal x tracked (ltb (p / 8) len)) f
-        ∙ ap (λ (y : ℕ). accessRefusal (fitLen y tracked m) tracked (ltb (p / 8) y)) l
+        ∙ ap (λ (y : ℕ). accessRefusal (mapsFit y tracked (lengthsOf m)) tracked (ltb (p / 8) y)) l
 
     pub access-refused : (n ≡ 0 → ⊥) → Refused n ≡ accessPermission es m tracked p
     unfolding accessPermission
@@ -33,9 +32,8 @@ module _ (es : List MemoryRangeWithNode) (m : Maps) (tracked : Bool) (p n len : 
     access-given g h q = answered n _ access-tests (Flags (flagsAt (m .permissions) p)) (Flags g) Refused h (ap Flags q)
 
   module _ (vtl : ℕ) (e : n ≡ lowerRefusal fits vtl (isRam es p)) where
-    lower-tests : n ≡ lowerRefusal (mapsFit es tracked m) vtl (isRam es p)
-    unfolding mapsFit
-    lower-tests = e ∙ ap (λ (x : Bool). lowerRefusal x vtl (isRam es p)) f ∙ ap (λ (y : ℕ). lowerRefusal (fitLen y tracked m) vtl (isRam es p)) l
+    lower-tests : n ≡ lowerRefusal (mapsFit (mapLen es) tracked (lengthsOf m)) vtl (isRam es p)
+    lower-tests = e ∙ ap (λ (x : Bool). lowerRefusal x vtl (isRam es p)) f ∙ ap (λ (y : ℕ). lowerRefusal (mapsFit y tracked (lengthsOf m)) vtl (isRam es p)) l
 
     pub lower-refused : (n ≡ 0 → ⊥) → Refused n ≡ lowerVtlPermissions es m tracked vtl p
     unfolding lowerVtlPermissions

@@ -6,13 +6,13 @@ use lib.Dec.{eqb}
 use Rattle.abi.specs.Refusals as refusal
 use Rattle.laws.specs.Refusal.{unless}
 use Rattle.layout.specs.declared.MemoryRangeWithNode.{MemoryRangeWithNode}
-use Rattle.layout.specs.Layout.{isRam}
+use Rattle.layout.specs.Layout.{isRam, mapLen}
 use Rattle.permissions.specs.declared.GuestVtl.{GuestVtl}
 use Rattle.permissions.specs.declared.GuestVtl.the-variants.{Vtl0, Vtl1}
 use Rattle.permissions.specs.declared.HvMapGpaFlags.{HvMapGpaFlags}
 use Rattle.permissions.specs.Flags.{fitVtl, vtlOf, bitsOf, allFlags}
 use Rattle.permissions.specs.HvError.{codeOf}
-use Rattle.mapping.specs.Maps.{Permissions, Maps, mapsFit, inMaps, flagsAt}
+use Rattle.mapping.specs.Maps.{Permissions, Maps, mapsFit, lengthsOf, inMaps, flagsAt}
 use Rattle.access.specs.declared.PermissionsAnswer.{PermissionsAnswer}
 use Rattle.access.specs.declared.PermissionsAnswer.the-variants.{Flags, Refused}
 
@@ -24,7 +24,7 @@ abbrev pub accessRefusal : Bool → Bool → Bool → ℕ
 accessRefusal fits tracked inside = unless fits refusal.wrongLength (unless tracked refusal.untracked (unless inside refusal.notRam 0))
 
 unfoldable pub accessPermission : List MemoryRangeWithNode → Maps → Bool → ℕ → PermissionsAnswer
-accessPermission es m tracked p = answer (accessRefusal (mapsFit es tracked m) tracked (inMaps es p)) (flagsAt (m .permissions) p)
+accessPermission es m tracked p = answer (accessRefusal (mapsFit (mapLen es) tracked (lengthsOf m)) tracked (inMaps es p)) (flagsAt (m .permissions) p)
 
 -- of a VTL: 4, 8, 7 where the page is not RAM; else what the maps hold for VTL0 if tracked, and all four elsewhere
 abbrev pub lowerRefusal : Bool → ℕ → Bool → ℕ
@@ -39,7 +39,7 @@ lowerFlags m tracked vtl p = cond (isTracked vtl tracked) (flagsAt m p) allFlags
 
 unfoldable pub lowerVtlPermissions : List MemoryRangeWithNode → Maps → Bool → ℕ → ℕ → PermissionsAnswer
 lowerVtlPermissions es m tracked vtl p =
-    answer (lowerRefusal (mapsFit es tracked m) vtl (isRam es p)) (lowerFlags (m .permissions) tracked (vtlOf vtl) p)
+    answer (lowerRefusal (mapsFit (mapLen es) tracked (lengthsOf m)) vtl (isRam es p)) (lowerFlags (m .permissions) tracked (vtlOf vtl) p)
 
 -- the number of 01 for an answer, 0 where nothing is refused; and its value, the flags or the code that a refusal carries
 abbrev pub permissionsNumber : PermissionsAnswer → ℕ

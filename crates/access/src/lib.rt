@@ -4,6 +4,7 @@ ghost use Rattle.layout.specs.Layout.{entriesOf, isRam};
 ghost use Rattle.mapping.specs.Maps.{perms, maps};
 ghost use Rattle.access.specs.Query.{accessRefusal, accessPermission, lowerRefusal, lowerFlags, lowerVtlPermissions, permissionsNumber, permissionsValue};
 use abi::refusal;
+use mapping::MapLengths;
 use permissions::GuestVtl;
 use permissions::HvMapGpaFlags;
 
@@ -40,17 +41,16 @@ pub fn query_access_permission(
     ensures { λ r. ⌜ r ≡ accessPermission (entriesOf (now (ram .entry))) (maps (now (private .entry)) (now (shared .entry)) (now (read .entry)) (now (write .entry)) (now (kernel .entry)) (now (user .entry))) tracked gpn ⌝ }
 {
     let len = layout::map_len(ram);
+    let lengths = MapLengths {
+        private: private.len() as u64,
+        shared: shared.len() as u64,
+        read: read.len() as u64,
+        write: write.len() as u64,
+        kernel: kernel.len() as u64,
+        user: user.len() as u64,
+    };
     let n = access_refusal(
-        mapping::maps_fit(
-            len,
-            tracked,
-            private.len() as u64,
-            shared.len() as u64,
-            read.len() as u64,
-            write.len() as u64,
-            kernel.len() as u64,
-            user.len() as u64,
-        ),
+        mapping::maps_fit(len, tracked, lengths),
         tracked,
         gpn / 8 < len,
     );
@@ -113,16 +113,15 @@ pub fn query_lower_vtl_permissions(
     ensures { λ r. ⌜ r ≡ lowerVtlPermissions (entriesOf (now (ram .entry))) (maps (now (private .entry)) (now (shared .entry)) (now (read .entry)) (now (write .entry)) (now (kernel .entry)) (now (user .entry))) tracked vtl gpn ⌝ }
 {
     let len = layout::map_len(ram);
-    let fits = mapping::maps_fit(
-        len,
-        tracked,
-        private.len() as u64,
-        shared.len() as u64,
-        read.len() as u64,
-        write.len() as u64,
-        kernel.len() as u64,
-        user.len() as u64,
-    );
+    let lengths = MapLengths {
+        private: private.len() as u64,
+        shared: shared.len() as u64,
+        read: read.len() as u64,
+        write: write.len() as u64,
+        kernel: kernel.len() as u64,
+        user: user.len() as u64,
+    };
+    let fits = mapping::maps_fit(len, tracked, lengths);
     let n = lower_refusal(ram, fits, vtl, gpn);
     if n != 0 {
         return PermissionsAnswer::Refused(n);

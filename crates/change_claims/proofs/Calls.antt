@@ -28,9 +28,11 @@ use Rattle.protector_state.specs.Reply.{flatOf}
 use Rattle.visibility_steps.specs.declared.Phase.{Phase}
 use Rattle.visibility_steps.specs.declared.Phase.the-variants as phase
 use Rattle.protector_state.specs.declared.Reply.{Reply}
-use Rattle.change_state.specs.State.{stageIn, isChanging}
-use Rattle.protector.specs.World.{World, world, Outcome, tablesLen, overlaysOf, withoutPage, fits, statusOf, statusIn, takes, takesAt, entered}
-use Rattle.protector.specs.Calls.{withPermissions, carriedChange, answerRefusal}
+use Rattle.protector_state.specs.Changing.{stageIn, isChanging}
+use Rattle.call_refusals.specs.World.{World, world, Outcome, tablesLen, overlaysOf, fits, statusOf, statusIn, takes, takesAt}
+use Rattle.protector.specs.Writes.{withoutPage, entered}
+use Rattle.protector.specs.Calls.{withPermissions, carriedChange}
+use Rattle.call_refusals.specs.Refusals.{answerRefusal}
 use Rattle.protector.proofs.Laws as lengths
 use Rattle.protection_entries.specs.Calls.{protectionRefusal, allListed, protectionTaken, protectionOf}
 use Rattle.protection_entries.proofs.Laws.{protection-passed, table-fits}

@@ -35,7 +35,8 @@ use Rattle.change_steps.specs.declared.Change.{Change}
 use Rattle.change_steps.specs.declared.ChangeStep.{ChangeStep}
 use Rattle.change_steps.specs.Changes as changes
 use Rattle.protector_state.specs.Reply.{askedOf, flatOf}
-use Rattle.protector.specs.World.{Outcome, overlaysOf, takesAt, entered}
+use Rattle.call_refusals.specs.World.{Outcome, overlaysOf, takesAt}
+use Rattle.protector.specs.Writes.{entered}
 use Rattle.protector.specs.Calls.{withPermissions}
 use Rattle.visibility_claims.specs.Whole.{Operation, Wait, Protect, Flush, TlbWait, Given, Ok, FailedAt, Halts, Whole, stands, one, inTurn, perRun, protecting}
 use Rattle.visibility_claims.specs.Calls.{Told, follow, crossing, replies}

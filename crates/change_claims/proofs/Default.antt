@@ -24,7 +24,7 @@ use Rattle.default_change.proofs.Table.{overlay-renewed}
 use Rattle.visibility_steps.specs.declared.Settings.{Settings}
 use Rattle.change_steps.specs.Changes as changes
 use Rattle.protector_state.specs.State.{stateLen, settingsOf, entriesIn}
-use Rattle.protector.specs.World.{World, tablesLen, overlaysOf, fits, statusIn}
+use Rattle.call_refusals.specs.World.{World, tablesLen, overlaysOf, fits, statusIn}
 use Rattle.protection_entries.specs.Calls.{defaultRefusal, stored, barred, renewedIn, defaultStarted, defaultTaken, defaultOf}
 use Rattle.protection_entries.proofs.Tables.{renewed-own}
 use Rattle.visibility_claims.specs.Whole.{Given}

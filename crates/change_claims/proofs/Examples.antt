@@ -15,9 +15,10 @@ use Rattle.default_change.specs.Renewed.{renewedFrom}
 use Rattle.change_steps.specs.Changes.{protect, ask, wait, finish, halt, protectPages, protectRam, doneOf, failedOf, startNew, startOld}
 use Rattle.protector_state.specs.State.{firstPhases, phaseOf}
 use Rattle.protector_state.specs.Reply.{finished, askedOf, flatOf}
-use Rattle.change_state.specs.State.{stageOf}
-use Rattle.protector.specs.World.{entered}
-use Rattle.protector.specs.Calls.{carriedChange, firstRefusal, visibilityRefusal, answerRefusal, afterDone, afterFailed, answerDone, answerFailed}
+use Rattle.protector_state.specs.Changing.{stageOf}
+use Rattle.protector.specs.Writes.{entered}
+use Rattle.protector.specs.Calls.{carriedChange, afterDone, afterFailed, answerDone, answerFailed}
+use Rattle.call_refusals.specs.Refusals.{firstRefusal, visibilityRefusal, answerRefusal}
 use Rattle.lock_entries.proofs.Limits as limits
 use Rattle.protection_entries.specs.Calls.{protectionRefusal, protectionTaken, protectionOf, defaultRefusal, defaultStarted, defaultTaken, defaultOf}
 use Rattle.overlay_refusals.specs.Refusals.{callRefusal, within, knownRefusal, guestRefusal, dmaRefusal, pageRefusal, registerRefusal, currentOf, unregisterRefusal}

@@ -17,7 +17,7 @@ use Rattle.page_list.specs.Runs.{run, runsOf}
 use Rattle.overlay_table.specs.declared.OverlayPage.{OverlayPage}
 use Rattle.protector_state.specs.State.{entriesIn}
 use Rattle.protector_state.specs.Reply.{finished, flatOf}
-use Rattle.protector.specs.World.{World}
+use Rattle.call_refusals.specs.World.{World}
 use Rattle.overlay_entries.specs.Calls.{entryIn}
 use Rattle.visibility_claims.specs.Whole.{Operation, Protect, Given, Fails, Stand, Ok, FailedAt, Whole, stands, one, protecting}
 use Rattle.visibility_claims.specs.Runs.{told, whole}

@@ -22,8 +22,9 @@ use Rattle.page_list.specs.Pages.{among, repeats, pagesOf, isLong, isRagged}
 use Rattle.request_pages.specs.Request.{pick, wanted}
 use Rattle.visibility_steps.specs.declared.Settings.{Settings}
 use Rattle.protector_state.specs.State.{stateLen, settingsOf, ramOf, entriesIn}
-use Rattle.protector.specs.World.{World, pagesLen, tablesLen, overlaysOf, locksOf, fits, statusIn}
-use Rattle.protector.specs.Calls.{pageRefusal, firstRefusal, visibilityRefusal, stopOf}
+use Rattle.call_refusals.specs.World.{World, pagesLen, tablesLen, overlaysOf, locksOf, fits, statusIn}
+use Rattle.call_refusals.specs.Refusals.{pageRefusal, firstRefusal, visibilityRefusal}
+use Rattle.protector.specs.Calls.{stopOf}
 use Rattle.protection_entries.specs.Calls.{protectionRefusal, eachRefusal}
 use Rattle.visibility_claims.specs.Whole.{Given, Denied, Whole, stands}
 use Rattle.visibility_claims.specs.Requested.{denial, requestedOf}

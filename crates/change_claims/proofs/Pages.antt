@@ -17,7 +17,7 @@ use Rattle.default_change.specs.Visit.{upTo, pick, pagesIn}
 use Rattle.default_change.proofs.Visits.{visits, ascends}
 use Rattle.protector_state.specs.State.{settingsOf, entriesIn}
 use Rattle.protector_state.specs.Reply.{askedOf}
-use Rattle.protector.specs.World.{World, overlaysOf}
+use Rattle.call_refusals.specs.World.{World, overlaysOf}
 use Rattle.visibility_claims.specs.Whole.{Operation, Given, Ok, perRun}
 use Rattle.visibility_claims.specs.Calls.{Told, replies}
 use Rattle.visibility_claims.specs.Ends.{pageEnd}

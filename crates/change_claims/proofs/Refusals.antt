@@ -31,8 +31,8 @@ use Rattle.change_steps.specs.Changes as changes
 use Rattle.protector_state.specs.State.{stateLen, phaseIn, settingsOf}
 use Rattle.permissions.specs.HvError.{codeOf}
 use Rattle.protector_state.specs.Reply.{finished, askedOf, flatOf}
-use Rattle.change_state.specs.State.{isChanging}
-use Rattle.protector.specs.World.{World, Outcome, overlaysOf, fits, statusOf, statusIn}
+use Rattle.protector_state.specs.Changing.{isChanging}
+use Rattle.call_refusals.specs.World.{World, Outcome, overlaysOf, fits, statusOf, statusIn}
 use Rattle.protector.specs.Calls.{decided, refusedBy, carriedChange}
 use Rattle.lock_entries.proofs.Lists.{lock-nothing, unlock-nothing}
 use Rattle.setting_entries.specs.Calls.{enableRefusal, enabled, enableOf}

@@ -27,9 +27,11 @@ use Rattle.change_steps.specs.Changes as changes
 use Rattle.protector_state.specs.declared.Reply.{Reply}
 use Rattle.protector_state.specs.State.{firstPhases, phaseOf, settingsOf, entriesIn}
 use Rattle.protector_state.specs.Reply.{askedOf, flatOf}
-use Rattle.change_state.specs.State.{stageNumber, stageOf, changeIn, changeWords}
-use Rattle.protector.specs.World.{World, world, Outcome, overlaysOf, fits, takesAt, permittedRun, entered}
-use Rattle.protector.specs.Calls.{withPermissions, carriedChange, answerRefusal, pieceAfter, afterDone, afterFailed, answerDone, answerFailed}
+use Rattle.protector_state.specs.Changing.{stageNumber, stageOf, changeIn, changeWords}
+use Rattle.call_refusals.specs.World.{World, world, Outcome, overlaysOf, fits, takesAt}
+use Rattle.protector.specs.Writes.{permittedRun, entered}
+use Rattle.protector.specs.Calls.{withPermissions, carriedChange, pieceAfter, afterDone, afterFailed, answerDone, answerFailed}
+use Rattle.call_refusals.specs.Refusals.{answerRefusal}
 use Rattle.visibility_claims.specs.Whole.{Operation, Wait, FlushAll, Protect, Invalidate, Release, Modify, Accept, Zero, Flush, TlbWait, Given, Succeeds, Fails, Whole, fails, one}
 use Rattle.visibility_claims.specs.Runs.{told, after}
 use Rattle.visibility_claims.specs.Calls.{asksIn, Told, follow, crossing, replies, Says}

@@ -17,7 +17,8 @@ use Rattle.overlay_table.specs.declared.OverlayPage.{OverlayPage}
 use Rattle.overlay_table.specs.Overlays.{used, wordsOf, isOverlay, placeOf, addWords, removeWords, previousWords}
 use Rattle.default_change.specs.Pieces.{privateRam}
 use Rattle.default_change.specs.Renewed.{renewedAt, renewedFrom, renewed}
-use Rattle.protector.specs.World.{tablesLen, overlaysOf, withOverlays, withoutPage}
+use Rattle.call_refusals.specs.World.{tablesLen, overlaysOf}
+use Rattle.protector.specs.Writes.{withOverlays, withoutPage}
 
 module _ (t : List ℕ) (e : length t ≡ tablesLen) where
   room : (v : GuestVtl) → 641 * vtlNumber v + 641 ≤ length t

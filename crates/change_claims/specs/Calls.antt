@@ -12,7 +12,8 @@ use Rattle.page_list.specs.Pages.{pagesOf}
 use Rattle.overlay_table.specs.declared.OverlayPage.{OverlayPage}
 use Rattle.overlay_table.specs.Overlays.{isOverlay, entry, addWords}
 use Rattle.protector_state.specs.State.{settingsOf, entriesIn}
-use Rattle.protector.specs.World.{World, overlaysOf, withOverlays, withoutPage}
+use Rattle.call_refusals.specs.World.{World, overlaysOf}
+use Rattle.protector.specs.Writes.{withOverlays, withoutPage}
 use Rattle.protection_entries.specs.Calls.{renewedTables}
 use Rattle.overlay_entries.specs.Calls.{entryIn, recounted, currentIn}
 use Rattle.visibility_claims.specs.Whole.{Given, Ok, stands}

@@ -21,8 +21,9 @@ use Rattle.visibility_steps.specs.declared.Settings.{Settings}
 use Rattle.protector_state.specs.State.{settingsOf, ramOf, entriesIn}
 use Rattle.protector_state.specs.declared.Reply.{Reply}
 use Rattle.protector_state.specs.Reply.{finished}
-use Rattle.protector.specs.World.{World, fits}
-use Rattle.protector.specs.Calls.{visibilityRefusal, visibilityOf}
+use Rattle.call_refusals.specs.World.{World, fits}
+use Rattle.call_refusals.specs.Refusals.{visibilityRefusal}
+use Rattle.protector.specs.Calls.{visibilityOf}
 use Rattle.lock_entries.specs.Calls.{lockOf, unlockOf}
 use Rattle.setting_entries.specs.Calls.{enableOf}
 use Rattle.protection_entries.specs.Calls.{protectionRefusal, allListed, protectionOf, defaultRefusal, stored, barred, defaultOf}

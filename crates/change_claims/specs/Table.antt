@@ -12,7 +12,7 @@ use Rattle.lock_table.specs.Locks.{total}
 use Rattle.lock_entries.specs.Calls.{ended, lockRefusal, lockOf}
 use Rattle.lock_entries.specs.Lists.{Lists, listsAt, withLists, Holds, Makes}
 use Rattle.protector_state.specs.Reply.{finished}
-use Rattle.protector.specs.World.{World, world, overlaysOf}
+use Rattle.call_refusals.specs.World.{World, world, overlaysOf}
 use Rattle.overlay_entries.specs.Calls.{registerOf}
 use Rattle.visibility_claims.specs.Whole.{Wait, Protect, Flush, TlbWait, Succeeds, Fails, Ok, FailedAt, Halts}
 use Rattle.visibility_claims.specs.Table.{page, dones, fresh}

@@ -19,8 +19,8 @@ use Rattle.change_steps.specs.Changes.{noRun, step, ask, finish, doneOf, isFlus
 use Rattle.protector_state.specs.declared.Reply.{Reply}
 use Rattle.protector_state.specs.State.{settingsOf}
 use Rattle.protector_state.specs.Reply.{askedOf, flatOf}
-use Rattle.change_state.specs.State.{stageIn, changeIn, withChange}
-use Rattle.protector.specs.World.{permittedRun, entered}
+use Rattle.protector_state.specs.Changing.{stageIn, changeIn, withChange}
+use Rattle.protector.specs.Writes.{permittedRun, entered}
 use Rattle.protector.specs.Calls.{afterDone}
 use Rattle.change_writes.specs.Flush.{flushReply}
 

@@ -11,9 +11,10 @@ ghost use Rattle.overlay_table.specs.Overlays.{entry, addWords};
 ghost use Rattle.protector_state.specs.State.{stateLen, settingsOf};
 ghost use Rattle.protector_state.specs.Reply.{flatOf};
 ghost use Rattle.change_steps.specs.Changes.{flushStage, flushChange};
-ghost use Rattle.change_state.specs.State.{stageIn, changeIn, withChange};
+ghost use Rattle.protector_state.specs.Changing.{stageIn, changeIn, withChange};
 ghost use Rattle.change_writes.specs.Flush.{flushReply};
-ghost use Rattle.protector.specs.World.{tablesLen, overlaysOf, withOverlays, permittedRun, withoutPage, entered};
+ghost use Rattle.call_refusals.specs.World.{tablesLen, overlaysOf};
+ghost use Rattle.protector.specs.Writes.{withOverlays, permittedRun, withoutPage, entered};
 ghost use Rattle.protector.specs.Calls.{pieceAfter, nextIn, afterDone, afterFailed};
 use abi::operation;
 use abi::table;
@@ -139,7 +140,7 @@ pub fn carry_out(
     let entry = x.entry;
     let flags = HvMapGpaFlags::from_bits(change.flags);
     permit(read, write, kernel, user, run, flags);
-    change_state::save(state, stage, change);
+    protector_state::change::save(state, stage, change);
     enter(tables, entry, change);
     protector_state::flatten(isolation, answer)
 }
@@ -168,10 +169,10 @@ fn next_in(private: &[u8], state: &[u64], tables: &[u64]) -> PageRun
     ensures { λ r. ⌜ r ≡ nextIn (now (private .entry)) (now (state .entry)) (now (tables .entry)) ⌝ }
     ensures { λ r. ⌜ r .first + r .count < 2 ^ 64 ⌝ }
 {
-    let stage = change_state::stage(state);
-    let q = change_state::load(state);
+    let stage = protector_state::change::stage(state);
+    let q = protector_state::change::load(state);
     let vtl = q.vtl;
-    let overlays = protector::overlays_of(tables, vtl);
+    let overlays = call_refusals::overlays_of(tables, vtl);
     let ram = protector_state::ram_of(state);
     piece_after(stage, private, overlays, ram, q.at)
 }
@@ -183,8 +184,8 @@ fn after_done(private: &[u8], state: &[u64], pages: &[u64], tables: &[u64]) -> C
     ensures { λ r. ⌜ r .written .first + r .written .count ≤ 2 ^ 64 ⌝ }
 {
     let set = protector_state::settings(state);
-    let stage = change_state::stage(state);
-    let q = change_state::load(state);
+    let stage = protector_state::change::stage(state);
+    let q = protector_state::change::load(state);
     let next = next_in(private, state, tables);
     change_steps::done(set.tracked, stage, q, pages, next)
 }
@@ -194,8 +195,8 @@ fn after_failed(state: &[u64]) -> ChangeStep
     ensures { λ r. ⌜ r ≡ afterFailed (now (state .entry)) ⌝ }
     ensures { λ r. ⌜ r .written .first + r .written .count ≤ 2 ^ 64 ⌝ }
 {
-    let stage = change_state::stage(state);
-    let q = change_state::load(state);
+    let stage = protector_state::change::stage(state);
+    let q = protector_state::change::load(state);
     change_steps::failed(stage, q)
 }
 
@@ -224,9 +225,9 @@ fn flush_done(state: &mut [u64]) -> Reply
     ensures { λ _. ⌜ now (state .exit) ≡ withChange (flushStage (stageIn (now (state .entry)))) (flushChange (flushStage (stageIn (now (state .entry)))) (changeIn (now (state .entry)))) (now (state .entry)) ⌝ }
     ensures { λ r. ⌜ r ≡ flushReply (flushStage (stageIn (now (state .entry)))) (changeIn (now (state .entry))) ⌝ }
 {
-    let q = change_state::load(state);
-    let next = change_steps::flush_stage(change_state::stage(state));
-    change_state::save(state, next, change_steps::flush_change(next, q));
+    let q = protector_state::change::load(state);
+    let next = change_steps::flush_stage(protector_state::change::stage(state));
+    protector_state::change::save(state, next, change_steps::flush_change(next, q));
     flush_reply(next, q)
 }
 
@@ -247,7 +248,7 @@ pub fn answer_done(
     ensures { λ _. ⌜ now (tables .exit) ≡ entered (afterDone (now (private .entry)) (now (state .entry)) (now (pages .entry)) (now (tables .entry)) .entry) (afterDone (now (private .entry)) (now (state .entry)) (now (pages .entry)) (now (tables .entry)) .change) (now (tables .entry)) ⌝ }
     ensures { λ r. ⌜ r ≡ flatOf (settingsOf (now (state .entry)) .isolation) (afterDone (now (private .entry)) (now (state .entry)) (now (pages .entry)) (now (tables .entry)) .answer) ⌝ }
 {
-    if change_steps::is_flushing(change_state::stage(state)) {
+    if change_steps::is_flushing(protector_state::change::stage(state)) {
         return flush_done(state);
     }
     let set = protector_state::settings(state);

@@ -13,7 +13,7 @@ use Rattle.fault.specs.declared.GuestValidMemoryType.the-variants.{Encry
 use Rattle.fault.specs.declared.GuestMemoryViewReadType.{GuestMemoryViewReadType}
 use Rattle.fault.specs.declared.PageFaultAction.{PageFaultAction}
 use Rattle.fault.specs.declared.PageFaultAction.the-variants.{Retry, NotMapped, NotShared, NotPrivate, VtlProtected, Refused as FaultRefused}
-use Rattle.mapping.specs.Maps.{Maps, fitLen, mapsFit, inMaps}
+use Rattle.mapping.specs.Maps.{Maps, mapsFit, lengthsOf, inMaps}
 use Rattle.permissions.specs.Flags.{boolOf}
 use Rattle.fault.specs.Fault.{mappingOf, viewOf, accessMap, faultOf, faultRefusal, pageFault}
 
@@ -53,12 +53,11 @@ module _ (m : Maps) (tracked : Bool) (mapping : GuestValidMemoryType) (view : Gu
         retry-allowed t a = rw (f, e, h, t, a)
 
 -- a fault as its numbers cross: refused, or what the page gives
-module _ (es : List MemoryRangeWithNode) (m : Maps) (tracked : Bool) (mapping view address write failure n len : ℕ) (fits : Bool) (l : len ≡ mapLen es) (f : fits ≡ fitLen len tracked m) (e : n ≡ faultRefusal fits mapping view write failure (ltb (address / 4096 / 8) len)) where
-  tests : n ≡ faultRefusal (mapsFit es tracked m) mapping view write failure (inMaps es (address / 4096))
-  unfolding mapsFit
+module _ (es : List MemoryRangeWithNode) (m : Maps) (tracked : Bool) (mapping view address write failure n len : ℕ) (fits : Bool) (l : len ≡ mapLen es) (f : fits ≡ mapsFit len tracked (lengthsOf m)) (e : n ≡ faultRefusal fits mapping view write failure (ltb (address / 4096 / 8) len)) where
+  tests : n ≡ faultRefusal (mapsFit (mapLen es) tracked (lengthsOf m)) mapping view write failure (inMaps es (address / 4096))
   tests =
       e ∙ ap (λ (x : Bool). faultRefusal x mapping view write failure (ltb (address / 4096 / 8) len)) f
-      ∙ ap (λ (y : ℕ). faultRefusal (fitLen y tracked m) mapping view write failure (ltb (address / 4096 / 8) y)) l
+      ∙ ap (λ (y : ℕ). faultRefusal (mapsFit y tracked (lengthsOf m)) mapping view write failure (ltb (address / 4096 / 8) y)) l
 
   pub fault-refused : (n ≡ 0 → ⊥) → FaultRefused n ≡ pageFault es m tracked mapping view address write failure
   unfolding pageFault

@@ -4,7 +4,7 @@ use mathlib.Core.List.{[], _∷_}
 use mathlib.Core.Path.{_≡_, refl}
 use Prim.Native.Nat.{ℕ, _*_}
 use Rattle.layout.specs.Layout.{entriesOf}
-use Rattle.mapping.specs.Maps.{Maps, maps, mapsFit}
+use Rattle.mapping.specs.Maps.{Maps, maps}
 use Rattle.fault.specs.declared.PageFaultAction.{PageFaultAction}
 use Rattle.fault.specs.declared.PageFaultAction.the-variants.{Retry, VtlProtected, Refused}
 use Rattle.fault.specs.Fault.{faultOf, faultRefusal, pageFault}
@@ -17,21 +17,21 @@ abbrev at : ℕ → ℕ → ℕ → PageFaultAction
 at view page write = pageFault (entriesOf (0 ∷ 32768 ∷ 0 ∷ [])) m true 0 view (page * 4096) write 1
 
 kernel-3 : at 1 3 0 ≡ Retry
-unfolding entriesOf mapsFit faultOf faultRefusal pageFault
+unfolding entriesOf faultOf faultRefusal pageFault
 kernel-3 = refl
 
 kernel-4 : at 1 4 0 ≡ VtlProtected
-unfolding entriesOf mapsFit faultOf faultRefusal pageFault
+unfolding entriesOf faultOf faultRefusal pageFault
 kernel-4 = refl
 
 user-4 : at 2 4 0 ≡ Retry
-unfolding entriesOf mapsFit faultOf faultRefusal pageFault
+unfolding entriesOf faultOf faultRefusal pageFault
 user-4 = refl
 
 write-2 : at 1 2 1 ≡ Retry
-unfolding entriesOf mapsFit faultOf faultRefusal pageFault
+unfolding entriesOf faultOf faultRefusal pageFault
 write-2 = refl
 
 past : at 0 8 0 ≡ Refused 7
-unfolding entriesOf mapsFit faultOf faultRefusal pageFault
+unfolding entriesOf faultOf faultRefusal pageFault
 past = refl

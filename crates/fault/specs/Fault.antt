@@ -7,6 +7,7 @@ use Rattle.abi.specs.Refusals as refusal
 use Rattle.abi.specs.Lengths.{pageSize}
 use Rattle.bitmap.specs.Pages.{bitAt}
 use Rattle.layout.specs.declared.MemoryRangeWithNode.{MemoryRangeWithNode}
+use Rattle.layout.specs.Layout.{mapLen}
 use Rattle.laws.specs.Refusal.{unless}
 use Rattle.fault.specs.declared.GuestValidMemoryType.{GuestValidMemoryType}
 use Rattle.fault.specs.declared.GuestValidMemoryType.the-variants.{Encrypted, Shared}
@@ -16,7 +17,7 @@ use Rattle.fault.specs.declared.PageFaultAction.{PageFaultAction}
 use Rattle.fault.specs.declared.PageFaultAction.the-variants.{Retry, NotMapped, NotShared, NotPrivate, VtlProtected, Refused}
 use Rattle.permissions.specs.Flags.{fitBool, boolOf}
 use Rattle.permissions.specs.HvError.{codeOf}
-use Rattle.mapping.specs.Maps.{Permissions, Maps, mapsFit, inMaps}
+use Rattle.mapping.specs.Maps.{Permissions, Maps, mapsFit, lengthsOf, inMaps}
 
 -- the numbers that cross, the port's choice: mapping encrypted 0, shared 1; view Read 0, KernelExecute 1, UserExecute 2
 abbrev pub fitMapping : ℕ → Bool
@@ -78,7 +79,7 @@ orRefused n a = cond (eqb n 0) a (Refused n)
 -- a fault at an address, whose page is address / 4,096
 unfoldable pub pageFault : List MemoryRangeWithNode → Maps → Bool → ℕ → ℕ → ℕ → ℕ → ℕ → PageFaultAction
 pageFault es m tracked mapping view address write failure =
-    orRefused (faultRefusal (mapsFit es tracked m) mapping view write failure (inMaps es (address / pageSize)))
+    orRefused (faultRefusal (mapsFit (mapLen es) tracked (lengthsOf m)) mapping view write failure (inMaps es (address / pageSize)))
     (faultOf m tracked (mappingOf mapping) (viewOf view) (address / pageSize) (boolOf write) (boolOf failure))
 
 -- the number of 01 for an answer, 0 where nothing is refused; and its value, a number of the port's choice or the code that a refusal carries

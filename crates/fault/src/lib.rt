@@ -6,6 +6,7 @@ ghost use Rattle.mapping.specs.Maps.{perms, maps};
 ghost use Rattle.fault.specs.Fault.{mappingOf, viewOf, accessMap, faultOf, faultRefusal, pageFault, faultNumber, faultValue};
 use abi::PAGE_SIZE;
 use abi::refusal;
+use mapping::MapLengths;
 
 pub enum GuestMemoryViewReadType {
     Read,
@@ -161,17 +162,16 @@ pub fn page_fault(
 {
     let gpn = address / PAGE_SIZE;
     let len = layout::map_len(ram);
+    let lengths = MapLengths {
+        private: private.len() as u64,
+        shared: shared.len() as u64,
+        read: read.len() as u64,
+        write: write.len() as u64,
+        kernel: kernel.len() as u64,
+        user: user.len() as u64,
+    };
     let n = fault_refusal(
-        mapping::maps_fit(
-            len,
-            tracked,
-            private.len() as u64,
-            shared.len() as u64,
-            read.len() as u64,
-            write.len() as u64,
-            kernel.len() as u64,
-            user.len() as u64,
-        ),
+        mapping::maps_fit(len, tracked, lengths),
         mapping,
         view,
         writes,

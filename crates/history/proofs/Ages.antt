@@ -28,7 +28,8 @@ use Rattle.visibility_steps.specs.declared.Request.{Request}
 use Rattle.visibility_steps.specs.declared.Writes.{Writes}
 use Rattle.visibility_steps.specs.declared.Step.{Step}
 use Rattle.visibility_steps.specs.Steps.{isSnp, isCca, releases, noWrites, setShared, setPrivate, ask, end, halt, shareRun, defaultRun, returnRun, afterFlush, afterWait, afterModify, afterAccept, afterDefault0, cutAt, failedModify, doneOf, failedOf}
-use Rattle.protector.specs.World.{takes, putPlaces}
+use Rattle.call_refusals.specs.World.{takes}
+use Rattle.protector.specs.Writes.{putPlaces}
 use Rattle.visibility_claims.specs.Whole.{Given, Succeeds, Fails}
 use Rattle.history.specs.Seen.{Age, Never, Returned, Validated, Zeroed, processed, accepted, zeroed, isDone}
 use Rattle.history.specs.Marks.{isSettled}

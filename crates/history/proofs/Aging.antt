@@ -29,9 +29,11 @@ use Rattle.change_steps.specs.Changes.{startNew, startOld}
 use Rattle.protector_state.specs.declared.Reply.{Reply}
 use Rattle.protector_state.specs.State.{phaseIn, requestOf, withRequest, settingsOf}
 use Rattle.protector_state.specs.Reply.{modifies, onRun, flatOf, askedOf}
-use Rattle.change_state.specs.State.{stageIn, isChanging, changeIn}
-use Rattle.protector.specs.World.{World, world, Outcome, overlaysOf, fits, applied}
-use Rattle.protector.specs.Calls.{refusedBy, carriedOut, carriedChange, visibilityRefusal, stopOf, askedFor, tableFor, visibilityTaken, visibilityOf, afterDone, afterFailed, visibilityDone, visibilityFailed, changeDone, changeFailed, answerDone, answerFailed}
+use Rattle.protector_state.specs.Changing.{stageIn, isChanging, changeIn}
+use Rattle.call_refusals.specs.World.{World, world, Outcome, overlaysOf, fits}
+use Rattle.protector.specs.Writes.{applied}
+use Rattle.protector.specs.Calls.{refusedBy, carriedOut, carriedChange, stopOf, askedFor, tableFor, visibilityTaken, visibilityOf, afterDone, afterFailed, visibilityDone, visibilityFailed, changeDone, changeFailed, answerDone, answerFailed}
+use Rattle.call_refusals.specs.Refusals.{visibilityRefusal}
 use Rattle.protection_entries.specs.Calls.{defaultRefusal, storedDefault, stored, barred, renewedTables, renewedIn, defaultStep, defaultStarted, defaultTaken, defaultOf, protectionRefusal, allListed, protectionStep, protectionTaken, protectionOf}
 use Rattle.overlay_refusals.specs.Refusals.{unregisterRefusal, registerRefusal}
 use Rattle.overlay_entries.specs.Calls.{entryIn, counting, unregisterTaken, unregisterOf, currentIn, registerTaken, registerOf}

@@ -1,7 +1,7 @@
 -- Each call of a list gave what its definition gives of what it was lent; one that was lent something of another length, or a build that was refused, left it as it
 -- was; and they compose. Assumes nothing.
 use mathlib.Core.Path.{_≡_, refl, ap, _∙_}
-use Rattle.protector.specs.World.{World}
+use Rattle.call_refusals.specs.World.{World}
 use Rattle.history.specs.Seen.{Seen}
 use Rattle.history.specs.Call.{Result, Effect, gives}
 use Rattle.history.specs.History.{History, none, call, stray, refusedBuild}

@@ -28,9 +28,11 @@ use Rattle.change_steps.specs.Changes.{protect, ask, wait, finish, halt, protec
 use Rattle.protector_state.specs.declared.Reply.{Reply}
 use Rattle.protector_state.specs.State.{stateLen, phaseIn, requestOf, settingsOf}
 use Rattle.protector_state.specs.Reply.{askedOf, flatOf}
-use Rattle.change_state.specs.State.{stageIn, isChanging, changeIn}
-use Rattle.protector.specs.World.{World, Outcome, fits, statusIn, takes, takesAt, takesIn, applied}
-use Rattle.protector.specs.Calls.{refusedBy, decided, carriedOut, carriedChange, answerRefusal, afterDone, afterFailed, visibilityDone, visibilityFailed, changeDone, changeFailed, answerDone, answerFailed}
+use Rattle.protector_state.specs.Changing.{stageIn, isChanging, changeIn}
+use Rattle.call_refusals.specs.World.{World, Outcome, fits, statusIn, takes, takesAt, takesIn}
+use Rattle.protector.specs.Writes.{applied}
+use Rattle.protector.specs.Calls.{refusedBy, decided, carriedOut, carriedChange, afterDone, afterFailed, visibilityDone, visibilityFailed, changeDone, changeFailed, answerDone, answerFailed}
+use Rattle.call_refusals.specs.Refusals.{answerRefusal}
 use Rattle.visibility_claims.specs.Whole.{Given, Succeeds, Fails}
 use Rattle.visibility_claims.specs.Calls.{answerOf, takenBy}
 use Rattle.visibility_claims.proofs.Calls.{few-done, few-failed}

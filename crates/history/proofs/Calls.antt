@@ -25,9 +25,11 @@ use Rattle.change_steps.specs.declared.ChangeStep.{ChangeStep}
 use Rattle.protector_state.specs.declared.Reply.{Reply}
 use Rattle.protector_state.specs.State.{stateLen, phaseIn, requestOf, settingsOf, entriesIn}
 use Rattle.protector_state.specs.Reply.{askedOf, flatOf}
-use Rattle.change_state.specs.State.{isChanging}
-use Rattle.protector.specs.World.{World, world, Outcome, overlaysOf, locksOf, fits, statusIn, applied}
-use Rattle.protector.specs.Calls.{refusedBy, decided, carriedOut, carriedChange, pageRefusal, firstRefusal, visibilityRefusal, stopOf, askedFor, tableFor, visibilityTaken, visibilityOf}
+use Rattle.protector_state.specs.Changing.{isChanging}
+use Rattle.call_refusals.specs.World.{World, world, Outcome, overlaysOf, locksOf, fits, statusIn}
+use Rattle.protector.specs.Writes.{applied}
+use Rattle.protector.specs.Calls.{refusedBy, decided, carriedOut, carriedChange, stopOf, askedFor, tableFor, visibilityTaken, visibilityOf}
+use Rattle.call_refusals.specs.Refusals.{pageRefusal, firstRefusal, visibilityRefusal}
 use Rattle.visibility_claims.proofs.Calls.{modify-pages}
 use Rattle.history.specs.Seen.{Seen, asks, seesCall}
 use Rattle.history.proofs.Took.{sharedIn}

@@ -25,8 +25,9 @@ use Rattle.overlay_table.specs.Overlays.{flat}
 use Rattle.lock_entries.proofs.Limits.{none-locked}
 use Rattle.protector_state.specs.declared.Reply.{Reply}
 use Rattle.protector_state.specs.State.{stateLen, firstPhases, phaseOf, builtState, settingsOf, ramOf, entriesIn}
-use Rattle.protector.specs.World.{World, Outcome, pagesLen, tablesLen, overlaysOf, locksOf}
-use Rattle.protector.specs.Calls.{refusedBy, buildFits, buildRefusal, buildTaken, buildOf}
+use Rattle.call_refusals.specs.World.{World, Outcome, pagesLen, tablesLen, overlaysOf, locksOf}
+use Rattle.protector.specs.Calls.{refusedBy, buildTaken, buildOf}
+use Rattle.call_refusals.specs.Refusals.{buildFits, buildRefusal}
 use Rattle.history.specs.Seen.{Seen, Took, tookAs, unseen}
 use Rattle.history.specs.Marks.{Has, readOff, Settled}
 use Rattle.history.specs.Tables.{EachFits, Overlays, EachShort, Locked, Tables}

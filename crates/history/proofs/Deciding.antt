@@ -4,7 +4,7 @@ use mathlib.Core.Bool.{Bool, true, false, cond}
 use Prim.Native.Nat.{ℕ}
 use lib.Dec.{eqb}
 use borrow.Author.Tests.{eqb-true}
-use Rattle.protector.specs.World.{World, Outcome}
+use Rattle.call_refusals.specs.World.{World, Outcome}
 use Rattle.protector.specs.Calls.{refusedBy, decided}
 
 module _ (K : World → Type 0) where

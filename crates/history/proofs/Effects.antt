@@ -29,9 +29,11 @@ use Rattle.change_steps.specs.declared.Change.{Change}
 use Rattle.change_steps.specs.declared.ChangeStep.{ChangeStep}
 use Rattle.change_steps.specs.Changes.{protect, ask, wait, finish, halt, keep, changeOf, protectPages, protectRam, doneOf, failedOf}
 use Rattle.protector_state.specs.State.{settingsOf, entriesIn}
-use Rattle.change_state.specs.State.{stageIn, isChanging, changeIn}
-use Rattle.protector.specs.World.{World, overlaysOf, fits, entered}
-use Rattle.protector.specs.Calls.{refusedBy, carriedOut, carriedChange, visibilityRefusal, visibilityTaken, visibilityOf, answerRefusal, nextIn, afterDone, afterFailed, visibilityDone, visibilityFailed, changeDone, changeFailed, answerDone, answerFailed}
+use Rattle.protector_state.specs.Changing.{stageIn, isChanging, changeIn}
+use Rattle.call_refusals.specs.World.{World, overlaysOf, fits}
+use Rattle.protector.specs.Writes.{entered}
+use Rattle.protector.specs.Calls.{refusedBy, carriedOut, carriedChange, visibilityTaken, visibilityOf, nextIn, afterDone, afterFailed, visibilityDone, visibilityFailed, changeDone, changeFailed, answerDone, answerFailed}
+use Rattle.call_refusals.specs.Refusals.{visibilityRefusal, answerRefusal}
 use Rattle.protection_entries.specs.Calls.{protectionRefusal, protectionTaken, protectionOf, defaultRefusal, stored, barred, renewedIn, firstPiece, defaultStarted, defaultTaken, defaultOf}
 use Rattle.overlay_refusals.specs.Refusals.{unregisterRefusal, registerRefusal}
 use Rattle.overlay_entries.specs.Calls.{currentIn, unregisterOf, registerOf}

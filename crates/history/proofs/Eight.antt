@@ -20,9 +20,11 @@ use Rattle.visibility_steps.specs.Steps.{operationOf, ask, cleared, startOf}
 use Rattle.change_steps.specs.Changes as changes
 use Rattle.protector_state.specs.State.{firstPhases, phaseOf}
 use Rattle.protector_state.specs.Reply.{askedOf, flatOf}
-use Rattle.change_state.specs.State.{stageOf}
-use Rattle.protector.specs.World.{World, world, Outcome, applied, entered}
-use Rattle.protector.specs.Calls.{carriedOut, carriedChange, firstRefusal, visibilityRefusal, visibilityTaken, visibilityOf, answerRefusal, afterDone, answerDone, buildRefusal, buildTaken, buildOf}
+use Rattle.protector_state.specs.Changing.{stageOf}
+use Rattle.call_refusals.specs.World.{World, world, Outcome}
+use Rattle.protector.specs.Writes.{applied, entered}
+use Rattle.protector.specs.Calls.{carriedOut, carriedChange, visibilityTaken, visibilityOf, afterDone, answerDone, buildTaken, buildOf}
+use Rattle.call_refusals.specs.Refusals.{firstRefusal, visibilityRefusal, answerRefusal, buildRefusal}
 use Rattle.protection_entries.specs.Calls.{protectionRefusal, protectionTaken, protectionOf, defaultRefusal, defaultStarted, defaultTaken, defaultOf}
 use Rattle.overlay_refusals.specs.Refusals.{callRefusal, within, knownRefusal, guestRefusal, dmaRefusal, pageRefusal, registerRefusal, currentOf, unregisterRefusal}
 use Rattle.overlay_entries.specs.Calls.{registerTaken, registerOf, unregisterTaken, unregisterOf}

@@ -9,7 +9,7 @@ use Rattle.layout.specs.declared.MemoryRangeWithNode.{MemoryRangeWithNode}
 use Rattle.layout.specs.Layout.{entriesOf}
 use Rattle.protector_state.specs.declared.Reply.{Reply}
 use Rattle.protector_state.specs.State.{entriesIn}
-use Rattle.protector.specs.World.{World, Outcome, takes}
+use Rattle.call_refusals.specs.World.{World, Outcome, takes}
 use Rattle.protector.specs.Calls.{answerDone}
 use Rattle.visibility_claims.specs.Whole.{Given, Succeeds}
 use Rattle.visibility_claims.specs.Calls.{answerOf, takenBy}

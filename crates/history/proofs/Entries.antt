@@ -15,7 +15,7 @@ use Rattle.overlay_table.proofs.Lists.{first, changed-length, drop-length, tabl
 use Rattle.default_change.specs.Pieces.{privateRam}
 use Rattle.default_change.specs.Renewed.{renewedEntries, renewed}
 use Rattle.default_change.proofs.Table.{table-renewed}
-use Rattle.protector.specs.World.{withoutPage}
+use Rattle.protector.specs.Writes.{withoutPage}
 use Rattle.history.specs.Tables.{EntryFits, EachFits, Overlays}
 
 -- ---- which pages have an entry

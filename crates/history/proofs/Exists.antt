@@ -11,8 +11,9 @@ use contract.Lifetimes.{Lfts}
 use Rattle.laws.specs.Refusal.{passed, first-passed}
 use Rattle.layout.specs.Layout.{entriesOf, refusalOf, mapLen}
 use Rattle.permissions.specs.Flags.{fitIsolation}
-use Rattle.protector.specs.World.{World, Outcome}
-use Rattle.protector.specs.Calls.{refusedBy, visibilityOf, answerDone, answerFailed, buildFits, buildRefusal, buildTaken, buildOf}
+use Rattle.call_refusals.specs.World.{World, Outcome}
+use Rattle.protector.specs.Calls.{refusedBy, visibilityOf, answerDone, answerFailed, buildTaken, buildOf}
+use Rattle.call_refusals.specs.Refusals.{buildFits, buildRefusal}
 use Rattle.protection_entries.specs.Calls.{protectionOf, defaultOf}
 use Rattle.overlay_entries.specs.Calls.{registerOf, unregisterOf}
 use Rattle.lock_entries.specs.Calls.{Kept, lockOf, unlockOf}

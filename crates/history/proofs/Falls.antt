@@ -12,8 +12,8 @@ use Rattle.visibility_steps.specs.declared.Phase.{Phase}
 use Rattle.visibility_steps.specs.declared.Phase.the-variants as phase
 use Rattle.protector_state.specs.declared.Reply.{Reply}
 use Rattle.protector_state.specs.State.{phaseIn}
-use Rattle.change_state.specs.State.{stageIn, isChanging}
-use Rattle.protector.specs.World.{World, Outcome, fits, statusOf, takes, takesAt}
+use Rattle.protector_state.specs.Changing.{stageIn, isChanging}
+use Rattle.call_refusals.specs.World.{World, Outcome, fits, statusOf, takes, takesAt}
 use Rattle.visibility_claims.specs.Whole.{Given, Succeeds, Fails}
 use Rattle.visibility_claims.specs.Calls.{answerOf, takenBy}
 use Rattle.visibility_claims.specs.Ends.{leftIn, underWay}

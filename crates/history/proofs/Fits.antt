@@ -9,7 +9,7 @@ use Rattle.laws.specs.Bools.{and-left, and-right}
 use Rattle.layout.specs.Layout.{mapLen}
 use Rattle.mapping.specs.Maps.{marksFit, permissionLen, permissionsFit}
 use Rattle.protector_state.specs.State.{settingsOf, entriesIn}
-use Rattle.protector.specs.World.{World, pagesLen, tablesLen, fits}
+use Rattle.call_refusals.specs.World.{World, pagesLen, tablesLen, fits}
 
 abbrev lenIn : World → ℕ
 lenIn w = mapLen (entriesIn (w .state))

@@ -15,7 +15,7 @@ use Rattle.page_list.specs.Pages.{pagesOf}
 use Rattle.protector_state.specs.declared.Reply.{Reply}
 use Rattle.protector_state.specs.State.{entriesIn}
 use Rattle.protector_state.specs.Reply.{finished}
-use Rattle.protector.specs.World.{World, Outcome, fits}
+use Rattle.call_refusals.specs.World.{World, Outcome, fits}
 use Rattle.protector.specs.Calls.{decided, refusedBy, visibilityTaken, visibilityOf}
 use Rattle.protection_entries.specs.Calls.{protectionTaken, protectionOf, defaultRefusal, storedDefault, stored, barred, renewedIn, defaultStarted, defaultTaken, defaultOf}
 use Rattle.overlay_entries.specs.Calls.{registerTaken, registerOf, unregisterTaken, unregisterOf}

@@ -11,7 +11,7 @@ use Rattle.laws.specs.Refusal.{passed, first-passed}
 use Rattle.permissions.specs.HvError.{codeOf}
 use Rattle.protector_state.specs.Reply.{finished}
 use Rattle.protector_state.specs.State.{stateLen, settingsOf}
-use Rattle.protector.specs.World.{World, world}
+use Rattle.call_refusals.specs.World.{World, world}
 use Rattle.setting_entries.specs.Calls.{stateRefusal, enableRefusal, enabled, enableOf}
 use Rattle.history.specs.Seen.{Seen}
 use Rattle.history.specs.Call.{Visibility, Protection, Default, Register, Unregister, Lock, Unlock, Enable, Call, Write, Read, Answer, gives, sees}

@@ -12,7 +12,7 @@ use Rattle.permissions.specs.declared.IsolationType.{IsolationType}
 use Rattle.visibility_steps.specs.Steps.{isSnp}
 use Rattle.page_list.specs.Pages.{pagesOf}
 use Rattle.protector_state.specs.declared.Reply.{Reply}
-use Rattle.protector.specs.World.{World, statusIn}
+use Rattle.call_refusals.specs.World.{World, statusIn}
 use Rattle.visibility_claims.specs.Whole.{Given}
 use Rattle.history.specs.Seen.{Seen, asks, isWaiting, isTaken, seesTaken, seesCall, seesAnswer}
 use Rattle.history.specs.Call.{Writer, Visibility, Protection, Default, Register, Unregister, Lock, Unlock, Enable, Call, Write, Read, Answer, Result, Effect, givesWriter, gives, seesWriter, sees}

@@ -14,8 +14,8 @@ use Rattle.visibility_steps.specs.declared.Request.{Request}
 use Rattle.change_steps.specs.declared.Stage.{Stage}
 use Rattle.change_steps.specs.declared.Change.{Change}
 use Rattle.protector_state.specs.State.{ramOf, withRequest}
-use Rattle.change_state.specs.State.{withChange}
-use Rattle.protector.specs.World.{World}
+use Rattle.protector_state.specs.Changing.{withChange}
+use Rattle.call_refusals.specs.World.{World}
 use Rattle.protection_entries.specs.Calls.{storedDefault}
 use Rattle.history.specs.Seen.{Seen}
 use Rattle.history.specs.History.{History}

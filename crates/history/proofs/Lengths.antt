@@ -27,8 +27,9 @@ use Rattle.change_steps.specs.declared.Entry.the-variants.{Keep, Add, Remove}
 use Rattle.change_steps.specs.declared.Change.{Change}
 use Rattle.change_steps.specs.declared.ChangeStep.{ChangeStep}
 use Rattle.protector_state.specs.State.{stateLen, requestWords, withRequest, settingsOf, entriesIn}
-use Rattle.change_state.specs.State.{changeWords, withChange}
-use Rattle.protector.specs.World.{World, world, overlaysOf, applied, withoutPage, entered}
+use Rattle.protector_state.specs.Changing.{changeWords, withChange}
+use Rattle.call_refusals.specs.World.{World, world, overlaysOf}
+use Rattle.protector.specs.Writes.{applied, withoutPage, entered}
 use Rattle.protector.specs.Calls.{carriedOut, carriedChange}
 use Rattle.history.proofs.World.{request-entries, change-entries}
 use Rattle.history.proofs.Calls.{set-entries}

@@ -18,7 +18,7 @@ use Rattle.change_steps.specs.declared.ChangeStep.{ChangeStep}
 use Rattle.change_steps.specs.declared.Change.{Change}
 use Rattle.change_steps.specs.Changes.{protect, ask, wait, protectPages, protectRam, startNew, startOld}
 use Rattle.protector_state.specs.State.{stateLen, settingsOf}
-use Rattle.protector.specs.World.{World, world, Outcome, overlaysOf, fits, statusIn}
+use Rattle.call_refusals.specs.World.{World, world, Outcome, overlaysOf, fits, statusIn}
 use Rattle.protector.specs.Calls.{refusedBy, carriedChange}
 use Rattle.protection_entries.specs.Calls.{defaultRefusal, storedDefault, stored, barred, renewedTables, renewedIn, defaultStep, defaultStarted, defaultTaken, defaultOf, protectionRefusal, allListed, protectionStep, protectionTaken, protectionOf}
 use Rattle.overlay_refusals.specs.Refusals.{callRefusal, unregisterRefusal, registerRefusal}

@@ -36,9 +36,11 @@ use Rattle.change_steps.specs.declared.Change.{Change}
 use Rattle.change_steps.specs.declared.ChangeStep.{ChangeStep}
 use Rattle.change_steps.specs.Changes.{changeOf, startNew}
 use Rattle.protector_state.specs.State.{stateLen, firstPhases, phaseOf, phaseIn, requestOf, settingsOf, entriesIn}
-use Rattle.change_state.specs.State.{stageOf, stageIn, isChanging, changeIn, withChange}
-use Rattle.protector.specs.World.{World, world, overlaysOf, locksOf, fits, statusOf, statusIn, takes, takesAt, takesIn, applied}
-use Rattle.protector.specs.Calls.{refusedBy, carriedOut, carriedChange, visibilityRefusal, stopOf, askedFor, tableFor, visibilityTaken, visibilityOf, answerRefusal, pieceAfter, nextIn, afterDone, afterFailed, visibilityDone, visibilityFailed, changeDone, changeFailed, answerDone, answerFailed}
+use Rattle.protector_state.specs.Changing.{stageOf, stageIn, isChanging, changeIn, withChange}
+use Rattle.call_refusals.specs.World.{World, world, overlaysOf, locksOf, fits, statusOf, statusIn, takes, takesAt, takesIn}
+use Rattle.protector.specs.Writes.{applied}
+use Rattle.protector.specs.Calls.{refusedBy, carriedOut, carriedChange, stopOf, askedFor, tableFor, visibilityTaken, visibilityOf, pieceAfter, nextIn, afterDone, afterFailed, visibilityDone, visibilityFailed, changeDone, changeFailed, answerDone, answerFailed}
+use Rattle.call_refusals.specs.Refusals.{visibilityRefusal, answerRefusal}
 use Rattle.protection_entries.specs.Calls.{eachRefusal, protectionRefusal, allListed, protectionTaken, protectionOf, defaultRefusal, stored, barred, renewedIn, firstPiece, defaultStarted, defaultTaken, defaultOf}
 use Rattle.overlay_refusals.specs.Refusals.{unregisterRefusal, registerRefusal}
 use Rattle.overlay_refusals.specs.Refusals as tests

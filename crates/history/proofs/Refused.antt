@@ -14,9 +14,10 @@ use Rattle.permissions.specs.Flags.{vtlOf, boolOf}
 use Rattle.page_list.specs.Pages.{pagesOf}
 use Rattle.protector_state.specs.declared.Reply.{Reply}
 use Rattle.protector_state.specs.State.{stateLen}
-use Rattle.change_state.specs.State.{isChanging}
-use Rattle.protector.specs.World.{World, world, Outcome, fits, statusIn}
-use Rattle.protector.specs.Calls.{refusedBy, decided, buildFits, buildRefusal, buildTaken, buildOf, visibilityRefusal, visibilityTaken, visibilityOf, answerRefusal, visibilityDone, visibilityFailed, changeDone, changeFailed, answerDone, answerFailed}
+use Rattle.protector_state.specs.Changing.{isChanging}
+use Rattle.call_refusals.specs.World.{World, world, Outcome, fits, statusIn}
+use Rattle.protector.specs.Calls.{refusedBy, decided, buildTaken, buildOf, visibilityTaken, visibilityOf, visibilityDone, visibilityFailed, changeDone, changeFailed, answerDone, answerFailed}
+use Rattle.call_refusals.specs.Refusals.{buildFits, buildRefusal, visibilityRefusal, answerRefusal}
 use Rattle.protection_entries.specs.Calls.{protectionRefusal, protectionTaken, protectionOf, defaultRefusal, stored, defaultTaken, defaultOf}
 use Rattle.overlay_refusals.specs.Refusals.{registerRefusal, unregisterRefusal}
 use Rattle.overlay_entries.specs.Calls.{currentIn, registerTaken, registerOf, unregisterTaken, unregisterOf}

@@ -15,9 +15,9 @@ use Rattle.permissions.specs.Flags.{isolationOf}
 use Rattle.visibility_steps.specs.declared.Phase.{Phase}
 use Rattle.visibility_steps.specs.declared.Phase.the-variants as at
 use Rattle.visibility_steps.specs.Steps.{isSnp}
-use Rattle.change_state.specs.State.{isChanging}
+use Rattle.protector_state.specs.Changing.{isChanging}
 use Rattle.protector_state.specs.State.{phaseIn, requestOf, settingsOf, ramOf, entriesIn}
-use Rattle.protector.specs.World.{World, statusOf}
+use Rattle.call_refusals.specs.World.{World, statusOf}
 use Rattle.history.specs.Seen.{Seen, isWaiting}
 use Rattle.history.specs.Marks.{Has, Exact, Marked, readOff, Settled}
 use Rattle.history.specs.Resting.{Rests}

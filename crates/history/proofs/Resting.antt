@@ -10,8 +10,8 @@ use Rattle.layout.specs.declared.MemoryRangeWithNode.{MemoryRangeWithNode}
 use Rattle.layout.specs.Layout.{refusalOf, isRam}
 use Rattle.protector_state.specs.declared.Reply.{Reply}
 use Rattle.protector_state.specs.State.{phaseIn, ramOf, entriesIn}
-use Rattle.change_state.specs.State.{isChanging}
-use Rattle.protector.specs.World.{World, statusIn}
+use Rattle.protector_state.specs.Changing.{isChanging}
+use Rattle.call_refusals.specs.World.{World, statusIn}
 use Rattle.history.specs.Seen.{Seen, unseen}
 use Rattle.history.specs.Marks.{Has, readOff, Settled}
 use Rattle.history.specs.Made.{Built}

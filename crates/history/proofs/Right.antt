@@ -22,7 +22,8 @@ use Rattle.visibility_steps.specs.declared.Step.{Step}
 use Rattle.visibility_steps.specs.Steps.{runOf}
 use Rattle.protector_state.specs.declared.Reply.{Reply}
 use Rattle.protector_state.specs.Reply.{modifies, onRun, flatOf}
-use Rattle.protector.specs.World.{statusOf, putPlaces}
+use Rattle.call_refusals.specs.World.{statusOf}
+use Rattle.protector.specs.Writes.{putPlaces}
 use Rattle.history.specs.Seen.{asks, goesOn}
 use Rattle.history.proofs.Bits.{Has, clash, of-part, inside, set-cases, set-has, set-keeps}
 

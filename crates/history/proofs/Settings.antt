@@ -14,7 +14,7 @@ use Rattle.visibility_steps.specs.declared.Request.{Request}
 use Rattle.change_steps.specs.declared.Stage.{Stage}
 use Rattle.change_steps.specs.declared.Change.{Change}
 use Rattle.protector_state.specs.State.{stateLen, withRequest, settingsOf}
-use Rattle.change_state.specs.State.{withChange}
+use Rattle.protector_state.specs.Changing.{withChange}
 use Rattle.protection_entries.specs.Calls.{storedDefault}
 use Rattle.setting_entries.specs.Calls.{enabled}
 use Rattle.history.specs.Settings.{SettingsFit}

@@ -11,8 +11,9 @@ use Rattle.change_steps.specs.declared.Change.{Change}
 use Rattle.change_steps.specs.declared.ChangeStep.{ChangeStep}
 use Rattle.change_steps.specs.Changes.{protect, startNew, startOld}
 use Rattle.protector_state.specs.State.{settingsOf}
-use Rattle.protector.specs.World.{World, world, Outcome, overlaysOf, fits}
-use Rattle.protector.specs.Calls.{refusedBy, carriedOut, carriedChange, visibilityRefusal, visibilityTaken, visibilityOf}
+use Rattle.call_refusals.specs.World.{World, world, Outcome, overlaysOf, fits}
+use Rattle.protector.specs.Calls.{refusedBy, carriedOut, carriedChange, visibilityTaken, visibilityOf}
+use Rattle.call_refusals.specs.Refusals.{visibilityRefusal}
 use Rattle.protection_entries.specs.Calls.{protectionRefusal, protectionTaken, protectionOf, defaultRefusal, storedDefault, stored, barred, renewedIn, defaultStarted, defaultTaken, defaultOf}
 use Rattle.overlay_refusals.specs.Refusals.{registerRefusal, unregisterRefusal}
 use Rattle.overlay_entries.specs.Calls.{currentIn, entryIn, counting, registerTaken, registerOf, unregisterTaken, unregisterOf}

@@ -21,8 +21,8 @@ use Rattle.visibility_steps.specs.declared.Phase.{Phase}
 use Rattle.visibility_steps.specs.declared.Phase.the-variants as at
 use Rattle.visibility_steps.specs.declared.Request.{Request}
 use Rattle.visibility_steps.specs.Steps.{asked, cleared}
-use Rattle.protector.specs.World.{putPlaces}
-use Rattle.protector.specs.Calls.{pageRefusal, firstRefusal}
+use Rattle.protector.specs.Writes.{putPlaces}
+use Rattle.call_refusals.specs.Refusals.{pageRefusal, firstRefusal}
 use Rattle.history.proofs.Bits.{Has, clash, among-own, in-part, clear-kept, clear-gone, clear-same, not-among, none-among, was-private, was-shared}
 use Rattle.history.proofs.Right.{opened, Right}
 

@@ -10,8 +10,9 @@ use Rattle.abi.specs.Refusals as refusal
 use Rattle.laws.specs.Refusal.{unless, passed, first-passed}
 use Rattle.permissions.specs.Flags.{vtlOf}
 use Rattle.protector_state.specs.State.{stateLen}
-use Rattle.protector.specs.World.{World, Outcome, tablesLen, fits, statusIn, takesIn}
-use Rattle.protector.specs.Calls.{refusedBy, decided, visibilityRefusal, answerRefusal}
+use Rattle.call_refusals.specs.World.{World, Outcome, tablesLen, fits, statusIn, takesIn}
+use Rattle.protector.specs.Calls.{refusedBy, decided}
+use Rattle.call_refusals.specs.Refusals.{visibilityRefusal, answerRefusal}
 use Rattle.protection_entries.specs.Calls.{defaultRefusal, protectionRefusal}
 use Rattle.overlay_refusals.specs.Refusals.{callRefusal, registerRefusal, unregisterRefusal}
 use Rattle.overlay_entries.specs.Calls.{currentIn}

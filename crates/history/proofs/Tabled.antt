@@ -23,9 +23,10 @@ use Rattle.visibility_steps.specs.declared.Step.{Step}
 use Rattle.change_steps.specs.declared.ChangeStep.{ChangeStep}
 use Rattle.change_steps.specs.Changes.{changeOf, startNew, startOld}
 use Rattle.protector_state.specs.State.{stateLen, settingsOf, entriesIn}
-use Rattle.change_state.specs.State.{stageIn, isChanging, changeIn}
-use Rattle.protector.specs.World.{World, world, Outcome, overlaysOf, locksOf, isLocked, fits, statusIn}
-use Rattle.protector.specs.Calls.{refusedBy, carriedOut, carriedChange, visibilityRefusal, visibilityTaken, visibilityOf, answerRefusal, nextIn, afterDone, afterFailed, visibilityDone, visibilityFailed, changeDone, changeFailed, answerDone, answerFailed}
+use Rattle.protector_state.specs.Changing.{stageIn, isChanging, changeIn}
+use Rattle.call_refusals.specs.World.{World, world, Outcome, overlaysOf, locksOf, isLocked, fits, statusIn}
+use Rattle.protector.specs.Calls.{refusedBy, carriedOut, carriedChange, visibilityTaken, visibilityOf, nextIn, afterDone, afterFailed, visibilityDone, visibilityFailed, changeDone, changeFailed, answerDone, answerFailed}
+use Rattle.call_refusals.specs.Refusals.{visibilityRefusal, answerRefusal}
 use Rattle.protection_entries.specs.Calls.{protectionRefusal, allListed, protectionTaken, protectionOf, defaultRefusal, stored, barred, renewedIn, defaultStarted, defaultTaken, defaultOf, firstPiece}
 use Rattle.overlay_refusals.specs.Refusals.{unregisterRefusal, registerRefusal, within, knownRefusal, guestRefusal, dmaRefusal, pageRefusal, neededOf}
 use Rattle.overlay_refusals.proofs.Laws.{call-passed, flags-passed}

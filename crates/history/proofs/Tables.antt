@@ -29,8 +29,9 @@ use Rattle.change_steps.specs.declared.ChangeStep.{ChangeStep}
 use Rattle.change_steps.specs.Changes.{protect, ask, wait, finish, halt, keep, protectPages, protectRam, doneOf, failedOf, overlayOf, startNew, startOld}
 use Rattle.request_pages.specs.Request.{runEnd}
 use Rattle.protector_state.specs.State.{withRequest}
-use Rattle.change_state.specs.State.{stageOf, stageIn, isChanging, changeIn, withChange}
-use Rattle.protector.specs.World.{overlaysOf, statusIn, withOverlays, entered}
+use Rattle.protector_state.specs.Changing.{stageOf, stageIn, isChanging, changeIn, withChange}
+use Rattle.call_refusals.specs.World.{overlaysOf, statusIn}
+use Rattle.protector.specs.Writes.{withOverlays, entered}
 use Rattle.overlay_entries.proofs.Claims.{overlays-written, locks-kept, vtl1-kept, vtl0-kept}
 use Rattle.history.specs.Tables.{Overlays, Locked, Tables, New, Old, Pending, entryFor, PendingIn}
 use Rattle.history.proofs.Bits.{clash}

@@ -16,9 +16,10 @@ use Rattle.default_change.specs.Renewed.{renewed}
 use Rattle.request_pages.specs.Request.{wanted}
 use Rattle.request_pages.proofs.Table.{length-table, pages-few}
 use Rattle.protector_state.specs.State.{entriesIn}
-use Rattle.change_state.specs.State.{isChanging}
-use Rattle.protector.specs.World.{World, world, overlaysOf, locksOf, fits}
-use Rattle.protector.specs.Calls.{refusedBy, visibilityRefusal, stopOf, tableFor, visibilityTaken, visibilityOf, answerRefusal, visibilityDone, visibilityFailed, changeDone, changeFailed, answerDone, answerFailed}
+use Rattle.protector_state.specs.Changing.{isChanging}
+use Rattle.call_refusals.specs.World.{World, world, overlaysOf, locksOf, fits}
+use Rattle.protector.specs.Calls.{refusedBy, stopOf, tableFor, visibilityTaken, visibilityOf, visibilityDone, visibilityFailed, changeDone, changeFailed, answerDone, answerFailed}
+use Rattle.call_refusals.specs.Refusals.{visibilityRefusal, answerRefusal}
 use Rattle.protection_entries.specs.Calls.{protectionRefusal, allListed, protectionTaken, protectionOf, defaultRefusal, stored, barred, renewedIn, defaultStarted, defaultTaken, defaultOf}
 use Rattle.protection_entries.proofs.Laws.{protection-passed}
 use Rattle.overlay_refusals.specs.Refusals.{registerRefusal, unregisterRefusal}

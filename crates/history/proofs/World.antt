@@ -24,8 +24,8 @@ use Rattle.change_steps.specs.declared.Change.{Change}
 use Rattle.protector_state.specs.declared.Reply.{Reply}
 use Rattle.protector_state.specs.State.{firstPhases, phaseOf, phaseIn, requestOf, withRequest, entriesIn}
 use Rattle.protector_state.specs.Reply.{modifies}
-use Rattle.change_state.specs.State.{stageNumber, isChanging, withChange}
-use Rattle.protector.specs.World.{World, world, statusOf, statusIn, takes}
+use Rattle.protector_state.specs.Changing.{stageNumber, isChanging, withChange}
+use Rattle.call_refusals.specs.World.{World, world, statusOf, statusIn, takes}
 use Rattle.visibility_claims.specs.Whole.{Given}
 use Rattle.visibility_claims.proofs.Calls.{phase-read, request-read, no-change}
 use Rattle.history.specs.Seen.{Seen, tookAs, isWaiting, isModify, processed, lastAfter}

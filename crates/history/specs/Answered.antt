@@ -2,7 +2,7 @@
 -- another length, or is a build that is refused, leaves all that as it was.
 use mathlib.Core.Path.{_≡_}
 use Rattle.protector_state.specs.declared.Reply.{Reply}
-use Rattle.protector.specs.World.{World, Outcome}
+use Rattle.call_refusals.specs.World.{World, Outcome}
 use Rattle.protector.specs.Calls.{buildOf}
 use Rattle.history.specs.Seen.{Seen}
 use Rattle.history.specs.Call.{effect, gives}

@@ -3,13 +3,13 @@ use mathlib.Core.List.{List, []}
 use Prim.Native.Nat.{ℕ}
 use Rattle.page_list.specs.Pages.{pagesOf}
 use Rattle.protector_state.specs.declared.Reply.{Reply}
-use Rattle.protector.specs.World.{World, world, Outcome}
+use Rattle.call_refusals.specs.World.{World, world, Outcome}
 use Rattle.protector.specs.Calls.{visibilityOf}
 use Rattle.protection_entries.specs.Calls.{protectionOf, defaultOf}
 use Rattle.overlay_entries.specs.Calls.{registerOf, unregisterOf, isOverlayIn}
 use Rattle.lock_entries.specs.Calls.{Kept, lockOf, unlockOf}
 use Rattle.setting_entries.specs.Calls.{Enabled, enableOf, enabledIn, defaultIn}
-use Rattle.queries.specs.declared.Value.{Value}
+use Rattle.protector_state.specs.declared.Value.{Value}
 use Rattle.queries.specs.Queries as queries
 use Rattle.queries.specs.Queries.{queryOf, faultIn, lowerIn, accessIn}
 use Rattle.visibility_claims.specs.Whole.{Given}

@@ -5,7 +5,7 @@ use mathlib.Core.Bool.{false}
 use mathlib.Core.List.{List, []}
 use Prim.Native.Nat.{ℕ}
 use Rattle.permissions.specs.Flags.{fitIsolation}
-use Rattle.protector.specs.World.{World, world}
+use Rattle.call_refusals.specs.World.{World, world}
 use Rattle.protector.specs.Calls.{buildOf}
 use Rattle.history.specs.Call.{Call, gives}
 use Rattle.history.specs.Made.{Made, Built}

@@ -9,7 +9,7 @@ use Rattle.layout.specs.Layout.{entriesOf}
 use Rattle.permissions.specs.Flags.{isolationOf}
 use Rattle.protector_state.specs.declared.Reply.{Reply}
 use Rattle.protector_state.specs.State.{stateLen, settingsOf, entriesIn}
-use Rattle.protector.specs.World.{World, fits}
+use Rattle.call_refusals.specs.World.{World, fits}
 use Rattle.protector.specs.Calls.{buildOf}
 use Rattle.history.specs.Seen.{Seen, unseen}
 use Rattle.history.specs.Marks.{Holds}

@@ -6,7 +6,7 @@ use Prim.Native.Nat.{ℕ}
 use lib.ListN.{length}
 use Rattle.protector_state.specs.declared.Reply.{Reply}
 use Rattle.protector_state.specs.State.{stateLen}
-use Rattle.protector.specs.World.{World, tablesLen, fits}
+use Rattle.call_refusals.specs.World.{World, tablesLen, fits}
 use Rattle.history.specs.Seen.{Seen}
 use Rattle.history.specs.Call.{Writer, Visibility, Protection, Default, Register, Unregister, Lock, Unlock, Enable, Call, Write, Read, Answer, Result, sees}
 use Rattle.history.specs.Made.{Made, Built}

@@ -8,8 +8,8 @@ use denote.Triple.Clauses.{AtExit}
 use denote.Ref.{RefT, now}
 use Rattle.mapping.specs.Maps.{Maps, Permissions, maps}
 use Rattle.protector_state.specs.declared.Reply.{Reply}
-use Rattle.protector.specs.World.{World, world}
-use Rattle.queries.specs.declared.Value.{Value}
+use Rattle.call_refusals.specs.World.{World, world}
+use Rattle.protector_state.specs.declared.Value.{Value}
 use Rattle.queries.specs.Queries as queries
 use Rattle.visibility_claims.specs.Whole.{Succeeds, Fails}
 use Rattle.history.specs.Call.{Visibility, Protection, Default, Register, Unregister, Lock, Unlock, Enable, TellEnabled, TellDefault, IsOverlay, Query, Fault, Lower, Access, Call, Write, Read, Answer, Result}

@@ -13,7 +13,7 @@ use Rattle.mapping.specs.Maps.{Maps}
 use lib.ListN.{length}
 use Rattle.protector_state.specs.State.{stateLen, ramOf, entriesIn}
 use Rattle.protector_state.specs.Reply.{finished}
-use Rattle.protector.specs.World.{World, fits, statusIn}
+use Rattle.call_refusals.specs.World.{World, fits, statusIn}
 use Rattle.history.specs.Seen.{Seen, isWaiting, Private, Shared, tookAs, Age, Never, Returned, Validated, Zeroed}
 
 -- a page's mark in a map

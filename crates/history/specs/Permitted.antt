@@ -12,8 +12,8 @@ use Rattle.mapping.specs.Maps.{Permissions}
 use Rattle.change_steps.specs.declared.Stage.{Stage}
 use Rattle.change_steps.specs.declared.Stage.the-variants as stage
 use Rattle.protector_state.specs.State.{phaseIn, requestOf}
-use Rattle.change_state.specs.State.{stageIn, isChanging}
-use Rattle.protector.specs.World.{World, statusOf}
+use Rattle.protector_state.specs.Changing.{stageIn, isChanging}
+use Rattle.call_refusals.specs.World.{World, statusOf}
 use Rattle.history.specs.Marks.{Has}
 
 pub record Inside (es : List MemoryRangeWithNode) (m : Permissions) : Type 0 where

@@ -8,7 +8,7 @@ use lib.ListN.{drop}
 use Rattle.permissions.specs.Flags.{vtlOf, boolOf}
 use Rattle.protector_state.specs.declared.Reply.{Reply}
 use Rattle.protector_state.specs.State.{settingsOf}
-use Rattle.protector.specs.World.{World}
+use Rattle.call_refusals.specs.World.{World}
 use Rattle.protection_entries.specs.Calls.{stored, allListed}
 use Rattle.visibility_claims.specs.Whole.{Given}
 use Rattle.visibility_claims.specs.Runs.{whole}

@@ -2,7 +2,7 @@
 -- the tables and the settings are such as 01's limits allow, and no permission is of a page outside RAM.
 use Prim.Native.Nat.{ℕ}
 use Rattle.protector_state.specs.State.{entriesIn}
-use Rattle.protector.specs.World.{World}
+use Rattle.call_refusals.specs.World.{World}
 use Rattle.history.specs.Marks.{Settled}
 use Rattle.history.specs.Tables.{Tables}
 use Rattle.history.specs.Settings.{SettingsFit}

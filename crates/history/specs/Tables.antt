@@ -17,8 +17,8 @@ use Rattle.lock_table.specs.Locks.{Fit}
 use Rattle.change_steps.specs.declared.Stage.{Stage}
 use Rattle.change_steps.specs.declared.Stage.the-variants as stage
 use Rattle.change_steps.specs.declared.Change.{Change}
-use Rattle.change_state.specs.State.{stageIn, changeIn}
-use Rattle.protector.specs.World.{World, tablesLen, overlaysOf, locksOf}
+use Rattle.protector_state.specs.Changing.{stageIn, changeIn}
+use Rattle.call_refusals.specs.World.{World, tablesLen, overlaysOf, locksOf}
 
 -- ---- overlay entries, of the layout es
 

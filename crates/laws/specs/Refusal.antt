@@ -53,6 +53,13 @@ first-passed n rest h = go (eqb n 0) refl
     go true e = (eqb-true n 0 e, sym (ap (λ (t : Bool). unless t n rest) e) ∙ h)
     go false e = absurd (false≢true (sym e ∙ ap (λ (k : ℕ). eqb k 0) (sym (ap (λ (t : Bool). unless t n rest) e) ∙ h)))
 
+pub first-alone : (n : ℕ) → n ≡ first n 0
+first-alone n = go (eqb n 0) refl
+  where
+    go : (b : Bool) → eqb n 0 ≡ b → n ≡ cond b 0 n
+    go true e = eqb-true n 0 e
+    go false e = refl
+
 -- a call is refused by the number n that its chain x gives, or answered where that is 0
 module _ {A : Type 0} (n x : ℕ) (e : n ≡ x) where
   pub refused : (a : A) (f : ℕ → A) → (n ≡ 0 → ⊥) → f n ≡ cond (eqb x 0) a (f x)

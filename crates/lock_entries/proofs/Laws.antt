@@ -2,20 +2,19 @@
 use mathlib.Core.Path.{_≡_, sym, ap, ap₂, _∙_}
 use mathlib.Core.List.{List, _++_}
 use Prim.Native.Nat.{ℕ, _+_, _*_}
-use lib.Dec.{eqb}
 use lib.ListN.{length, take, drop}
 use lib.Seq.{drop-drop}
 use borrow.Author.Tests.{eqb-true}
-use Rattle.laws.specs.Refusal.{passed, first-passed, refused, answered}
+use Rattle.laws.specs.Refusal.{refused, answered}
 use Rattle.permissions.specs.declared.GuestVtl.{GuestVtl}
 use Rattle.permissions.specs.Flags.{vtlOf, vtlNumber}
 use Rattle.permissions.specs.HvError.{codeOf}
 use Rattle.page_list.specs.Pages.{pagesOf}
 use Rattle.lock_table.specs.Locks.{lockCode, lockWords, unlockCode, unlockWords}
 use Rattle.protector_state.specs.declared.Reply.{Reply}
-use Rattle.protector_state.specs.State.{stateLen}
 use Rattle.protector_state.specs.Reply.{finished}
-use Rattle.protector.specs.World.{tablesLen, locksOf, statusIn}
+use Rattle.call_refusals.specs.World.{tablesLen, locksOf}
+use Rattle.call_refusals.proofs.Laws.{is-ready}
 use Rattle.lock_entries.specs.Calls.{kept, ended, lockRefusal, withLocks, lockTaken, lockOf, unlockTaken, unlockOf}
 
 -- ---- the locks of a VTL that is told, lent as a part of the tables
@@ -49,9 +48,7 @@ module _ (t ps o : List ℕ) (r : ℕ) (v w : GuestVtl) (e : v ≡ w) where
 module _ (s t : List ℕ) (vtl : ℕ) (l : List ℕ) (n : ℕ) (e : n ≡ lockRefusal s (length t) vtl l) where
   pub passed-length : n ≡ 0 → length t ≡ tablesLen
   unfolding lockRefusal
-  passed-length z =
-      let a = passed (eqb (length s) stateLen) 3 _ (sym e ∙ z) in
-      eqb-true (length t) tablesLen (passed (eqb (length t) tablesLen) 3 _ (first-passed (statusIn s) _ (a .1) .1) .0)
+  passed-length z = eqb-true (length t) tablesLen (is-ready s _ _ (sym e ∙ z) .fits)
 
   module _ (r : Reply) where
     pub lock-refused : (n ≡ 0 → ⊥) → r ≡ finished n (codeOf n) 0 0 → kept t r ≡ lockOf s t vtl l

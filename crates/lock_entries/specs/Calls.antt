@@ -1,21 +1,21 @@
 -- lock_gpns and unlock_gpns (01, "Overlays and locks", "From the input" 4, 5 and 8, "From the state" 17 to 20).
-use mathlib.Core.Bool.{cond, not}
+use mathlib.Core.Bool.{cond}
 use mathlib.Core.List.{List, _++_}
 use Prim.Native.Nat.{ℕ, _+_, _*_}
 use lib.Dec.{eqb}
 use lib.ListN.{length, take, drop}
 use Rattle.abi.specs.Refusals as refusal
 use Rattle.abi.specs.Lengths.{locksLen, locksStart}
-use Rattle.laws.specs.Refusal.{unless}
+use Rattle.laws.specs.Refusal.{unless, when}
 use Rattle.permissions.specs.declared.GuestVtl.{GuestVtl}
 use Rattle.permissions.specs.Flags.{fitVtl, vtlOf, vtlNumber}
 use Rattle.permissions.specs.HvError.{codeOf}
 use Rattle.page_list.specs.Pages.{pagesOf, isLong, isRagged}
 use Rattle.lock_table.specs.Locks.{lockCode, lockWords, unlockCode, unlockWords}
 use Rattle.protector_state.specs.declared.Reply.{Reply}
-use Rattle.protector_state.specs.State.{stateLen}
 use Rattle.protector_state.specs.Reply.{finished}
-use Rattle.protector.specs.World.{tablesLen, locksOf, statusIn}
+use Rattle.call_refusals.specs.World.{tablesLen, locksOf}
+use Rattle.call_refusals.specs.Refusals.{ready}
 
 -- what a call gives: the tables, and the reply
 pub record Kept : Type 0 where
@@ -33,13 +33,11 @@ ended t n = kept t (finished n (codeOf n) 0 0)
 
 unfoldable pub lockRefusal : List ℕ → ℕ → ℕ → List ℕ → ℕ
 lockRefusal s tables vtl l =
-    unless (eqb (length s) stateLen) refusal.wrongLength
-    (unless (eqb (statusIn s) 0) (statusIn s)
-    (unless (eqb tables tablesLen) refusal.wrongLength
-    (unless (not (isLong l)) refusal.longList
+    ready s (eqb tables tablesLen)
+    (when (isLong l) refusal.longList
     (unless (fitVtl vtl) refusal.unfitNumber
-    (unless (not (isRagged l)) refusal.unfitNumber
-    0)))))
+    (when (isRagged l) refusal.unfitNumber
+    0)))
 
 -- the tables with other locks of a VTL
 abbrev pub withLocks : List ℕ → GuestVtl → List ℕ → List ℕ

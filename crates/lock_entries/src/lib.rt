@@ -3,9 +3,8 @@ ghost use mathlib.Core.Path.{_≡_};
 ghost use lib.ListN.{length};
 ghost use Rattle.page_list.specs.Pages.{pagesOf};
 ghost use Rattle.lock_table.specs.Locks.{lockCode, lockWords, unlockCode, unlockWords};
-ghost use Rattle.protector.specs.World.{tablesLen, locksOf};
+ghost use Rattle.call_refusals.specs.World.{tablesLen, locksOf};
 ghost use Rattle.lock_entries.specs.Calls.{kept, lockRefusal, withLocks, lockOf, unlockOf};
-use abi::STATE_WORDS;
 use abi::TABLES_WORDS;
 use abi::refusal;
 use abi::table;
@@ -16,22 +15,17 @@ use protector_state::Reply;
 fn lock_refusal(state: &[u64], tables: u64, vtl: u64, list: &[u8]) -> u64
     ensures { λ r. ⌜ r ≡ lockRefusal (now (state .entry)) tables vtl (now (list .entry)) ⌝ }
 {
-    if state.len() != STATE_WORDS {
-        return refusal::WRONG_LENGTH;
-    }
-    let busy = protector::status(state);
-    if busy != 0 {
-        return busy;
+    let n = call_refusals::state_refusal(state);
+    if n != 0 {
+        return n;
     }
     if tables != TABLES_WORDS {
         return refusal::WRONG_LENGTH;
     }
-    let long = page_list::is_long(list);
-    let fit = permissions::is_vtl(vtl);
-    if long {
+    if page_list::is_long(list) {
         return refusal::LONG_LIST;
     }
-    if !fit {
+    if !permissions::is_vtl(vtl) {
         return refusal::UNFIT_NUMBER;
     }
     if page_list::is_ragged(list) {

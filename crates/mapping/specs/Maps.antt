@@ -9,6 +9,7 @@ use Rattle.bitmap.specs.Pages.{bitAt, written}
 use Rattle.layout.specs.declared.MemoryRangeWithNode.{MemoryRangeWithNode}
 use Rattle.layout.specs.Layout.{isRam, mapLen}
 use Rattle.permissions.specs.declared.HvMapGpaFlags.{HvMapGpaFlags}
+use Rattle.mapping.specs.declared.MapLengths.{MapLengths}
 
 pub record Permissions : Type 0 where
   pub read : List ℕ
@@ -45,22 +46,29 @@ built es m =
     }
 
 -- refusal 4: a mark map has len bytes, one for each 32,768 bytes up to the last end; a permission map too if tracked, and else none
-abbrev pub marksFit : ℕ → ℕ → ℕ → Bool
-marksFit len p s = eqb p len && eqb s len
+abbrev pub marksFit : ℕ → MapLengths → Bool
+marksFit len l = eqb (l .private) len && eqb (l .shared) len
 
 abbrev pub permissionLen : ℕ → Bool → ℕ
 permissionLen len tracked = cond tracked len 0
 
-abbrev pub permissionsFit : ℕ → ℕ → ℕ → ℕ → ℕ → Bool
-permissionsFit len r w k u = eqb r len && (eqb w len && (eqb k len && eqb u len))
+abbrev pub permissionsFit : ℕ → MapLengths → Bool
+permissionsFit len l = eqb (l .read) len && (eqb (l .write) len && (eqb (l .kernel) len && eqb (l .user) len))
 
-abbrev pub fitLen : ℕ → Bool → Maps → Bool
-fitLen len tracked m =
-    marksFit len (length (m .private)) (length (m .shared))
-    && permissionsFit (permissionLen len tracked) (length (m .permissions .read)) (length (m .permissions .write)) (length (m .permissions .kernel)) (length (m .permissions .user))
+abbrev pub mapsFit : ℕ → Bool → MapLengths → Bool
+mapsFit len tracked l = marksFit len l && permissionsFit (permissionLen len tracked) l
 
-unfoldable pub mapsFit : List MemoryRangeWithNode → Bool → Maps → Bool
-mapsFit es tracked m = fitLen (mapLen es) tracked m
+-- the lengths that maps have
+abbrev pub lengthsOf : Maps → MapLengths
+lengthsOf m =
+    record {
+      private = length (m .private);
+      shared = length (m .shared);
+      read = length (m .permissions .read);
+      write = length (m .permissions .write);
+      kernel = length (m .permissions .kernel);
+      user = length (m .permissions .user);
+    }
 
 -- refusal 7 of a fault, and of a query of the maps, where they do not have the page
 abbrev pub inMaps : List MemoryRangeWithNode → ℕ → Bool

@@ -1,67 +1,67 @@
 // GuestMemoryMapping over lent maps: the private and shared marks and the permission maps (empty where permissions are not
 // tracked), as built from the layout, as updated, and as they stand.
-ghost use mathlib.Core.Bool.{true, _&&_};
+ghost use mathlib.Core.Bool.{true};
 ghost use mathlib.Core.Path.{_≡_};
 ghost use Prim.Native.Nat.{_+_, _/_};
 ghost use lib.ListN.{length, replicate};
 ghost use Rattle.abi.specs.Lengths.{pageSize};
-ghost use Rattle.laws.specs.Ranges.{between};
 ghost use Rattle.bitmap.specs.Pages.{written};
 ghost use Rattle.layout.specs.Layout.{entriesOf, isRam};
-ghost use Rattle.mapping.specs.Maps.{perms, maps, fresh, built, permissionLen, marksFit, permissionsFit, flagsAt, permitted};
+ghost use Rattle.mapping.specs.Maps.{perms, maps, fresh, built, permissionLen, marksFit, permissionsFit, mapsFit, flagsAt, permitted};
 use abi::PAGE_SIZE;
 use permissions::HvMapGpaFlags;
 
-// Whether marks of these lengths fit a layout whose maps have `len` bytes.
-pub fn marks_fit(len: u64, private: u64, shared: u64) -> bool
-    ensures { λ r. ⌜ r ≡ marksFit len private shared ⌝ }
+// The lengths of the six maps in bytes.
+pub struct MapLengths {
+    pub private: u64,
+    pub shared: u64,
+    pub read: u64,
+    pub write: u64,
+    pub kernel: u64,
+    pub user: u64,
+}
+
+// Whether the marks have `len` bytes each.
+fn marks_fit(len: u64, lengths: MapLengths) -> bool
+    ensures { λ r. ⌜ r ≡ marksFit len lengths ⌝ }
 {
-    if private != len {
+    if lengths.private != len {
         return false;
     }
-    shared == len
+    lengths.shared == len
 }
 
 // The length of a permission map.
-pub fn permission_len(len: u64, tracked: bool) -> u64
+fn permission_len(len: u64, tracked: bool) -> u64
     ensures { λ r. ⌜ r ≡ permissionLen len tracked ⌝ }
 {
     if tracked { len } else { 0 }
 }
 
-// Whether permission maps of these lengths have `len` bytes each.
-pub fn permissions_fit(len: u64, read: u64, write: u64, kernel: u64, user: u64) -> bool
-    ensures { λ r. ⌜ r ≡ permissionsFit len read write kernel user ⌝ }
+// Whether the permission maps have `len` bytes each.
+fn permissions_fit(len: u64, lengths: MapLengths) -> bool
+    ensures { λ r. ⌜ r ≡ permissionsFit len lengths ⌝ }
 {
-    if read != len {
+    if lengths.read != len {
         return false;
     }
-    if write != len {
+    if lengths.write != len {
         return false;
     }
-    if kernel != len {
+    if lengths.kernel != len {
         return false;
     }
-    user == len
+    lengths.user == len
 }
 
-// Whether six maps of these lengths fit.
-pub fn maps_fit(
-    len: u64,
-    tracked: bool,
-    private: u64,
-    shared: u64,
-    read: u64,
-    write: u64,
-    kernel: u64,
-    user: u64,
-) -> bool
-    ensures { λ r. ⌜ r ≡ (marksFit len private shared && permissionsFit (permissionLen len tracked) read write kernel user) ⌝ }
+// Whether maps of these lengths fit a layout whose maps have `len` bytes.
+pub fn maps_fit(len: u64, tracked: bool, lengths: MapLengths) -> bool
+    ensures { λ r. ⌜ r ≡ mapsFit len tracked lengths ⌝ }
 {
-    if !marks_fit(len, private, shared) {
+    if !marks_fit(len, lengths) {
         return false;
     }
-    permissions_fit(permission_len(len, tracked), read, write, kernel, user)
+    permissions_fit(permission_len(len, tracked), lengths)
 }
 
 // Every page of the map not set.

@@ -1,79 +1,23 @@
 -- What the definitions give: the limits, and the entries as a list. Assumes nothing.
-use native.Mathlib.Omega.{arith}
-use mathlib.Core.Path.{_≡_, refl, sym, ap, subst, _∙_}
-use mathlib.Core.Bool.{Bool, true, false, not, cond}
+use mathlib.Core.Path.{_≡_, sym, ap, subst, _∙_}
+use mathlib.Core.Bool.{Bool, true, cond}
 use mathlib.Core.List.{List}
 use Prim.Native.Nat.{ℕ, _+_, _-_, _≤_, _<_}
 use lib.ListN.{length, length-set}
-use borrow.Author.Tests.{eq-eqb, lt-ltb, le-ltb}
-use Rattle.laws.specs.Refusal.{passes, refuses}
-use Rattle.bitmap.specs.Pages.{bitAt}
-use Rattle.layout.specs.declared.MemoryRangeWithNode.{MemoryRangeWithNode}
-use Rattle.layout.specs.Layout.{isRam}
-use Rattle.permissions.specs.declared.HvMapGpaFlags.{HvMapGpaFlags}
-use Rattle.permissions.specs.Flags.{vtlOf, flagsOf, bitsOf, boolOf}
+use borrow.Author.Tests.{eq-eqb, lt-ltb}
+use Rattle.permissions.specs.Flags.{vtlOf, bitsOf}
 use Rattle.overlay_table.specs.declared.OverlayPage.{OverlayPage}
-use Rattle.overlay_table.specs.Overlays.{knows, entryOf, changed, withCount, tableOf, isOverlay, placeOf, entryAt, addCode, countWords}
-use Rattle.overlay_table.proofs.Lists.{first, table-length, table-overlay, table-entry, table-count, table-add-code}
+use Rattle.overlay_table.specs.Overlays.{knows, entryOf, changed, withCount, tableOf, isOverlay, placeOf, entryAt, countWords}
+use Rattle.overlay_table.proofs.Lists.{first, table-length, table-overlay, table-entry, table-count}
 use Rattle.change_steps.specs.Changes.{startNew, startOld}
 use Rattle.protector_state.specs.State.{settingsOf}
 use Rattle.protector_state.specs.Reply.{finished}
-use Rattle.protector.specs.World.{World, Outcome, tablesLen, overlaysOf, locksOf, isLocked, fits}
+use Rattle.call_refusals.specs.World.{World, Outcome, tablesLen, overlaysOf, fits}
 use Rattle.protector.specs.Calls.{refusedBy, carriedChange}
 pub use Rattle.protector.proofs.Tables.{overlays-written, locks-kept, vtl1-kept, vtl0-kept}
-use Rattle.overlay_refusals.specs.Refusals.{callRefusal, unregisterRefusal, flagsRefusal, within, neededOf, knownRefusal, guestRefusal, dmaRefusal, pageRefusal, registerRefusal}
+use Rattle.overlay_refusals.specs.Refusals.{unregisterRefusal, registerRefusal}
 use Rattle.overlay_entries.specs.Calls.{entryIn, recounted, counting, unregisterTaken, unregisterOf, currentIn, registerTaken, registerOf}
 use Rattle.overlay_refusals.proofs.Laws as laws
-
--- ---- a known page: no RAM, mark, lock or source is looked at; a count of 65,535 refuses the next
-
-pub known-page : (es : List MemoryRangeWithNode) (shared o locks : List ℕ) (p source : ℕ) (current : HvMapGpaFlags) (checked new : ℕ) → isOverlay o p ≡ true
-    → pageRefusal es shared o locks p source current checked new ≡ knownRefusal (entryAt o (placeOf o p)) checked new
-unfolding pageRefusal
-known-page es shared o locks p source current checked new h =
-    ap (λ (b : Bool). cond b (knownRefusal (entryAt o (placeOf o p)) checked new) (cond (boolOf source) (dmaRefusal es o locks p) (guestRefusal es shared o locks p current checked))) h
-
-module _ (e : OverlayPage) (checked new : ℕ) (h : within (flagsOf (e .«overlay_permissions»)) (flagsOf (neededOf checked new)) ≡ true) where
-  pub count-room : e .«ref_count» < 65535 → knownRefusal e checked new ≡ 0
-  unfolding knownRefusal
-  count-room d = sym (passes _ _ _ _ h (passes _ _ _ _ (lt-ltb _ _ d) refl))
-
-  pub count-full : e .«ref_count» ≡ 65535 → knownRefusal e checked new ≡ 17
-  unfolding knownRefusal
-  count-full d = sym (passes _ _ _ _ h (refuses _ _ _ (le-ltb (e .«ref_count») 65535 (omega (arith, d)))))
-
--- as a call, once nothing is refused before it
-module _ (s : List ℕ) (fit : Bool) (shared t : List ℕ) (current : HvMapGpaFlags) (vtl p source checked new : ℕ) (a : callRefusal s fit vtl 0 ≡ 0) (b : flagsRefusal source checked new 0 ≡ 0) where
-  pub known-call : isOverlay (overlaysOf t (vtlOf vtl)) p ≡ true → registerRefusal s fit shared t current vtl p source checked new ≡ knownRefusal (entryIn t (vtlOf vtl) p) checked new
-  unfolding registerRefusal
-  known-call h =
-      sym (laws.call-goes s fit vtl _ refl _ _ a (laws.flags-go source checked new _ _ _ refl b (sym (known-page _ shared (overlaysOf t (vtlOf vtl)) (locksOf t (vtlOf vtl)) p source current checked new h))))
-
-  pub register-65536th : isOverlay (overlaysOf t (vtlOf vtl)) p ≡ true → within (flagsOf (entryIn t (vtlOf vtl) p .«overlay_permissions»)) (flagsOf (neededOf checked new)) ≡ true
-      → entryIn t (vtlOf vtl) p .«ref_count» ≡ 65535 → registerRefusal s fit shared t current vtl p source checked new ≡ 17
-  register-65536th h d f = known-call h ∙ count-full (entryIn t (vtlOf vtl) p) checked new d f
-
--- ---- a new page that nothing else refuses: room for it, or 17
-
-module _ (es : List MemoryRangeWithNode) (shared o locks : List ℕ) (p : ℕ) (current : HvMapGpaFlags) (checked new : ℕ) (h : isOverlay o p ≡ false) (l : isLocked o locks p ≡ false) where
-  pub guest-page : isRam es p ≡ true → within current (flagsOf checked) ≡ true → bitAt 8 shared p ≡ false → pageRefusal es shared o locks p 0 current checked new ≡ addCode o
-  unfolding pageRefusal guestRefusal
-  guest-page a b d =
-      ap (λ (c : Bool). cond c (knownRefusal (entryAt o (placeOf o p)) checked new) (guestRefusal es shared o locks p current checked)) h
-      ∙ sym (passes _ _ _ _ a (passes _ _ _ _ b (passes _ _ _ _ (ap not d) (passes _ _ _ _ (ap not l) refl))))
-
-  pub dma-page : isRam es p ≡ false → pageRefusal es shared o locks p 1 current checked new ≡ addCode o
-  unfolding pageRefusal dmaRefusal
-  dma-page a =
-      ap (λ (c : Bool). cond c (knownRefusal (entryAt o (placeOf o p)) checked new) (dmaRefusal es o locks p)) h
-      ∙ sym (passes _ _ _ _ (ap not a) (passes _ _ _ _ (ap not l) refl))
-
--- the 128th overlay page is taken, the 129th is 17
-pub overlay-128th : (es : List OverlayPage) → length es ≡ 127 → addCode (tableOf es) ≡ 0
-overlay-128th es h = table-add-code es (omega (arith, h)) ∙ ap (λ (b : Bool). cond b 0 17) (lt-ltb (length es) 128 (omega (arith, h)))
-
-pub overlay-129th : (es : List OverlayPage) → length es ≡ 128 → addCode (tableOf es) ≡ 17
-overlay-129th es h = table-add-code es (omega (arith, h)) ∙ ap (λ (b : Bool). cond b 0 17) (le-ltb (length es) 128 (omega (arith, h)))
 
 -- ---- where the words of the VTL are the table of a list: the calls on the list
 

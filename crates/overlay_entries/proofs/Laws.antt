@@ -26,11 +26,12 @@ use Rattle.change_steps.specs.Changes.{noRun, ask, wait, protect, overlayOf, st
 use Rattle.protector_state.specs.declared.Reply.{Reply}
 use Rattle.protector_state.specs.State.{stateLen, settingsOf, entriesIn}
 use Rattle.protector_state.specs.Reply.{finished, flatOf}
-use Rattle.change_state.specs.State.{withChange}
-use Rattle.protector.specs.World.{World, outcome, tablesLen, overlaysOf, locksOf, permittedRun, entered}
+use Rattle.protector_state.specs.Changing.{withChange}
+use Rattle.call_refusals.specs.World.{World, outcome, tablesLen, overlaysOf, locksOf}
+use Rattle.protector.specs.Writes.{permittedRun, entered}
 use Rattle.protector.specs.Calls.{carriedChange}
-use Rattle.queries.specs.declared.Value.{Value}
-use Rattle.queries.specs.Queries.{value}
+use Rattle.protector_state.specs.declared.Value.{Value}
+use Rattle.protector_state.specs.Reply.{value}
 use Rattle.overlay_refusals.specs.Refusals.{callRefusal, unregisterRefusal, within, neededOf, knownRefusal, guestRefusal, dmaRefusal, pageRefusal, registerRefusal}
 use Rattle.overlay_refusals.proofs.Laws.{call-passed, call-fits, flags-passed}
 use Rattle.overlay_entries.specs.Calls.{entryIn, recounted, counting, isOverlayIn, unregisterTaken, currentIn, registerTaken}

@@ -1,13 +1,13 @@
 -- An overlay call from its start to its end: what is asked and how often, and what becomes of the entries as a list. Assumes nothing.
 use native.Mathlib.Omega.{arith}
 use mathlib.Core.Path.{_≡_, refl, sym, ap, subst, _∙_}
-use mathlib.Core.Bool.{Bool, true, false, not, cond}
+use mathlib.Core.Bool.{Bool, true, false, cond}
 use mathlib.Core.List.{List, [], _∷_, _++_}
 use Prim.Native.Nat.{ℕ, _+_, _-_, _≤_, _<_}
 use lib.Dec.{ltb}
 use lib.ListN.{length, length-append}
 use borrow.Author.Tests.{eq-eqb, ltb-true, lt-ltb, le-ltb}
-use Rattle.laws.specs.Refusal.{passed}
+use Rattle.laws.specs.Refusal.{passed, when-passed}
 use Rattle.bitmap.specs.Pages.{bitAt}
 use Rattle.layout.specs.declared.MemoryRangeWithNode.{MemoryRangeWithNode}
 use Rattle.layout.specs.Layout.{isRam}
@@ -28,7 +28,8 @@ use Rattle.change_steps.specs.declared.Entry.the-variants.{Keep, Add, Remove}
 use Rattle.change_steps.specs.Changes.{ask, wait, protect, finish, overlayOf, doneOf, startNew, startOld}
 use Rattle.protector_state.specs.State.{settingsOf, entriesIn}
 use Rattle.protector_state.specs.Reply.{askedOf, flatOf}
-use Rattle.protector.specs.World.{World, Outcome, tablesLen, overlaysOf, locksOf, isLocked, fits, withoutPage, entered}
+use Rattle.call_refusals.specs.World.{World, Outcome, tablesLen, overlaysOf, locksOf, isLocked, fits}
+use Rattle.protector.specs.Writes.{withoutPage, entered}
 use Rattle.protector.specs.Calls.{refusedBy, carriedChange}
 use Rattle.overlay_refusals.specs.Refusals.{unregisterRefusal, within, knownRefusal, guestRefusal, dmaRefusal, pageRefusal, registerRefusal}
 use Rattle.overlay_entries.specs.Calls.{entryIn, counting, unregisterTaken, unregisterOf, currentIn, registerTaken, registerOf}
@@ -99,9 +100,9 @@ add-left es shared o locks p source current checked new h z =
     (sym (ap (λ (b : Bool). cond b (knownRefusal (entryAt o (placeOf o p)) checked new) (cond (boolOf source) (dmaRefusal es o locks p) (guestRefusal es shared o locks p current checked))) h) ∙ z)
   where
     go : (b : Bool) → cond b (dmaRefusal es o locks p) (guestRefusal es shared o locks p current checked) ≡ 0 → addCode o ≡ 0
-    go true z = passed (not (isLocked o locks p)) 9 _ (passed (not (isRam es p)) 6 _ z .1) .1
+    go true z = when-passed (isLocked o locks p) 9 _ (when-passed (isRam es p) 6 _ z .1) .1
     go false z =
-        passed (not (isLocked o locks p)) 9 _ (passed (not (bitAt 8 shared p)) 11 _ (passed (within current (flagsOf checked)) 12 _ (passed (isRam es p) 6 _ z .1) .1) .1) .1
+        when-passed (isLocked o locks p) 9 _ (when-passed (bitAt 8 shared p) 11 _ (passed (within current (flagsOf checked)) 12 _ (passed (isRam es p) 6 _ z .1) .1) .1) .1
 
 few-entries : (es : List OverlayPage) → length es ≤ 128 → addCode (tableOf es) ≡ 0 → length es < 128
 few-entries es h z = go (ltb (length es) 128) refl (sym (table-add-code es h) ∙ z)

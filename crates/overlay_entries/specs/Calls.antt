@@ -14,10 +14,11 @@ use Rattle.overlay_table.specs.Overlays.{isOverlay, placeOf, entryAt, countWord
 use Rattle.change_steps.specs.Changes.{startNew, startOld}
 use Rattle.protector_state.specs.State.{settingsOf}
 use Rattle.protector_state.specs.Reply.{finished}
-use Rattle.protector.specs.World.{World, Outcome, outcome, tablesLen, overlaysOf, fits, withOverlays}
+use Rattle.call_refusals.specs.World.{World, Outcome, outcome, tablesLen, overlaysOf, fits}
+use Rattle.protector.specs.Writes.{withOverlays}
 use Rattle.protector.specs.Calls.{decided, carriedChange}
-use Rattle.queries.specs.declared.Value.{Value}
-use Rattle.queries.specs.Queries.{value}
+use Rattle.protector_state.specs.declared.Value.{Value}
+use Rattle.protector_state.specs.Reply.{value}
 use Rattle.overlay_refusals.specs.Refusals.{callRefusal, unregisterRefusal, registerRefusal, currentOf}
 
 -- ---- is_overlay_page: 0 or 1

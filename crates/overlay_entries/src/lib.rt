@@ -3,20 +3,22 @@ ghost use mathlib.Core.Path.{_≡_};
 ghost use lib.ListN.{length};
 ghost use Rattle.mapping.specs.Maps.{maps};
 ghost use Rattle.overlay_table.specs.Overlays.{placeOf, countWords};
-ghost use Rattle.protector.specs.World.{world, outcome, tablesLen};
+ghost use Rattle.call_refusals.specs.World.{world, outcome, tablesLen};
 ghost use Rattle.overlay_entries.specs.Calls.{entryIn, recounted, isOverlayIn, unregisterOf, registerOf};
 use abi::table;
+use call_refusals::Lengths;
+use mapping::MapLengths;
 use overlay_table::OverlayPage;
 use permissions::GuestVtl;
 use protector_state::Reply;
-use queries::Value;
+use protector_state::Value;
 
 // The entry of a page.
 fn entry_of(tables: &[u64], vtl: GuestVtl, gpn: u64) -> OverlayPage
     requires { ⌜ length (now tables) ≡ tablesLen ⌝ }
     ensures { λ r. ⌜ r ≡ entryIn (now (tables .entry)) vtl gpn ⌝ }
 {
-    let overlays = protector::overlays_of(tables, vtl);
+    let overlays = call_refusals::overlays_of(tables, vtl);
     overlay_table::entry_at(overlays, overlay_table::find(overlays, gpn))
 }
 
@@ -50,17 +52,11 @@ pub extern "C" fn protector_is_overlay_page(
 {
     let n = overlay_refusals::table_refusal(state, tables.len() as u64, vtl);
     if n != 0 {
-        return Value {
-            number: n,
-            value: permissions::hv_error(n),
-        };
+        return protector_state::refused_value(n);
     }
     let v = permissions::vtl_of(vtl);
-    let known = overlay_table::is_overlay(protector::overlays_of(tables, v), gpn);
-    Value {
-        number: 0,
-        value: permissions::digit_of(known),
-    }
+    let known = overlay_table::is_overlay(call_refusals::overlays_of(tables, v), gpn);
+    protector_state::ok_value(permissions::digit_of(known))
 }
 
 // An overlay page has one registration fewer. The last one asks for a Protect with the flags that the page had, then for Wait,
@@ -81,19 +77,19 @@ pub extern "C" fn protector_unregister_overlay_page(
 ) -> Reply
     ensures { λ r. ⌜ outcome (maps (now (private .entry)) (now (shared .entry)) (now (read .exit)) (now (write .exit)) (now (kernel .exit)) (now (user .exit))) (now (state .exit)) (now (pages .entry)) (now (tables .exit)) r ≡ unregisterOf (world (maps (now (private .entry)) (now (shared .entry)) (now (read .entry)) (now (write .entry)) (now (kernel .entry)) (now (user .entry))) (now (state .entry)) (now (pages .entry)) (now (tables .entry))) vtl gpn ⌝ }
 {
-    let n = overlay_refusals::unregister_refusal(
-        state,
-        private.len() as u64,
-        shared.len() as u64,
-        read.len() as u64,
-        write.len() as u64,
-        kernel.len() as u64,
-        user.len() as u64,
-        pages.len() as u64,
-        tables,
-        vtl,
-        gpn,
-    );
+    let lengths = Lengths {
+        maps: MapLengths {
+            private: private.len() as u64,
+            shared: shared.len() as u64,
+            read: read.len() as u64,
+            write: write.len() as u64,
+            kernel: kernel.len() as u64,
+            user: user.len() as u64,
+        },
+        pages: pages.len() as u64,
+        tables: tables.len() as u64,
+    };
+    let n = overlay_refusals::unregister_refusal(state, lengths, tables, vtl, gpn);
     if n != 0 {
         return protector_state::refused(n);
     }
@@ -132,15 +128,22 @@ pub extern "C" fn protector_register_overlay_page(
 {
     let v = permissions::vtl_of(vtl);
     let current = overlay_refusals::current_flags(read, write, kernel, user, state, v, gpn, source);
+    let lengths = Lengths {
+        maps: MapLengths {
+            private: private.len() as u64,
+            shared: shared.len() as u64,
+            read: read.len() as u64,
+            write: write.len() as u64,
+            kernel: kernel.len() as u64,
+            user: user.len() as u64,
+        },
+        pages: pages.len() as u64,
+        tables: tables.len() as u64,
+    };
     let n = overlay_refusals::register_refusal(
         state,
-        private.len() as u64,
+        lengths,
         shared,
-        read.len() as u64,
-        write.len() as u64,
-        kernel.len() as u64,
-        user.len() as u64,
-        pages.len() as u64,
         tables,
         current,
         vtl,
@@ -152,7 +155,7 @@ pub extern "C" fn protector_register_overlay_page(
     if n != 0 {
         return protector_state::refused(n);
     }
-    if overlay_table::is_overlay(protector::overlays_of(tables, v), gpn) {
+    if overlay_table::is_overlay(call_refusals::overlays_of(tables, v), gpn) {
         let e = entry_of(tables, v, gpn);
         set_ref_count(tables, v, gpn, e.ref_count + 1);
         return protector_state::finished(0, 0, 0, 0);

@@ -5,8 +5,7 @@ use mathlib.Core.List.{List}
 use Prim.Native.Nat.{ℕ, _-_, _≤_, _<_, min}
 use lib.Dec.{eqb, ltb}
 use lib.ListN.{length, getD}
-use borrow.Author.Tests.{eqb-true, eq-eqb, ne-eqb, lt-ltb, le-ltb}
-use Rattle.laws.specs.Bools.{false≢true}
+use borrow.Author.Tests.{eq-eqb, ne-eqb, lt-ltb, le-ltb}
 use Rattle.laws.specs.Refusal.{unless, passes, refuses, passed}
 use Rattle.layout.specs.declared.MemoryRangeWithNode.{MemoryRangeWithNode}
 use Rattle.layout.specs.Layout.{entriesOf}
@@ -18,7 +17,8 @@ use Rattle.overlay_table.specs.declared.OverlayPage.{OverlayPage}
 use Rattle.overlay_table.specs.Overlays.{placeOf, entryAt, addCode}
 use Rattle.access.specs.Query.{lowerFlags}
 use Rattle.protector_state.specs.State.{stateLen, settingsOf, ramOf, entriesIn}
-use Rattle.protector.specs.World.{overlaysOf, locksOf, statusIn}
+use Rattle.call_refusals.specs.World.{overlaysOf, locksOf, statusIn}
+use Rattle.call_refusals.proofs.Laws.{is-ready, goes-on, swaps}
 use Rattle.overlay_refusals.specs.Refusals.{callRefusal, flagsRefusal, within, neededOf, knownRefusal, guestRefusal, dmaRefusal, pageRefusal, currentOf}
 
 -- ---- a chain that refuses does so whatever comes after, and one that doesn't goes on to it
@@ -27,29 +27,18 @@ goes : (t : Bool) (k a b n : ℕ) → (n ≡ 0 → ⊥) → n ≡ unless t k a �
 goes true k a b n h e f = f e
 goes false k a b n h e f = e
 
-idle : (k rest : ℕ) → unless (eqb k 0) k rest ≡ 0 → (eqb k 0 ≡ true) × (rest ≡ 0)
-idle k rest h = go (eqb k 0) refl
-  where
-    go : (b : Bool) → eqb k 0 ≡ b → (eqb k 0 ≡ true) × (rest ≡ 0)
-    go true e = (e, sym (ap (λ (t : Bool). unless t k rest) e) ∙ h)
-    go false e = absurd (false≢true (sym e ∙ ap (λ (x : ℕ). eqb x 0) (sym (ap (λ (t : Bool). unless t k rest) e) ∙ h)))
-
 module _ (s : List ℕ) (fit : Bool) (vtl : ℕ) where
-  pub call-passed : (rest : ℕ) → callRefusal s fit vtl rest ≡ 0 → (length s ≡ stateLen) × (eqb (statusIn s) 0 ≡ true) × (fit ≡ true) × (fitVtl vtl ≡ true) × (rest ≡ 0)
+  pub call-passed : (rest : ℕ) → callRefusal s fit vtl rest ≡ 0 → (length s ≡ stateLen) × (statusIn s ≡ 0) × (fit ≡ true) × (fitVtl vtl ≡ true) × (rest ≡ 0)
   unfolding callRefusal
   call-passed rest h =
-      let a = passed (eqb (length s) stateLen) 3 _ h in
-      let b = idle (statusIn s) _ (a .1) in
-      let d = passed fit 3 _ (b .1) in
-      let e = passed (fitVtl vtl) 7 _ (d .1) in
-      (eqb-true (length s) stateLen (a .0), b .0, d .0, e .0, e .1)
+      let a = is-ready s fit _ h in
+      let e = passed (fitVtl vtl) 7 _ (a .goes) in
+      (a .long, a .idle, a .fits, e .0, e .1)
 
   module _ (n : ℕ) (e : n ≡ callRefusal s fit vtl 0) where
     pub call-ends : (rest : ℕ) → (n ≡ 0 → ⊥) → n ≡ callRefusal s fit vtl rest
     unfolding callRefusal
-    call-ends rest h =
-        goes (eqb (length s) stateLen) 4 _ _ n h e
-        (λ e. goes (eqb (statusIn s) 0) (statusIn s) _ _ n h e (λ e. goes fit 4 _ _ n h e (λ e. goes (fitVtl vtl) 8 0 rest n h e (λ e. absurd (h e)))))
+    call-ends rest h = swaps s fit _ _ n h e (λ e. goes (fitVtl vtl) 8 0 rest n h e (λ e. absurd (h e)))
 
     pub call-state : n ≡ 0 → length s ≡ stateLen
     call-state z = call-passed 0 (sym e ∙ z) .0
@@ -61,7 +50,7 @@ module _ (s : List ℕ) (fit : Bool) (vtl : ℕ) where
     unfolding callRefusal
     call-goes x rest z q =
         let p = call-passed 0 (sym e ∙ z) in
-        passes (eqb (length s) stateLen) 4 _ x (eq-eqb (length s) stateLen (p .0)) (passes (eqb (statusIn s) 0) (statusIn s) _ x (p .1) (passes fit 4 _ x (p .2) (passes (fitVtl vtl) 8 rest x (p .3) q)))
+        goes-on s fit _ x (p .0) (p .1) (p .2) (passes (fitVtl vtl) 8 rest x (p .3) q)
 
 -- ---- the tests of a registration
 

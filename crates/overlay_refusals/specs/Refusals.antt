@@ -1,14 +1,13 @@
 -- What refuses the calls on overlay pages (01, "Overlays and locks", "From the input" 4, 7 and 8, "From the state" 10, 12 to 14, 17, 19 and 20, and the
 -- order of refusals).
-use mathlib.Core.Bool.{Bool, true, cond, not, _&&_}
+use mathlib.Core.Bool.{Bool, true, cond, _&&_}
 use mathlib.Core.List.{List}
 use Prim.Native.Nat.{ℕ, _+_}
-use lib.Dec.{eqb, ltb}
-use lib.ListN.{length}
+use lib.Dec.{ltb}
 use Rattle.abi.specs.Flags as bits
 use Rattle.abi.specs.Limits as limit
 use Rattle.abi.specs.Refusals as refusal
-use Rattle.laws.specs.Refusal.{unless}
+use Rattle.laws.specs.Refusal.{unless, when}
 use Rattle.bitmap.specs.Pages.{bitAt}
 use Rattle.layout.specs.declared.MemoryRangeWithNode.{MemoryRangeWithNode}
 use Rattle.layout.specs.Layout.{isRam}
@@ -19,18 +18,17 @@ use Rattle.mapping.specs.Maps.{Permissions}
 use Rattle.access.specs.Query.{lowerFlags}
 use Rattle.overlay_table.specs.declared.OverlayPage.{OverlayPage}
 use Rattle.overlay_table.specs.Overlays.{isOverlay, placeOf, entryAt, addCode}
-use Rattle.protector_state.specs.State.{stateLen, settingsOf, entriesIn}
-use Rattle.protector.specs.World.{overlaysOf, locksOf, isLocked, statusIn}
+use Rattle.protector_state.specs.State.{settingsOf, entriesIn}
+use Rattle.call_refusals.specs.World.{overlaysOf, locksOf, isLocked}
+use Rattle.call_refusals.specs.Refusals.{ready}
 
 -- ---- what all of them test first: 4 of the state, 20, 19, 4 of what else is lent, 8 of the VTL
 
 unfoldable pub callRefusal : List ℕ → Bool → ℕ → ℕ → ℕ
 callRefusal s fit vtl rest =
-    unless (eqb (length s) stateLen) refusal.wrongLength
-    (unless (eqb (statusIn s) 0) (statusIn s)
-    (unless fit refusal.wrongLength
+    ready s fit
     (unless (fitVtl vtl) refusal.unfitNumber
-    rest)))
+    rest)
 
 -- ---- unregister_overlay_page: 14
 
@@ -71,15 +69,15 @@ unfoldable pub guestRefusal : List MemoryRangeWithNode → List ℕ → List ℕ
 guestRefusal es shared overlays locks p current checked =
     unless (isRam es p) refusal.notRam
     (unless (within current (flagsOf checked)) refusal.narrow
-    (unless (not (bitAt 8 shared p)) refusal.shared
-    (unless (not (isLocked overlays locks p)) refusal.locked
+    (when (bitAt 8 shared p) refusal.shared
+    (when (isLocked overlays locks p) refusal.locked
     (addCode overlays))))
 
 -- a new Dma page: 7 where it is RAM, 10, 17
 unfoldable pub dmaRefusal : List MemoryRangeWithNode → List ℕ → List ℕ → ℕ → ℕ
 dmaRefusal es overlays locks p =
-    unless (not (isRam es p)) refusal.notRam
-    (unless (not (isLocked overlays locks p)) refusal.locked
+    when (isRam es p) refusal.notRam
+    (when (isLocked overlays locks p) refusal.locked
     (addCode overlays))
 
 unfoldable pub pageRefusal : List MemoryRangeWithNode → List ℕ → List ℕ → List ℕ → ℕ → ℕ → HvMapGpaFlags → ℕ → ℕ → ℕ

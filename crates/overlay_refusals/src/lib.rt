@@ -6,14 +6,14 @@ ghost use Rattle.layout.specs.Layout.{entriesOf};
 ghost use Rattle.mapping.specs.Maps.{perms};
 ghost use Rattle.overlay_table.specs.Overlays.{addCode};
 ghost use Rattle.protector_state.specs.State.{stateLen, entriesIn};
-ghost use Rattle.protector.specs.World.{tablesLen, overlaysOf, locksOf, lengthsFit};
+ghost use Rattle.call_refusals.specs.World.{tablesLen, overlaysOf, locksOf, fitsIn};
 ghost use Rattle.overlay_refusals.specs.Refusals.{callRefusal, unregisterRefusal, flagsRefusal, holds, within, neededOf, knownRefusal, guestRefusal, dmaRefusal, pageRefusal, registerRefusal, currentOf};
 use abi::NO_FLAGS;
-use abi::STATE_WORDS;
 use abi::TABLES_WORDS;
 use abi::limit;
 use abi::place;
 use abi::refusal;
+use call_refusals::Lengths;
 use overlay_table::OverlayPage;
 use permissions::GuestVtl;
 use permissions::HvMapGpaFlags;
@@ -22,12 +22,9 @@ use permissions::HvMapGpaFlags;
 pub fn table_refusal(state: &[u64], tables: u64, vtl: u64) -> u64
     ensures { λ r. ⌜ r ≡ callRefusal (now (state .entry)) (eqb tables tablesLen) vtl 0 ⌝ }
 {
-    if state.len() != STATE_WORDS {
-        return refusal::WRONG_LENGTH;
-    }
-    let busy = protector::status(state);
-    if busy != 0 {
-        return busy;
+    let n = call_refusals::state_refusal(state);
+    if n != 0 {
+        return n;
     }
     if tables != TABLES_WORDS {
         return refusal::WRONG_LENGTH;
@@ -40,39 +37,12 @@ pub fn table_refusal(state: &[u64], tables: u64, vtl: u64) -> u64
 }
 
 // The number that refuses a call that is lent all: 0 where none does.
-fn call_refusal(
-    state: &[u64],
-    private: u64,
-    shared: u64,
-    read: u64,
-    write: u64,
-    kernel: u64,
-    user: u64,
-    pages: u64,
-    tables: u64,
-    vtl: u64,
-) -> u64
-    ensures { λ r. ⌜ r ≡ callRefusal (now (state .entry)) (lengthsFit (now (state .entry)) private shared read write kernel user pages tables) vtl 0 ⌝ }
+fn call_refusal(state: &[u64], lengths: Lengths, vtl: u64) -> u64
+    ensures { λ r. ⌜ r ≡ callRefusal (now (state .entry)) (fitsIn (now (state .entry)) lengths) vtl 0 ⌝ }
 {
-    if state.len() != STATE_WORDS {
-        return refusal::WRONG_LENGTH;
-    }
-    let busy = protector::status(state);
-    if busy != 0 {
-        return busy;
-    }
-    if !protector::lengths_fit(
-        state,
-        private,
-        shared,
-        read,
-        write,
-        kernel,
-        user,
-        pages,
-        tables,
-    ) {
-        return refusal::WRONG_LENGTH;
+    let n = call_refusals::lent_refusal(state, lengths);
+    if n != 0 {
+        return n;
     }
     if permissions::is_vtl(vtl) {
         0
@@ -81,38 +51,23 @@ fn call_refusal(
     }
 }
 
+// The number that refuses an unregister: 0 where none does.
 pub fn unregister_refusal(
     state: &[u64],
-    private: u64,
-    shared: u64,
-    read: u64,
-    write: u64,
-    kernel: u64,
-    user: u64,
-    pages: u64,
+    lengths: Lengths,
     tables: &[u64],
     vtl: u64,
     gpn: u64,
 ) -> u64
-    ensures { λ r. ⌜ r ≡ unregisterRefusal (now (state .entry)) (lengthsFit (now (state .entry)) private shared read write kernel user pages (length (now (tables .entry)))) (now (tables .entry)) vtl gpn ⌝ }
+    requires { ⌜ lengths .tables ≡ length (now tables) ⌝ }
+    ensures { λ r. ⌜ r ≡ unregisterRefusal (now (state .entry)) (fitsIn (now (state .entry)) lengths) (now (tables .entry)) vtl gpn ⌝ }
 {
-    let n = call_refusal(
-        state,
-        private,
-        shared,
-        read,
-        write,
-        kernel,
-        user,
-        pages,
-        tables.len() as u64,
-        vtl,
-    );
+    let n = call_refusal(state, lengths, vtl);
     if n != 0 {
         return n;
     }
     let v = permissions::vtl_of(vtl);
-    if overlay_table::is_overlay(protector::overlays_of(tables, v), gpn) {
+    if overlay_table::is_overlay(call_refusals::overlays_of(tables, v), gpn) {
         0
     } else {
         refusal::NO_OVERLAY
@@ -209,7 +164,7 @@ fn guest_refusal(
     if bitmap::page_state(shared, gpn) {
         return refusal::SHARED;
     }
-    if protector::is_locked(overlays, locks, gpn) {
+    if call_refusals::is_locked(overlays, locks, gpn) {
         return refusal::LOCKED;
     }
     add_code(overlays)
@@ -221,7 +176,7 @@ fn dma_refusal(ram: &[u64], overlays: &[u64], locks: &[u64], gpn: u64) -> u64
     if layout::is_in_guest_memory(ram, gpn) {
         return refusal::NOT_RAM;
     }
-    if protector::is_locked(overlays, locks, gpn) {
+    if call_refusals::is_locked(overlays, locks, gpn) {
         return refusal::LOCKED;
     }
     add_code(overlays)
@@ -266,8 +221,8 @@ fn page_refusal_in(
     ensures { λ r. ⌜ r ≡ pageRefusal (entriesIn (now (state .entry))) (now (shared .entry)) (overlaysOf (now (tables .entry)) vtl) (locksOf (now (tables .entry)) vtl) gpn source current checked new ⌝ }
 {
     let ram = protector_state::ram_of(state);
-    let overlays = protector::overlays_of(tables, vtl);
-    let locks = protector::locks_of(tables, vtl);
+    let overlays = call_refusals::overlays_of(tables, vtl);
+    let locks = call_refusals::locks_of(tables, vtl);
     page_refusal(
         ram,
         shared,
@@ -281,15 +236,11 @@ fn page_refusal_in(
     )
 }
 
+// The number that refuses a register: 0 where none does.
 pub fn register_refusal(
     state: &[u64],
-    private: u64,
+    lengths: Lengths,
     shared: &[u8],
-    read: u64,
-    write: u64,
-    kernel: u64,
-    user: u64,
-    pages: u64,
     tables: &[u64],
     current: HvMapGpaFlags,
     vtl: u64,
@@ -298,20 +249,10 @@ pub fn register_refusal(
     checked: u64,
     new: u64,
 ) -> u64
-    ensures { λ r. ⌜ r ≡ registerRefusal (now (state .entry)) (lengthsFit (now (state .entry)) private (length (now (shared .entry))) read write kernel user pages (length (now (tables .entry)))) (now (shared .entry)) (now (tables .entry)) current vtl gpn source checked new ⌝ }
+    requires { ⌜ lengths .tables ≡ length (now tables) ⌝ }
+    ensures { λ r. ⌜ r ≡ registerRefusal (now (state .entry)) (fitsIn (now (state .entry)) lengths) (now (shared .entry)) (now (tables .entry)) current vtl gpn source checked new ⌝ }
 {
-    let n = call_refusal(
-        state,
-        private,
-        shared.len() as u64,
-        read,
-        write,
-        kernel,
-        user,
-        pages,
-        tables.len() as u64,
-        vtl,
-    );
+    let n = call_refusal(state, lengths, vtl);
     if n != 0 {
         return n;
     }

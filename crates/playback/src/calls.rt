@@ -4,7 +4,7 @@ use crate::untracked;
 use crate::world;
 use crate::world::Call;
 use crate::world::World;
-use queries::Value;
+use protector_state::Value;
 use recording::digest;
 
 fn is_tracked(w: World) -> bool {

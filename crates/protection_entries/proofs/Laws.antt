@@ -9,7 +9,7 @@ use native.Mathlib.Numerals.{add-one}
 use lib.ListN.{length, getD, take, drop, length-set, drop-of-length-le}
 use lib.Seq.{drop-cons}
 use borrow.Author.Tests.{eqb-true}
-use Rattle.laws.specs.Refusal.{passed, first-passed}
+use Rattle.laws.specs.Refusal.{when-passed}
 use Rattle.layout.specs.Layout.{entriesOf}
 use Rattle.permissions.specs.declared.GuestVtl.{GuestVtl}
 use Rattle.permissions.specs.Flags.{vtlNumber, flagsOf}
@@ -32,9 +32,10 @@ use Rattle.change_steps.specs.Changes.{noRun, changeOf, protect, ask, wait, pro
 use Rattle.protector_state.specs.declared.Reply.{Reply}
 use Rattle.protector_state.specs.State.{stateLen, settingsOf, ramOf, entriesIn}
 use Rattle.protector_state.specs.Reply.{finished, flatOf}
-use Rattle.change_state.specs.State.{withChange}
-use Rattle.protector.proofs.Laws.{fits-pages, fits-tables}
-use Rattle.protector.specs.World.{World, Outcome, world, outcome, pagesLen, tablesLen, fits, statusIn, overlaysOf, locksOf, permittedRun, entered}
+use Rattle.protector_state.specs.Changing.{withChange}
+use Rattle.call_refusals.proofs.Laws.{is-ready, fits-pages, fits-tables}
+use Rattle.call_refusals.specs.World.{World, Outcome, world, outcome, pagesLen, tablesLen, fits, overlaysOf, locksOf}
+use Rattle.protector.specs.Writes.{permittedRun, entered}
 use Rattle.protector.specs.Calls.{refusedBy, withPermissions, carriedChange}
 use Rattle.protection_entries.specs.Calls.{defaultRefusal, storedDefault, stored, barred, renewedTables, renewedIn, firstPiece, defaultStep, defaultStarted, defaultTaken, protectionRefusal, allListed, protectionStep, protectionTaken}
 
@@ -76,10 +77,7 @@ ram-within tracked v flags r h = go (eqb (r .count) 0)
 module _ (w : World) (vtl flags n : ℕ) (e : n ≡ defaultRefusal (w .state) (fits w) vtl flags) (z : n ≡ 0) where
   default-passed : (length (w .state) ≡ stateLen) × (fits w ≡ true)
   unfolding defaultRefusal
-  default-passed =
-      let a = passed (eqb (length (w .state)) stateLen) 3 _ (sym e ∙ z) in
-      let b = passed (fits w) 3 _ (first-passed (statusIn (w .state)) _ (a .1) .1) in
-      (eqb-true (length (w .state)) stateLen (a .0), b .0)
+  default-passed = let a = is-ready (w .state) (fits w) _ (sym e ∙ z) in (a .long, a .fits)
 
   pub state-fits : length (w .state) ≡ stateLen
   state-fits = default-passed .0
@@ -214,10 +212,8 @@ module _ (w : World) (vtl flags : ℕ) (l : List ℕ) (n : ℕ) (e : n ≡ prote
   pub protection-passed : (length (w .state) ≡ stateLen) × (fits w ≡ true) × (length l ≤ 4096)
   unfolding protectionRefusal
   protection-passed =
-      let a = passed (eqb (length (w .state)) stateLen) 3 _ (sym e ∙ z) in
-      let b = passed (fits w) 3 _ (first-passed (statusIn (w .state)) _ (a .1) .1) in
-      let d = passed (not (isLong l)) 4 _ (b .1) in
-      (eqb-true (length (w .state)) stateLen (a .0), b .0, long-le l (d .0))
+      let a = is-ready (w .state) (fits w) _ (sym e ∙ z) in
+      (a .long, a .fits, long-le l (ap not (when-passed (isLong l) 4 _ (a .goes) .0)))
 
   pub table-fits : length (w .pages) ≡ pagesLen
   table-fits = fits-pages w (protection-passed .1)

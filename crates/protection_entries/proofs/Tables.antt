@@ -1,21 +1,18 @@
--- What a default change leaves of the tables (01, "Defaults"): the target VTL's overlays alone are written, and the first piece is the same before and
--- after. Assumes nothing.
-use mathlib.Core.Path.{_≡_, refl, ap, _∙_}
+-- The overlays of the target VTL once a default change has renewed them (01, "Defaults"). Assumes nothing.
+use mathlib.Core.Path.{_≡_, refl, _∙_}
 use mathlib.Core.Bool.{Bool, true, false, cond}
 use mathlib.Core.List.{List}
 use Prim.Native.Nat.{ℕ, zero, suc, _+_}
 use lib.ListN.{length, getD, set, length-set}
 use Rattle.layout.specs.declared.MemoryRangeWithNode.{MemoryRangeWithNode}
 use Rattle.permissions.specs.declared.GuestVtl.{GuestVtl}
-use Rattle.permissions.specs.declared.GuestVtl.the-variants.{Vtl0, Vtl1}
 use Rattle.overlay_table.specs.Overlays.{used}
-use Rattle.default_change.specs.Pieces.{privateRam, nextPiece}
+use Rattle.default_change.specs.Pieces.{privateRam}
 use Rattle.default_change.specs.Renewed.{renewedAt, renewedFrom, renewed}
-use Rattle.default_change.proofs.Table.{piece-renewed}
 use Rattle.protector_state.specs.State.{entriesIn}
-use Rattle.protector.specs.World.{tablesLen, overlaysOf, locksOf}
-use Rattle.protector.proofs.Tables.{overlays-long, overlays-written, locks-kept, vtl1-kept, vtl0-kept}
-use Rattle.protection_entries.specs.Calls.{renewedTables, firstPiece}
+use Rattle.call_refusals.specs.World.{tablesLen, overlaysOf}
+use Rattle.protector.proofs.Tables.{overlays-long, overlays-written}
+use Rattle.protection_entries.specs.Calls.{renewedTables}
 
 -- ---- renewed overlays are as many words
 
@@ -38,17 +35,3 @@ module _ (private s t : List ℕ) (flags : ℕ) (h : length t ≡ tablesLen) whe
 
   pub renewed-own : (v : GuestVtl) → overlaysOf (renewedTables private s t v flags) v ≡ renewed private (entriesIn s) flags (overlaysOf t v)
   renewed-own v = overlays-written t (renewed private (entriesIn s) flags (overlaysOf t v)) v h (renewed-length v)
-
-  pub renewed-other0 : overlaysOf (renewedTables private s t Vtl1 flags) Vtl0 ≡ overlaysOf t Vtl0
-  renewed-other0 = vtl0-kept t (renewed private (entriesIn s) flags (overlaysOf t Vtl1)) h (renewed-length Vtl1)
-
-  pub renewed-other1 : overlaysOf (renewedTables private s t Vtl0 flags) Vtl1 ≡ overlaysOf t Vtl1
-  renewed-other1 = vtl1-kept t (renewed private (entriesIn s) flags (overlaysOf t Vtl0)) h (renewed-length Vtl0)
-
-  pub renewed-locks : (v x : GuestVtl) → locksOf (renewedTables private s t v flags) x ≡ locksOf t x
-  renewed-locks v x = locks-kept t (renewed private (entriesIn s) flags (overlaysOf t v)) v h (renewed-length v) x
-
-  -- the pages of the entries are unchanged, so it is no matter that pieces are looked for later
-  pub renewed-piece : (v : GuestVtl) → firstPiece private s (renewedTables private s t v flags) v ≡ firstPiece private s t v
-  renewed-piece v =
-      ap (λ (o : List ℕ). nextPiece private o (entriesIn s) 0) (renewed-own v) ∙ piece-renewed private (entriesIn s) flags (overlaysOf t v) private 0

@@ -1,14 +1,13 @@
 -- The protection change and the default change, each as a definition of what it gives (01, "Defaults", "The request under way", its last paragraph,
 -- refusals 4, 5, 7, 8, 10 to 12, 19 and 20, and the order of refusals).
-use mathlib.Core.Bool.{Bool, true, not, cond}
+use mathlib.Core.Bool.{Bool, true, cond}
 use mathlib.Core.List.{List}
 use Prim.Native.Nat.{ℕ, _+_}
-use lib.Dec.{eqb}
 use lib.ListN.{length, set}
 use Rattle.abi.specs.Places as place
 use Rattle.abi.specs.Refusals as refusal
 use Rattle.bitmap.specs.Pages.{bitAt}
-use Rattle.laws.specs.Refusal.{unless}
+use Rattle.laws.specs.Refusal.{unless, when, first}
 use Rattle.permissions.specs.declared.GuestVtl.{GuestVtl}
 use Rattle.permissions.specs.Flags.{fitVtl, vtlOf, vtlNumber, fitFlags}
 use Rattle.page_list.specs.declared.PageRun.{PageRun}
@@ -19,20 +18,20 @@ use Rattle.default_change.specs.Barred as barring
 use Rattle.default_change.specs.Renewed.{renewed}
 use Rattle.change_steps.specs.declared.ChangeStep.{ChangeStep}
 use Rattle.change_steps.specs.Changes as changes
-use Rattle.protector_state.specs.State.{stateLen, settingsOf, entriesIn}
-use Rattle.protector.specs.World.{World, Outcome, world, overlaysOf, locksOf, fits, statusIn, withOverlays}
-use Rattle.protector.specs.Calls.{decided, refusedBy, carriedChange, pageRefusal, firstRefusal}
+use Rattle.protector_state.specs.State.{settingsOf, entriesIn}
+use Rattle.call_refusals.specs.World.{World, Outcome, world, overlaysOf, locksOf, fits}
+use Rattle.protector.specs.Writes.{withOverlays}
+use Rattle.protector.specs.Calls.{decided, refusedBy, carriedChange}
+use Rattle.call_refusals.specs.Refusals.{ready, pageRefusal, firstRefusal}
 
 -- ---- a default change: 4, 20, 19, 4, 8
 
 unfoldable pub defaultRefusal : List ℕ → Bool → ℕ → ℕ → ℕ
 defaultRefusal s fit vtl flags =
-    unless (eqb (length s) stateLen) refusal.wrongLength
-    (unless (eqb (statusIn s) 0) (statusIn s)
-    (unless fit refusal.wrongLength
+    ready s fit
     (unless (fitVtl vtl) refusal.unfitNumber
     (unless (fitFlags flags) refusal.unfitNumber
-    0))))
+    0))
 
 -- the default is stored before locks are looked at ("Defaults"): that of VTL1 stands behind that of VTL0
 abbrev pub storedDefault : List ℕ → GuestVtl → ℕ → List ℕ
@@ -79,20 +78,18 @@ eachRefusal s tables v l = firstRefusal (pageRefusal (entriesIn s) (overlaysOf t
 
 abbrev pub pagesRefusal : List ℕ → List ℕ → List ℕ → GuestVtl → List ℕ → ℕ
 pagesRefusal s shared tables v l =
-    unless (eqb (eachRefusal s tables v l) 0) (eachRefusal s tables v l)
-    (unless (not (anyShared shared (pagesOf l))) refusal.shared
+    first (eachRefusal s tables v l)
+    (when (anyShared shared (pagesOf l)) refusal.shared
     0)
 
 unfoldable pub protectionRefusal : List ℕ → Bool → List ℕ → List ℕ → ℕ → ℕ → List ℕ → ℕ
 protectionRefusal s fit shared tables vtl flags l =
-    unless (eqb (length s) stateLen) refusal.wrongLength
-    (unless (eqb (statusIn s) 0) (statusIn s)
-    (unless fit refusal.wrongLength
-    (unless (not (isLong l)) refusal.longList
+    ready s fit
+    (when (isLong l) refusal.longList
     (unless (fitVtl vtl) refusal.unfitNumber
     (unless (fitFlags flags) refusal.unfitNumber
-    (unless (not (isRagged l)) refusal.unfitNumber
-    (pagesRefusal s shared tables (vtlOf vtl) l)))))))
+    (when (isRagged l) refusal.unfitNumber
+    (pagesRefusal s shared tables (vtlOf vtl) l)))))
 
 -- all listed pages with their places, in list order
 abbrev pub allListed : List ℕ → List ℕ → List ℕ

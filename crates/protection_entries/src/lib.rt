@@ -7,54 +7,28 @@ ghost use Rattle.page_list.specs.Pages.{pagesOf};
 ghost use Rattle.mapping.specs.Maps.{maps, perms};
 ghost use Rattle.protector_state.specs.State.{stateLen, settingsOf};
 ghost use Rattle.protector_state.specs.Reply.{flatOf};
-ghost use Rattle.change_state.specs.State.{withChange};
-ghost use Rattle.protector.specs.World.{world, outcome, tablesLen, lengthsFit, permittedRun};
+ghost use Rattle.protector_state.specs.Changing.{withChange};
+ghost use Rattle.call_refusals.specs.World.{world, outcome, tablesLen, fitsIn};
+ghost use Rattle.protector.specs.Writes.{permittedRun};
 ghost use Rattle.protection_entries.specs.Calls.{defaultRefusal, storedDefault, barred, renewedTables, firstPiece, defaultStep, defaultOf, anyShared, pagesRefusal, protectionRefusal, protectionStep, protectionOf};
-use abi::STATE_WORDS;
 use abi::place;
 use abi::refusal;
 use abi::table;
+use call_refusals::Lengths;
 use change_steps::ChangeStep;
+use mapping::MapLengths;
 use page_list::PageRun;
 use permissions::GuestVtl;
 use permissions::HvMapGpaFlags;
 use protector_state::Reply;
 
 // The number that refuses a default change: 0 where none does.
-fn default_refusal(
-    state: &[u64],
-    private: u64,
-    shared: u64,
-    read: u64,
-    write: u64,
-    kernel: u64,
-    user: u64,
-    pages: u64,
-    tables: u64,
-    vtl: u64,
-    flags: u64,
-) -> u64
-    ensures { λ r. ⌜ r ≡ defaultRefusal (now (state .entry)) (lengthsFit (now (state .entry)) private shared read write kernel user pages tables) vtl flags ⌝ }
+fn default_refusal(state: &[u64], lengths: Lengths, vtl: u64, flags: u64) -> u64
+    ensures { λ r. ⌜ r ≡ defaultRefusal (now (state .entry)) (fitsIn (now (state .entry)) lengths) vtl flags ⌝ }
 {
-    if state.len() != STATE_WORDS {
-        return refusal::WRONG_LENGTH;
-    }
-    let busy = protector::status(state);
-    if busy != 0 {
-        return busy;
-    }
-    if !protector::lengths_fit(
-        state,
-        private,
-        shared,
-        read,
-        write,
-        kernel,
-        user,
-        pages,
-        tables,
-    ) {
-        return refusal::WRONG_LENGTH;
+    let n = call_refusals::lent_refusal(state, lengths);
+    if n != 0 {
+        return n;
     }
     if !permissions::is_vtl(vtl) {
         return refusal::UNFIT_NUMBER;
@@ -81,8 +55,8 @@ fn is_barred(private: &[u8], state: &[u64], tables: &[u64], vtl: GuestVtl) -> bo
 {
     default_change::is_barred(
         private,
-        protector::overlays_of(tables, vtl),
-        protector::locks_of(tables, vtl),
+        call_refusals::overlays_of(tables, vtl),
+        call_refusals::locks_of(tables, vtl),
         protector_state::ram_of(state),
     )
 }
@@ -116,7 +90,7 @@ fn first_piece(private: &[u8], state: &[u64], tables: &[u64], vtl: GuestVtl) -> 
 {
     default_change::next_piece(
         private,
-        protector::overlays_of(tables, vtl),
+        call_refusals::overlays_of(tables, vtl),
         protector_state::ram_of(state),
         0,
     )
@@ -159,7 +133,7 @@ fn carry_out(
     let run = x.written;
     let flags = HvMapGpaFlags::from_bits(change.flags);
     change_writes::permit(read, write, kernel, user, run, flags);
-    change_state::save(state, stage, change);
+    protector_state::change::save(state, stage, change);
     protector_state::flatten(isolation, answer)
 }
 
@@ -181,19 +155,19 @@ pub extern "C" fn protector_change_default_vtl_protections(
 ) -> Reply
     ensures { λ r. ⌜ outcome (maps (now (private .entry)) (now (shared .entry)) (now (read .exit)) (now (write .exit)) (now (kernel .exit)) (now (user .exit))) (now (state .exit)) (now (pages .entry)) (now (tables .exit)) r ≡ defaultOf (world (maps (now (private .entry)) (now (shared .entry)) (now (read .entry)) (now (write .entry)) (now (kernel .entry)) (now (user .entry))) (now (state .entry)) (now (pages .entry)) (now (tables .entry))) vtl flags ⌝ }
 {
-    let n = default_refusal(
-        state,
-        private.len() as u64,
-        shared.len() as u64,
-        read.len() as u64,
-        write.len() as u64,
-        kernel.len() as u64,
-        user.len() as u64,
-        pages.len() as u64,
-        tables.len() as u64,
-        vtl,
-        flags,
-    );
+    let lengths = Lengths {
+        maps: MapLengths {
+            private: private.len() as u64,
+            shared: shared.len() as u64,
+            read: read.len() as u64,
+            write: write.len() as u64,
+            kernel: kernel.len() as u64,
+            user: user.len() as u64,
+        },
+        pages: pages.len() as u64,
+        tables: tables.len() as u64,
+    };
+    let n = default_refusal(state, lengths, vtl, flags);
     if n != 0 {
         return protector_state::refused(n);
     }
@@ -228,12 +202,11 @@ fn pages_refusal(state: &[u64], shared: &[u8], tables: &[u64], vtl: GuestVtl, li
     requires { ⌜ (length (now state) ≡ stateLen) × (length (now tables) ≡ tablesLen) ⌝ }
     ensures { λ r. ⌜ r ≡ pagesRefusal (now (state .entry)) (now (shared .entry)) (now (tables .entry)) vtl (now (list .entry)) ⌝ }
 {
-    let each = protector::listed_refusal(state, tables, vtl, true, list);
-    let any = is_any_shared(shared, list);
-    if each != 0 {
-        return each;
+    let n = call_refusals::listed_refusal(state, tables, vtl, true, list);
+    if n != 0 {
+        return n;
     }
-    if any {
+    if is_any_shared(shared, list) {
         return refusal::SHARED;
     }
     0
@@ -242,41 +215,19 @@ fn pages_refusal(state: &[u64], shared: &[u8], tables: &[u64], vtl: GuestVtl, li
 // The number that refuses a protection change: 0 where none does.
 fn protection_refusal(
     state: &[u64],
-    private: u64,
+    lengths: Lengths,
     shared: &[u8],
-    read: u64,
-    write: u64,
-    kernel: u64,
-    user: u64,
-    pages: u64,
     tables: &[u64],
     vtl: u64,
     flags: u64,
     list: &[u8],
 ) -> u64
-    ensures { λ r. ⌜ r ≡ protectionRefusal (now (state .entry)) (lengthsFit (now (state .entry)) private (length (now (shared .entry))) read write kernel user pages (length (now (tables .entry)))) (now (shared .entry)) (now (tables .entry)) vtl flags (now (list .entry)) ⌝ }
+    requires { ⌜ lengths .tables ≡ length (now tables) ⌝ }
+    ensures { λ r. ⌜ r ≡ protectionRefusal (now (state .entry)) (fitsIn (now (state .entry)) lengths) (now (shared .entry)) (now (tables .entry)) vtl flags (now (list .entry)) ⌝ }
 {
-    if state.len() != STATE_WORDS {
-        return refusal::WRONG_LENGTH;
-    }
-    let busy = protector::status(state);
-    if busy != 0 {
-        return busy;
-    }
-    let marks = shared.len() as u64;
-    let held = tables.len() as u64;
-    if !protector::lengths_fit(
-        state,
-        private,
-        marks,
-        read,
-        write,
-        kernel,
-        user,
-        pages,
-        held,
-    ) {
-        return refusal::WRONG_LENGTH;
+    let n = call_refusals::lent_refusal(state, lengths);
+    if n != 0 {
+        return n;
     }
     if page_list::is_long(list) {
         return refusal::LONG_LIST;
@@ -322,20 +273,19 @@ pub extern "C" fn protector_change_vtl_protections(
 ) -> Reply
     ensures { λ r. ⌜ outcome (maps (now (private .entry)) (now (shared .entry)) (now (read .exit)) (now (write .exit)) (now (kernel .exit)) (now (user .exit))) (now (state .exit)) (now (pages .exit)) (now (tables .entry)) r ≡ protectionOf (world (maps (now (private .entry)) (now (shared .entry)) (now (read .entry)) (now (write .entry)) (now (kernel .entry)) (now (user .entry))) (now (state .entry)) (now (pages .entry)) (now (tables .entry))) vtl flags (now (list .entry)) ⌝ }
 {
-    let n = protection_refusal(
-        state,
-        private.len() as u64,
-        shared,
-        read.len() as u64,
-        write.len() as u64,
-        kernel.len() as u64,
-        user.len() as u64,
-        pages.len() as u64,
-        tables,
-        vtl,
-        flags,
-        list,
-    );
+    let lengths = Lengths {
+        maps: MapLengths {
+            private: private.len() as u64,
+            shared: shared.len() as u64,
+            read: read.len() as u64,
+            write: write.len() as u64,
+            kernel: kernel.len() as u64,
+            user: user.len() as u64,
+        },
+        pages: pages.len() as u64,
+        tables: tables.len() as u64,
+    };
+    let n = protection_refusal(state, lengths, shared, tables, vtl, flags, list);
     if n != 0 {
         return protector_state::refused(n);
     }

@@ -3,18 +3,11 @@ use native.Mathlib.Omega.{arith}
 use mathlib.Core.Path.{_≡_, refl, sym, ap, ap₂, _∙_}
 use mathlib.Core.Bool.{Bool, true, false, cond, _&&_}
 use mathlib.Core.List.{List}
-use Prim.Native.Nat.{ℕ, _+_, _≤_, _<_}
-use native.Mathlib.Numerals.{add-one}
-use lib.Dec.{eqb}
-use lib.ListN.{length, getD, drop, drop-of-length-le}
-use lib.Seq.{drop-cons}
-use borrow.Author.Tests.{eq-eqb, ne-eqb, eqb-true, leb-true}
+use Prim.Native.Nat.{ℕ, _≤_}
+use borrow.Author.Tests.{leb-true}
 use Rattle.laws.specs.Bools.{and-left, and-right, false≢true}
 use Rattle.laws.specs.Refusal.{refused, answered}
-use Rattle.layout.specs.Layout.{entriesOf, mapLen}
-use Rattle.permissions.specs.declared.GuestVtl.{GuestVtl}
-use Rattle.page_list.specs.Pages.{pagesOf}
-use Rattle.mapping.specs.Maps.{Permissions, Maps, perms, maps, marksFit, permissionLen, permissionsFit}
+use Rattle.mapping.specs.Maps.{Permissions, Maps, perms, maps}
 use Rattle.permissions.specs.declared.HvMapGpaFlags.{HvMapGpaFlags}
 use Rattle.permissions.specs.Flags.{noFlags}
 use Rattle.permissions.specs.HvError.{codeOf}
@@ -32,10 +25,11 @@ use Rattle.visibility_steps.specs.Next.{isDefault0, runIn, answerBy, requestBy,
 use Rattle.visibility_steps.specs.declared.Writes.{Writes}
 use Rattle.protector_state.specs.declared.Reply.{Reply}
 use Rattle.protector_state.specs.Reply.{finished, flatOf}
-use Rattle.protector_state.specs.State.{phaseIn, requestOf, withRequest, settingsOf, ramOf, entriesIn}
+use Rattle.protector_state.specs.State.{phaseIn, requestOf, withRequest}
 use Rattle.request_pages.proofs.Runs.{put-none, end-none}
-use Rattle.protector.specs.World.{World, Outcome, outcome, fits, pagesLen, tablesLen, overlaysOf, locksOf, lengthsFit, putPlaces, putPermissions, applied, isEmpty, isNothing}
-use Rattle.protector.specs.Calls.{pageRefusal, firstRefusal, decided, refusedBy}
+use Rattle.call_refusals.specs.World.{World, Outcome, outcome}
+use Rattle.protector.specs.Writes.{putPlaces, putPermissions, applied, isEmpty, isNothing}
+use Rattle.protector.specs.Calls.{decided, refusedBy}
 
 -- ---- a call refused, and one that isn't
 
@@ -45,63 +39,6 @@ module _ (w : World) (n x : ℕ) (e : n ≡ x) (taken : Outcome) where
 
   pub call-taken : (o : Outcome) → n ≡ 0 → o ≡ taken → o ≡ decided w x taken
   call-taken o h q = answered n x e taken o (refusedBy w) h q
-
--- ---- the first page that is refused
-
-module _ (f : ℕ → ℕ) (ps : List ℕ) (i p n : ℕ) (h : i < length ps) (e : p ≡ getD ps i 0) (g : n ≡ f p) where
-  first-step : firstRefusal f (drop i ps) ≡ cond (eqb n 0) (firstRefusal f (drop (i + 1) ps)) n
-  unfolding firstRefusal
-  first-step = ap (firstRefusal f) (drop-cons ps i 0 h) ∙ rw (← e, ← g, add-one i)
-
-  pub first-hit : (n ≡ 0 → ⊥) → firstRefusal f (drop i ps) ≡ n
-  first-hit d = first-step ∙ ap (λ (b : Bool). cond b (firstRefusal f (drop (i + 1) ps)) n) (ne-eqb n 0 d)
-
-  pub first-miss : n ≡ 0 → firstRefusal f (drop i ps) ≡ firstRefusal f (drop (i + 1) ps)
-  first-miss d = first-step ∙ ap (λ (b : Bool). cond b (firstRefusal f (drop (i + 1) ps)) n) (eq-eqb n 0 d)
-
-pub first-end : (f : ℕ → ℕ) (ps : List ℕ) (i : ℕ) → length ps ≤ i → firstRefusal f (drop i ps) ≡ 0
-unfolding firstRefusal
-first-end f ps i h = ap (firstRefusal f) (drop-of-length-le ps {i = i} h)
-
--- ---- lengths
-
-pub maps-fit : (s : List ℕ) (private shared read write kernel user len : ℕ) (x : Bool) → len ≡ mapLen (entriesIn s)
-    → x ≡ (marksFit len private shared && permissionsFit (permissionLen len (settingsOf s .tracked)) read write kernel user)
-    → x ≡ (marksFit (mapLen (entriesIn s)) private shared && permissionsFit (permissionLen (mapLen (entriesIn s)) (settingsOf s .tracked)) read write kernel user)
-maps-fit s private shared read write kernel user len x e f =
-    f ∙ ap (λ (n : ℕ). marksFit n private shared && permissionsFit (permissionLen n (settingsOf s .tracked)) read write kernel user) e
-
--- ---- the layout and the tables that a call looks at
-
-pub tables-are : (t s ram o l : List ℕ) (x v : GuestVtl) → ram ≡ ramOf s → o ≡ overlaysOf t x → l ≡ locksOf t x → x ≡ v → (share : Bool) (list : List ℕ)
-    → firstRefusal (pageRefusal (entriesOf ram) o l share) (pagesOf list) ≡ firstRefusal (pageRefusal (entriesIn s) (overlaysOf t v) (locksOf t v) share) (pagesOf list)
-tables-are t s ram o l x v a b d e share list = rw (a, b, d, e) refl
-
-module _ (s : List ℕ) (private shared read write kernel user pages tables : ℕ) (h : lengthsFit s private shared read write kernel user pages tables ≡ true) where
-  blocks : (eqb pages pagesLen && eqb tables tablesLen) ≡ true
-  blocks =
-      and-right (marksFit (mapLen (entriesIn s)) private shared && permissionsFit (permissionLen (mapLen (entriesIn s)) (settingsOf s .tracked)) read write kernel user)
-      (eqb pages pagesLen && eqb tables tablesLen) h
-
-  pub pages-fit : pages ≡ pagesLen
-  pages-fit = eqb-true pages pagesLen (and-left (eqb pages pagesLen) (eqb tables tablesLen) blocks)
-
-  pub tables-fit : tables ≡ tablesLen
-  tables-fit = eqb-true tables tablesLen (and-right (eqb pages pagesLen) (eqb tables tablesLen) blocks)
-
-module _ (w : World) (h : fits w ≡ true) where
-  fits-blocks : (length (w .pages) ≡ pagesLen) × (length (w .tables) ≡ tablesLen)
-  fits-blocks =
-      let m = w .maps in let p = m .permissions in (
-        pages-fit (w .state) (length (m .private)) (length (m .shared)) (length (p .read)) (length (p .write)) (length (p .kernel)) (length (p .user)) (length (w .pages)) (length (w .tables)) h,
-        tables-fit (w .state) (length (m .private)) (length (m .shared)) (length (p .read)) (length (p .write)) (length (p .kernel)) (length (p .user)) (length (w .pages)) (length (w .tables)) h,
-      )
-
-  pub fits-pages : length (w .pages) ≡ pagesLen
-  fits-pages = fits-blocks .0
-
-  pub fits-tables : length (w .tables) ≡ tablesLen
-  fits-tables = fits-blocks .1
 
 -- ---- what a step writes
 

@@ -1,35 +1,33 @@
 -- A build, a visibility change and the answers to all requests, each as a definition of what it gives (01, "The request under way", "From the input", "From the state", and the order of refusals).
-use mathlib.Core.Bool.{Bool, true, false, cond, not, _&&_}
-use mathlib.Core.List.{List, [], _∷_}
+use mathlib.Core.Bool.{Bool, true, false, cond, _&&_}
+use mathlib.Core.List.{List}
 use Prim.Native.Nat.{ℕ}
 use lib.Dec.{eqb, ltb}
 use lib.ListN.{length, take, replicate}
-use Rattle.abi.specs.Refusals as refusal
-use Rattle.laws.specs.Refusal.{unless}
 use Rattle.layout.specs.declared.MemoryRangeWithNode.{MemoryRangeWithNode}
-use Rattle.layout.specs.Layout.{entriesOf, refusalOf, isRam, mapLen}
+use Rattle.layout.specs.Layout.{entriesOf, mapLen}
 use Rattle.permissions.specs.declared.GuestVtl.{GuestVtl}
 use Rattle.permissions.specs.declared.HvMapGpaFlags.{HvMapGpaFlags}
-use Rattle.permissions.specs.Flags.{fitVtl, vtlOf, fitIsolation, flagsOf, fitBool, boolOf}
+use Rattle.permissions.specs.Flags.{vtlOf, flagsOf, boolOf}
 use Rattle.permissions.specs.HvError.{codeOf}
-use Rattle.mapping.specs.Maps.{Maps, marksFit, permissionLen, permissionsFit, built}
+use Rattle.mapping.specs.Maps.{Maps, built}
 use Rattle.page_list.specs.declared.PageRun.{PageRun}
-use Rattle.page_list.specs.Pages.{pagesOf, isLong, repeats, isRagged}
+use Rattle.page_list.specs.Pages.{pagesOf}
 use Rattle.request_pages.specs.Request.{pick, tableOf, stopAt, isOpen, wanted}
-use Rattle.overlay_table.specs.Overlays.{isOverlay}
 use Rattle.default_change.specs.Pieces.{nextPiece}
 use Rattle.visibility_steps.specs.declared.Settings.{Settings}
 use Rattle.visibility_steps.specs.declared.Step.{Step}
 use Rattle.visibility_steps.specs.Steps.{isVtl0, startOf, doneOf, failedOf}
 use Rattle.change_steps.specs.declared.Stage.{Stage}
 use Rattle.change_steps.specs.declared.Stage.the-variants as stage
-use Rattle.change_steps.specs.declared.Change.{Change}
 use Rattle.change_steps.specs.declared.ChangeStep.{ChangeStep}
 use Rattle.change_steps.specs.Changes as changes
-use Rattle.protector_state.specs.State.{stateLen, phaseIn, requestOf, withRequest, settingsOf, entriesIn, builtState}
+use Rattle.protector_state.specs.State.{phaseIn, requestOf, withRequest, settingsOf, entriesIn, builtState}
 use Rattle.protector_state.specs.Reply.{finished, flatOf}
-use Rattle.change_state.specs.State.{stageIn, isChanging, changeIn, withChange}
-use Rattle.protector.specs.World.{World, Outcome, outcome, pagesLen, tablesLen, overlaysOf, locksOf, isLocked, fits, statusIn, takesIn, applied, permittedRun, entered}
+use Rattle.protector_state.specs.Changing.{stageIn, isChanging, changeIn, withChange}
+use Rattle.call_refusals.specs.World.{World, Outcome, outcome, overlaysOf, lengthsIn, fits}
+use Rattle.call_refusals.specs.Refusals.{buildFits, buildRefusal, visibilityRefusal, answerRefusal}
+use Rattle.protector.specs.Writes.{applied, permittedRun, entered}
 
 -- a call refused by the number n changes nothing; else it gives what it does
 abbrev pub refusedBy : World → ℕ → Outcome
@@ -53,25 +51,7 @@ carriedChange w table x =
     outcome (withPermissions (w .maps) (x .written) (flagsOf (x .change .flags))) (withChange (x .stage) (x .change) (w .state)) table
     (entered (x .entry) (x .change) (w .tables)) (flatOf (settingsOf (w .state) .isolation) (x .answer))
 
--- ---- build: 1, 2, 3, 4, 8; where `tracked` is unfit no permission map has a length to be tested
-
-abbrev pub permissionMapsFit : ℕ → ℕ → ℕ → ℕ → ℕ → ℕ → Bool
-permissionMapsFit len tracked read write kernel user = cond (fitBool tracked) (permissionsFit (permissionLen len (boolOf tracked)) read write kernel user) true
-
-abbrev pub buildFits : ℕ → ℕ → World → Bool
-buildFits len tracked w =
-    marksFit len (length (w .maps .private)) (length (w .maps .shared))
-    && (permissionMapsFit len tracked (length (w .maps .permissions .read)) (length (w .maps .permissions .write)) (length (w .maps .permissions .kernel)) (length (w .maps .permissions .user))
-    && (eqb (length (w .state)) stateLen && (eqb (length (w .pages)) pagesLen && eqb (length (w .tables)) tablesLen)))
-
-unfoldable pub buildRefusal : List ℕ → ℕ → ℕ → ℕ → Bool → ℕ
-buildRefusal ram isolation tracked release fit =
-    unless (eqb (refusalOf ram) 0) (refusalOf ram)
-    (unless (fitIsolation isolation) refusal.unfitIsolation
-    (unless fit refusal.wrongLength
-    (unless (fitBool tracked) refusal.unfitNumber
-    (unless (fitBool release) refusal.unfitNumber
-    0))))
+-- ---- build
 
 -- every map, the state and the tables as a build leaves them, whatever they held
 unfoldable pub buildTaken : World → List ℕ → ℕ → ℕ → ℕ → Outcome
@@ -81,34 +61,9 @@ buildTaken w ram isolation tracked release =
 
 unfoldable pub buildOf : World → List ℕ → ℕ → ℕ → ℕ → Outcome
 buildOf w ram isolation tracked release =
-    decided w (buildRefusal ram isolation tracked release (buildFits (mapLen (entriesOf ram)) tracked w)) (buildTaken w ram isolation tracked release)
+    decided w (buildRefusal ram isolation tracked release (buildFits (mapLen (entriesOf ram)) tracked (length (w .state)) (lengthsIn w))) (buildTaken w ram isolation tracked release)
 
--- ---- a visibility change: each page in turn, 7 where it isn't RAM, 10 where it is locked, 11 where an overlay is to be shared
-
-abbrev pub pageRefusal : List MemoryRangeWithNode → List ℕ → List ℕ → Bool → ℕ → ℕ
-pageRefusal es overlays locks share p =
-    unless (isRam es p) refusal.notRam
-    (unless (not (isLocked overlays locks p)) refusal.locked
-    (unless (not (share && isOverlay overlays p)) refusal.overlay
-    0))
-
--- the number of the first page that is refused
-unfoldable pub firstRefusal : (ℕ → ℕ) → List ℕ → ℕ
-firstRefusal f [] = 0
-firstRefusal f (p ∷ ps) = cond (eqb (f p) 0) (firstRefusal f ps) (f p)
-
--- a visibility as it crosses: private 0, shared 1
-unfoldable pub visibilityRefusal : List ℕ → Bool → List ℕ → ℕ → ℕ → List ℕ → ℕ
-visibilityRefusal s fit tables vtl visibility l =
-    unless (eqb (length s) stateLen) refusal.wrongLength
-    (unless (eqb (statusIn s) 0) (statusIn s)
-    (unless fit refusal.wrongLength
-    (unless (not (isLong l)) refusal.longList
-    (unless (not (repeats (pagesOf l))) refusal.repeatedPage
-    (unless (fitVtl vtl) refusal.unfitNumber
-    (unless (fitBool visibility) refusal.unfitNumber
-    (unless (not (isRagged l)) refusal.unfitNumber
-    (firstRefusal (pageRefusal (entriesIn s) (overlaysOf tables (vtlOf vtl)) (locksOf tables (vtlOf vtl)) (boolOf visibility)) (pagesOf l)))))))))
+-- ---- a visibility change
 
 -- whether the permission maps are looked at: a share that VTL0 asks for, once protections are enabled
 abbrev pub looksAt : Settings → GuestVtl → Bool → Bool
@@ -134,15 +89,7 @@ visibilityTaken w v share l =
 unfoldable pub visibilityOf : World → ℕ → ℕ → List ℕ → Outcome
 visibilityOf w vtl visibility l = decided w (visibilityRefusal (w .state) (fits w) (w .tables) vtl visibility l) (visibilityTaken w (vtlOf vtl) (boolOf visibility) l)
 
--- ---- the answer: 20, 4, 21, else taken
-
-unfoldable pub answerRefusal : List ℕ → Bool → Bool → ℕ
-answerRefusal s fit failed =
-    unless (eqb (length s) stateLen) refusal.wrongLength
-    (unless (not (eqb (statusIn s) refusal.halted)) refusal.halted
-    (unless fit refusal.wrongLength
-    (unless (takesIn s failed) refusal.nothingAsked
-    0)))
+-- ---- the answer
 
 -- what waits is a default change's Protect: its next piece
 abbrev pub pieceAfter : Stage → List ℕ → List ℕ → List MemoryRangeWithNode → ℕ → PageRun

@@ -1,2 +1,2 @@
-pub mod World
+pub mod Writes
 pub mod Calls

@@ -19,6 +19,7 @@ use Rattle.visibility_steps.specs.declared.Answer.the-variants.{Done, AccessDen
 use Rattle.visibility_steps.specs.declared.Request.{Request}
 use Rattle.visibility_steps.specs.Steps.{isSnp}
 use Rattle.protector_state.specs.declared.Reply.{Reply}
+use Rattle.protector_state.specs.declared.Value.{Value}
 
 -- a call refused or finished: the number, its code, its index, the count
 abbrev pub finished : ℕ → ℕ → ℕ → ℕ → Reply
@@ -72,3 +73,7 @@ endedOf q =
     cond (q .stopped) (finished refusal.accessDenied (codeOf refusal.accessDenied) (q .index) (q .count))
     (cond (q .failed) (finished refusal.backendFailed (q .code) (q .index) (q .count))
     (finished 0 0 0 (q .count)))
+
+-- what crosses for a reading: a number, 0 where none, and the value
+abbrev pub value : ℕ → ℕ → Value
+value n v = record { number = n; value = v }

@@ -10,7 +10,10 @@ ghost use Rattle.visibility_steps.specs.Next.{answerBy};
 ghost use Rattle.permissions.specs.HvError.{codeOf};
 ghost use Rattle.permissions.specs.Rmpadjust.{operandOf};
 ghost use Rattle.protector_state.specs.State.{stateLen, phaseNumber, firstPhases, phaseOf, phaseIn, requestOf, withRequest, optionOf, settingsOf, ramOf, builtState};
-ghost use Rattle.protector_state.specs.Reply.{finished, plain, onVtl, onRun, protects, modifies, askedOf, endedOf, flatOf};
+ghost use Rattle.protector_state.specs.Reply.{finished, plain, onVtl, onRun, protects, modifies, askedOf, endedOf, flatOf, value};
+
+pub mod change;
+
 use abi::ALL_FLAGS;
 use abi::NO_FLAGS;
 use abi::RAM_ENTRY_WORDS;
@@ -49,6 +52,13 @@ pub struct Reply {
     pub shared: u64,
 }
 
+// 01's number (0 where none), and the value: an action, flags, or the code of a refusal.
+#[repr(C)]
+pub struct Value {
+    pub number: u64,
+    pub value: u64,
+}
+
 // A call that ended, with its number, code, index and count; nothing is asked for.
 pub fn finished(number: u64, code: u64, index: u64, count: u64) -> Reply
     ensures { λ r. ⌜ r ≡ finished number code index count ⌝ }
@@ -73,6 +83,26 @@ pub fn refused(number: u64) -> Reply
     ensures { λ r. ⌜ r ≡ finished number (codeOf number) 0 0 ⌝ }
 {
     finished(number, permissions::hv_error(number), 0, 0)
+}
+
+// A reading that a number refuses, with its code.
+pub fn refused_value(number: u64) -> Value
+    ensures { λ r. ⌜ r ≡ value number (codeOf number) ⌝ }
+{
+    Value {
+        number: number,
+        value: permissions::hv_error(number),
+    }
+}
+
+// What a reading gives.
+pub fn ok_value(v: u64) -> Value
+    ensures { λ r. ⌜ r ≡ value 0 v ⌝ }
+{
+    Value {
+        number: 0,
+        value: v,
+    }
 }
 
 // An operation is asked for that names neither a VTL nor pages.

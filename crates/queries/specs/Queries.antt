@@ -1,13 +1,13 @@
 -- Faults and queries of the protector's block (01, "Bitmaps", "From the input" 4, 5, 7 and 8, "From the state" 24). A fault and the permission queries
 -- look at no request: they have no 19 and no 20.
-use mathlib.Core.Bool.{cond, not}
+use mathlib.Core.Bool.{cond}
 use mathlib.Core.List.{List, [], _∷_}
 use Prim.Native.Nat.{ℕ}
 use lib.Dec.{eqb, ltb}
 use lib.ListN.{length}
 use Rattle.abi.specs.Refusals as refusal
 use Rattle.laws.specs.Bools.{digit}
-use Rattle.laws.specs.Refusal.{unless}
+use Rattle.laws.specs.Refusal.{when}
 use Rattle.bitmap.specs.Pages.{bitAt}
 use Rattle.layout.specs.Layout.{isRam, mapLen}
 use Rattle.permissions.specs.HvError.{codeOf}
@@ -22,20 +22,18 @@ use Rattle.page_list.specs.Pages.{pagesOf, isLong, isRagged}
 use Rattle.request_pages.specs.Request.{stopAt}
 use Rattle.protector_state.specs.declared.Reply.{Reply}
 use Rattle.protector_state.specs.State.{stateLen, settingsOf, entriesIn}
-use Rattle.protector_state.specs.Reply.{finished}
-use Rattle.protector.specs.World.{statusIn}
-use Rattle.queries.specs.declared.Value.{Value}
+use Rattle.protector_state.specs.Reply.{finished, value}
+use Rattle.call_refusals.specs.Refusals.{ready}
+use Rattle.protector_state.specs.declared.Value.{Value}
 
 -- ---- query_host_visibility: 20, 19, 4, 5, 8, then 7 at its own index
 
 unfoldable pub queryRefusal : List ℕ → ℕ → List ℕ → ℕ
 queryRefusal s shared l =
-    unless (eqb (length s) stateLen) refusal.wrongLength
-    (unless (eqb (statusIn s) 0) (statusIn s)
-    (unless (eqb shared (mapLen (entriesIn s))) refusal.wrongLength
-    (unless (not (isLong l)) refusal.longList
-    (unless (not (isRagged l)) refusal.unfitNumber
-    0))))
+    ready s (eqb shared (mapLen (entriesIn s)))
+    (when (isLong l) refusal.longList
+    (when (isRagged l) refusal.unfitNumber
+    0))
 
 -- how many of the pages come before the first that isn't RAM
 abbrev pub ramBefore : List ℕ → List ℕ → ℕ
@@ -71,9 +69,6 @@ queryOf s shared l out =
     (query out (finished (queryRefusal s (length shared) l) (codeOf (queryRefusal s (length shared) l)) 0 0))
 
 -- ---- faults and permissions: 4 for a state block of another length, else as the maps have it
-
-abbrev pub value : ℕ → ℕ → Value
-value n v = record { number = n; value = v }
 
 abbrev pub faultValueOf : PageFaultAction → Value
 faultValueOf a = value (faultNumber a) (faultValue a)

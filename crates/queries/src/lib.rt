@@ -6,17 +6,10 @@ ghost use Rattle.layout.specs.Layout.{entriesOf, isRam};
 ghost use Rattle.page_list.specs.Pages.{pagesOf};
 ghost use Rattle.request_pages.specs.Request.{stopAt};
 ghost use Rattle.queries.specs.Queries.{queryRefusal, visibilities, filledBy, faultValueOf, permissionsValueOf};
-use abi::STATE_WORDS;
 use abi::refusal;
 use access::PermissionsAnswer;
 use fault::PageFaultAction;
-
-// 01's number (0 where none), and the value: an action, flags, or the code of a refusal.
-#[repr(C)]
-pub struct Value {
-    pub number: u64,
-    pub value: u64,
-}
+use protector_state::Value;
 
 pub fn fault_value(a: PageFaultAction) -> Value
     ensures { λ r. ⌜ r ≡ faultValueOf a ⌝ }
@@ -40,12 +33,9 @@ pub fn permissions_value(a: PermissionsAnswer) -> Value
 pub fn query_refusal(state: &[u64], shared: u64, list: &[u8]) -> u64
     ensures { λ r. ⌜ r ≡ queryRefusal (now (state .entry)) shared (now (list .entry)) ⌝ }
 {
-    if state.len() != STATE_WORDS {
-        return refusal::WRONG_LENGTH;
-    }
-    let busy = protector::status(state);
-    if busy != 0 {
-        return busy;
+    let n = call_refusals::state_refusal(state);
+    if n != 0 {
+        return n;
     }
     if shared != layout::map_len(protector_state::ram_of(state)) {
         return refusal::WRONG_LENGTH;

@@ -1,45 +1,40 @@
 -- Laws of the setter and the getters: one for each way out. Assumes nothing.
 use mathlib.Core.Path.{_≡_, refl, sym, ap, _∙_}
+use mathlib.Core.Bool.{true}
 use mathlib.Core.List.{List}
 use Prim.Native.Nat.{ℕ}
-use lib.Dec.{eqb}
 use lib.ListN.{length, getD, set}
-use borrow.Author.Tests.{eq-eqb, ne-eqb, eqb-true}
+use borrow.Author.Tests.{eq-eqb, ne-eqb}
 use Rattle.laws.specs.Bools.{digit}
-use Rattle.laws.specs.Refusal.{refuses, passes, passed, first-passed, refused, answered}
+use Rattle.laws.specs.Refusal.{unless, refuses, passes, refused, answered}
 use Rattle.permissions.specs.Flags.{bitsOf}
 use Rattle.permissions.specs.HvError.{codeOf}
 use Rattle.visibility_steps.specs.declared.Settings.{Settings}
 use Rattle.protector_state.specs.declared.Reply.{Reply}
 use Rattle.protector_state.specs.State.{stateLen, settingsOf}
-use Rattle.protector_state.specs.Reply.{finished}
-use Rattle.protector.specs.World.{statusIn}
-use Rattle.queries.specs.declared.Value.{Value}
-use Rattle.queries.specs.Queries.{value}
+use Rattle.protector_state.specs.Reply.{finished, value}
+use Rattle.call_refusals.proofs.Laws.{Ready, is-ready, goes-on, state-refuses, state-long, state-passes}
+use Rattle.protector_state.specs.declared.Value.{Value}
 use Rattle.setting_entries.specs.Calls.{stateRefusal, enableRefusal, enabled, enableOf, enabledIn, defaultIn}
-
-state-length : (s : List ℕ) → stateRefusal s ≡ 0 → length s ≡ stateLen
-unfolding stateRefusal
-state-length s h = eqb-true (length s) stateLen (passed (eqb (length s) stateLen) 3 (statusIn s) h .0)
 
 -- ---- refused by the state block or not
 
 module _ (s : List ℕ) (n : ℕ) (e : n ≡ stateRefusal s) where
   pub passed-length : n ≡ 0 → length s ≡ stateLen
-  passed-length z = state-length s (sym e ∙ z)
+  passed-length z = state-long s n e z
 
   pub enable-busy : (n ≡ 0 → ⊥) → n ≡ enableRefusal s
   unfolding enableRefusal
-  enable-busy h = e ∙ refuses _ _ _ (ne-eqb (stateRefusal s) 0 (λ d. h (e ∙ d)))
+  enable-busy h = state-refuses s n e true _ h
 
   module _ (z : n ≡ 0) where
     pub enable-untracked : (getD s 17 0 ≡ 1 → ⊥) → 24 ≡ enableRefusal s
     unfolding enableRefusal
-    enable-untracked h = passes _ _ _ _ (eq-eqb (stateRefusal s) 0 (sym e ∙ z)) (refuses _ _ _ (ne-eqb _ _ h))
+    enable-untracked h = state-passes s n e z true _ _ refl (refuses _ _ _ (ne-eqb _ _ h))
 
     pub enable-passes : getD s 17 0 ≡ 1 → 0 ≡ enableRefusal s
     unfolding enableRefusal
-    enable-passes h = passes _ _ _ _ (eq-eqb (stateRefusal s) 0 (sym e ∙ z)) (passes _ _ _ _ (eq-eqb _ _ h) refl)
+    enable-passes h = state-passes s n e z true _ _ refl (passes _ _ _ _ (eq-eqb _ _ h) refl)
 
   -- ---- the getters
   module _ (r : Value) where
@@ -68,12 +63,15 @@ module _ (s : List ℕ) (n : ℕ) (e : n ≡ stateRefusal s) where
 -- ---- the setter
 
 module _ (s : List ℕ) (n : ℕ) (e : n ≡ enableRefusal s) where
-  pub enable-state : n ≡ 0 → stateRefusal s ≡ 0
+  enable-ready : n ≡ 0 → Ready s true (unless (settingsOf s .tracked) 24 0)
   unfolding enableRefusal
-  enable-state z = first-passed (stateRefusal s) _ (sym e ∙ z) .0
+  enable-ready z = is-ready s true _ (sym e ∙ z)
+
+  pub enable-state : n ≡ 0 → stateRefusal s ≡ 0
+  enable-state z = sym (goes-on s true 0 0 (enable-ready z .long) (enable-ready z .idle) refl refl)
 
   pub enable-length : n ≡ 0 → length s ≡ stateLen
-  enable-length z = state-length s (enable-state z)
+  enable-length z = enable-ready z .long
 
   module _ (r : Reply) where
     pub enable-refused : (n ≡ 0 → ⊥) → r ≡ finished n (codeOf n) 0 0 → enabled s r ≡ enableOf s

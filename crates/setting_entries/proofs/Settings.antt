@@ -7,8 +7,8 @@ use lib.ListN.{getD, set, length-set}
 use lib.Seq.{getD-set-same, getD-set-other}
 use borrow.Author.Tests.{eq-eqb}
 use Rattle.protector_state.specs.State.{settingsOf}
-use Rattle.protector_state.specs.Reply.{finished}
-use Rattle.queries.specs.Queries.{value}
+use Rattle.protector_state.specs.Reply.{finished, value}
+use Rattle.call_refusals.specs.Refusals.{ready}
 use Rattle.setting_entries.specs.Calls.{stateRefusal, enableRefusal, Enabled, enabled, enableOf, enabling, enabledIn, defaultIn}
 use Rattle.setting_entries.proofs.Laws.{enable-state, enable-length}
 
@@ -35,7 +35,7 @@ module _ (s : List ℕ) (z : enableRefusal s ≡ 0) where
       ∙ rw (other-word s 16 (λ e. omega arith), other-word s 17 (λ e. omega arith), other-word s 18 (λ e. omega arith), word-19, other-word s 20 (λ e. omega arith), other-word s 21 (λ e. omega arith)) refl
 
   same-refusal : stateRefusal (set s 19 1) ≡ stateRefusal s
-  unfolding stateRefusal
+  unfolding ready
   same-refusal = rw (length-set s 19 1, other-word s 0 (λ e. omega arith)) refl
 
   not-refused : stateRefusal (set s 19 1) ≡ 0

@@ -4,7 +4,7 @@ use mathlib.Core.Bool.{true, cond}
 use mathlib.Core.List.{List}
 use Prim.Native.Nat.{ℕ}
 use lib.Dec.{eqb}
-use lib.ListN.{length, set}
+use lib.ListN.{set}
 use Rattle.abi.specs.Places as place
 use Rattle.abi.specs.Refusals as refusal
 use Rattle.laws.specs.Bools.{digit}
@@ -13,26 +13,21 @@ use Rattle.permissions.specs.Flags.{bitsOf}
 use Rattle.permissions.specs.HvError.{codeOf}
 use Rattle.visibility_steps.specs.declared.Settings.{Settings}
 use Rattle.protector_state.specs.declared.Reply.{Reply}
-use Rattle.protector_state.specs.State.{stateLen, settingsOf}
+use Rattle.protector_state.specs.State.{settingsOf}
 use Rattle.protector_state.specs.Reply.{finished}
-use Rattle.protector.specs.World.{statusIn}
-use Rattle.queries.specs.declared.Value.{Value}
-use Rattle.queries.specs.Queries.{value}
+use Rattle.call_refusals.specs.Refusals.{ready}
+use Rattle.protector_state.specs.declared.Value.{Value}
+use Rattle.protector_state.specs.Reply.{value}
 
--- ---- all three: 20, 19
+-- ---- all three: 4 of the state block, 20 or 19
 
-unfoldable pub stateRefusal : List ℕ → ℕ
-stateRefusal s =
-    unless (eqb (length s) stateLen) refusal.wrongLength
-    (statusIn s)
+abbrev pub stateRefusal : List ℕ → ℕ
+stateRefusal s = ready s true 0
 
 -- ---- the setter: then 24 where permissions aren't tracked
 
 unfoldable pub enableRefusal : List ℕ → ℕ
-enableRefusal s =
-    unless (eqb (stateRefusal s) 0) (stateRefusal s)
-    (unless (settingsOf s .tracked) refusal.untracked
-    0)
+enableRefusal s = ready s true (unless (settingsOf s .tracked) refusal.untracked 0)
 
 -- what it gives: the state block, and the reply
 pub record Enabled : Type 0 where

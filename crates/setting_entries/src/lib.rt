@@ -1,28 +1,16 @@
 // The protector's entries for VTL1's protections: the setter, its getter, and the default of VTL0. Each takes any length and any words.
 ghost use mathlib.Core.Path.{_≡_};
-ghost use Rattle.permissions.specs.HvError.{codeOf};
-ghost use Rattle.queries.specs.Queries.{value};
-ghost use Rattle.setting_entries.specs.Calls.{stateRefusal, enableRefusal, enabled, enableOf, enabledIn, defaultIn};
-use abi::STATE_WORDS;
+ghost use Rattle.setting_entries.specs.Calls.{enableRefusal, enabled, enableOf, enabledIn, defaultIn};
 use abi::place;
 use abi::refusal;
 use protector_state::Reply;
-use queries::Value;
+use protector_state::Value;
 
-// The number that refuses a call by the state block: 0 where none does.
-fn state_refusal(state: &[u64]) -> u64
-    ensures { λ r. ⌜ r ≡ stateRefusal (now (state .entry)) ⌝ }
-{
-    if state.len() != STATE_WORDS {
-        return refusal::WRONG_LENGTH;
-    }
-    protector::status(state)
-}
-
+// The number that refuses the setter: 0 where none does.
 fn enable_refusal(state: &[u64]) -> u64
     ensures { λ r. ⌜ r ≡ enableRefusal (now (state .entry)) ⌝ }
 {
-    let n = state_refusal(state);
+    let n = call_refusals::state_refusal(state);
     if n != 0 {
         return n;
     }
@@ -30,24 +18,6 @@ fn enable_refusal(state: &[u64]) -> u64
         return refusal::UNTRACKED;
     }
     0
-}
-
-fn refused(n: u64) -> Value
-    ensures { λ r. ⌜ r ≡ value n (codeOf n) ⌝ }
-{
-    Value {
-        number: n,
-        value: permissions::hv_error(n),
-    }
-}
-
-fn told(v: u64) -> Value
-    ensures { λ r. ⌜ r ≡ value 0 v ⌝ }
-{
-    Value {
-        number: 0,
-        value: v,
-    }
 }
 
 // VTL1's protections are enabled: 24 where permissions aren't tracked. No operation is asked for, and a refusal changes
@@ -69,12 +39,12 @@ pub extern "C" fn protector_set_vtl1_protections_enabled(state: &mut [u64]) -> R
 pub extern "C" fn protector_vtl1_protections_enabled(state: &[u64]) -> Value
     ensures { λ r. ⌜ r ≡ enabledIn (now (state .entry)) ⌝ }
 {
-    let n = state_refusal(state);
+    let n = call_refusals::state_refusal(state);
     if n != 0 {
-        return refused(n);
+        return protector_state::refused_value(n);
     }
     let set = protector_state::settings(state);
-    told(permissions::digit_of(set.enabled))
+    protector_state::ok_value(permissions::digit_of(set.enabled))
 }
 
 // The flags of VTL0's default. Nothing is written, and no operation is asked for.
@@ -82,12 +52,12 @@ pub extern "C" fn protector_vtl1_protections_enabled(state: &[u64]) -> Value
 pub extern "C" fn protector_default_vtl0_protections(state: &[u64]) -> Value
     ensures { λ r. ⌜ r ≡ defaultIn (now (state .entry)) ⌝ }
 {
-    let n = state_refusal(state);
+    let n = call_refusals::state_refusal(state);
     if n != 0 {
-        return refused(n);
+        return protector_state::refused_value(n);
     }
     let set = protector_state::settings(state);
     let defaults = set.defaults;
     let flags = defaults.vtl0;
-    told(flags.into_bits())
+    protector_state::ok_value(flags.into_bits())
 }

@@ -1,20 +1,20 @@
 -- Laws of the entries: what a call that isn't refused knows, and one law for each way out. Assumes nothing.
 use native.Mathlib.Omega.{arith}
 use mathlib.Core.Path.{_≡_, refl, sym, ap, ap₂, _∙_}
-use mathlib.Core.Bool.{Bool, true, false, not, cond, _&&_}
+use mathlib.Core.Bool.{Bool, true, not, cond}
 use mathlib.Core.List.{List}
 use Prim.Native.Nat.{ℕ, _≤_, _<_}
 use lib.Dec.{eqb, ltb}
 use lib.ListN.{length, take, replicate}
 use borrow.Author.Tests.{eqb-true, lt-ltb, le-ltb}
-use Rattle.laws.specs.Bools.{and-left, and-right, false≢true}
-use Rattle.laws.specs.Refusal.{unless, passed, first-passed, refused, answered}
+use Rattle.laws.specs.Bools.{and-left}
+use Rattle.laws.specs.Refusal.{passed, when-passed, first-passed, refused, answered}
 use Rattle.layout.specs.Layout.{entriesOf, refusalOf, mapLen}
 use Rattle.layout.proofs.Laws.{fit, entries-count}
 use Rattle.permissions.specs.declared.GuestVtl.{GuestVtl}
 use Rattle.permissions.specs.Flags.{fitIsolation, flagsOf}
 use Rattle.permissions.specs.HvError.{codeOf}
-use Rattle.mapping.specs.Maps.{Maps, Permissions, maps, perms, built, marksFit}
+use Rattle.mapping.specs.Maps.{Maps, Permissions, maps, perms, built}
 use Rattle.page_list.specs.Pages.{pagesOf, isLong}
 use Rattle.page_list.proofs.Laws.{long-le}
 use Rattle.request_pages.specs.Request.{pick, tableOf, stopAt, isOpen, wanted}
@@ -25,10 +25,13 @@ use Rattle.change_steps.specs.declared.ChangeStep.{ChangeStep}
 use Rattle.protector_state.specs.declared.Reply.{Reply}
 use Rattle.protector_state.specs.State.{stateLen, withRequest, settingsOf, builtState}
 use Rattle.protector_state.specs.Reply.{finished, flatOf}
-use Rattle.change_state.specs.State.{withChange}
-use Rattle.protector.specs.World.{World, outcome, pagesLen, tablesLen, statusIn, permittedRun, entered, applied}
+use Rattle.protector_state.specs.Changing.{withChange}
+use Rattle.call_refusals.specs.World.{World, outcome, lengthsIn, statusIn}
+use Rattle.call_refusals.proofs.Laws.{is-ready}
+use Rattle.protector.specs.Writes.{permittedRun, entered, applied}
 use Rattle.queries.specs.Queries.{queryRefusal, ramBefore, visibilities, filledBy, Query, query, queryTaken, queryOf}
-use Rattle.protector.specs.Calls.{carriedOut, withPermissions, carriedChange, permissionMapsFit, buildFits, buildRefusal, buildTaken, visibilityRefusal, looksAt, visibilityTaken, answerRefusal}
+use Rattle.protector.specs.Calls.{carriedOut, withPermissions, carriedChange, buildTaken, looksAt, visibilityTaken}
+use Rattle.call_refusals.specs.Refusals.{buildFits, buildRefusal, visibilityRefusal, answerRefusal}
 
 -- ---- what a call that isn't refused knows of its lengths
 
@@ -37,10 +40,8 @@ module _ (s : List ℕ) (fits : Bool) (n : ℕ) (z : n ≡ 0) where
       → (length s ≡ stateLen) × (fits ≡ true) × (length l ≤ 4096)
   unfolding visibilityRefusal
   visibility-passed tables vtl visibility l e =
-      let a = passed (eqb (length s) stateLen) 3 _ (sym e ∙ z) in
-      let b = passed fits 3 _ (first-passed (statusIn s) _ (a .1) .1) in
-      let d = passed (not (isLong l)) 4 _ (b .1) in
-      (eqb-true (length s) stateLen (a .0), b .0, long-le l (d .0))
+      let a = is-ready s fits _ (sym e ∙ z) in
+      (a .long, a .fits, long-le l (ap not (when-passed (isLong l) 4 _ (a .goes) .0)))
 
   pub answer-passed : (failed : Bool) → n ≡ answerRefusal s fits failed → length s ≡ stateLen
   unfolding answerRefusal
@@ -50,31 +51,19 @@ module _ (s : List ℕ) (fits : Bool) (n : ℕ) (z : n ≡ 0) where
   unfolding answerRefusal
   answer-fits failed e =
       let a = passed (eqb (length s) stateLen) 3 _ (sym e ∙ z) in
-      let b = passed (not (eqb (statusIn s) 20)) 19 _ (a .1) in
+      let b = when-passed (eqb (statusIn s) 20) 19 _ (a .1) in
       passed fits 3 _ (b .1) .0
 
 pub build-passed : (ram : List ℕ) (isolation tracked release : ℕ) (w : World) (n : ℕ) → n ≡ 0
-    → n ≡ buildRefusal ram isolation tracked release (buildFits (mapLen (entriesOf ram)) tracked w) → (length (w .state) ≡ stateLen) × (length ram ≤ 96)
+    → n ≡ buildRefusal ram isolation tracked release (buildFits (mapLen (entriesOf ram)) tracked (length (w .state)) (lengthsIn w))
+    → (length (w .state) ≡ stateLen) × (length ram ≤ 96)
 unfolding buildRefusal
 build-passed ram isolation tracked release w n z e =
-    let len : ℕ = mapLen (entriesOf ram) in
-    let f = layout-passed (sym e ∙ z) in
+    let f = first-passed (refusalOf ram) _ (sym e ∙ z) in
     let g = passed (fitIsolation isolation) 2 _ (f .1) in
-    let h = passed (buildFits len tracked w) 3 _ (g .1) in
+    let h = passed (buildFits (mapLen (entriesOf ram)) tracked (length (w .state)) (lengthsIn w)) 3 _ (g .1) in
     let k = fit ram (f .0) in
-    let d : Bool = eqb (length (w .pages)) pagesLen && eqb (length (w .tables)) tablesLen in
-    let x : Bool = eqb (length (w .state)) stateLen && d in
-    let y : Bool = permissionMapsFit len tracked (length (w .maps .permissions .read)) (length (w .maps .permissions .write)) (length (w .maps .permissions .kernel)) (length (w .maps .permissions .user)) in (
-      eqb-true (length (w .state)) stateLen (and-left (eqb (length (w .state)) stateLen) d (and-right y x (and-right (marksFit len (length (w .maps .private)) (length (w .maps .shared))) (y && x) (h .0)))),
-      omega (arith, k .divided, k .few, entries-count ram),
-    )
-  where
-    layout-passed : {rest : ℕ} → unless (eqb (refusalOf ram) 0) (refusalOf ram) rest ≡ 0 → (refusalOf ram ≡ 0) × (rest ≡ 0)
-    layout-passed {rest} q = go (eqb (refusalOf ram) 0) refl
-      where
-        go : (t : Bool) → eqb (refusalOf ram) 0 ≡ t → (refusalOf ram ≡ 0) × (rest ≡ 0)
-        go true p = (eqb-true (refusalOf ram) 0 p, sym (ap (λ (t : Bool). unless t (refusalOf ram) rest) p) ∙ q)
-        go false p = absurd (false≢true (sym p ∙ ap (λ (k : ℕ). eqb k 0) (sym (ap (λ (t : Bool). unless t (refusalOf ram) rest) p) ∙ q)))
+    (eqb-true _ _ (and-left (eqb (length (w .state)) stateLen) _ (h .0)), omega (arith, k .divided, k .few, entries-count ram))
 
 -- ---- a step carried out
 
@@ -128,7 +117,7 @@ module _ (s shared l out : List ℕ) (n : ℕ) (e : n ≡ queryRefusal s (length
 
   pub query-passed : n ≡ 0 → length s ≡ stateLen
   unfolding queryRefusal
-  query-passed z = eqb-true (length s) stateLen (passed (eqb (length s) stateLen) 3 _ (sym e ∙ z) .0)
+  query-passed z = is-ready s _ _ (sym e ∙ z) .long
 
   module _ (before count : ℕ) (z : n ≡ 0) (f : before ≡ ramBefore s l) (g : count ≡ length (pagesOf l)) where
     answers : (x : Query) → x ≡ queryTaken s shared l out → x ≡ queryOf s shared l out

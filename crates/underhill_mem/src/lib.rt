@@ -1,16 +1,18 @@
 // The protector's entries: build, visibility changes, answers, queries and faults. Every one takes any lengths, any numbers, any bytes and words.
 ghost use mathlib.Core.Path.{_≡_};
 ghost use Rattle.mapping.specs.Maps.{maps};
-ghost use Rattle.protector.specs.World.{world, outcome};
+ghost use Rattle.call_refusals.specs.World.{world, outcome};
 ghost use Rattle.protector.specs.Calls.{buildOf, visibilityOf, answerDone, answerFailed};
 ghost use Rattle.queries.specs.Queries.{query, queryOf, faultIn, lowerIn, accessIn};
 use abi::STATE_WORDS;
 use abi::place;
 use abi::refusal;
 use access::PermissionsAnswer;
+use call_refusals::Lengths;
 use fault::PageFaultAction;
+use mapping::MapLengths;
 use protector_state::Reply;
-use queries::Value;
+use protector_state::Value;
 
 // A protector of a layout: RAM private with all permissions, and empty tables, whatever the runs held. No operation is asked
 // for, and a refusal changes nothing.
@@ -32,20 +34,26 @@ pub extern "C" fn protector_build(
 ) -> Reply
     ensures { λ r. ⌜ outcome (maps (now (private .exit)) (now (shared .exit)) (now (read .exit)) (now (write .exit)) (now (kernel .exit)) (now (user .exit))) (now (state .exit)) (now (pages .exit)) (now (tables .exit)) r ≡ buildOf (world (maps (now (private .entry)) (now (shared .entry)) (now (read .entry)) (now (write .entry)) (now (kernel .entry)) (now (user .entry))) (now (state .entry)) (now (pages .entry)) (now (tables .entry))) (now (ram .entry)) isolation tracked release ⌝ }
 {
-    let fit = protector::build_fits(
+    let lengths = Lengths {
+        maps: MapLengths {
+            private: private.len() as u64,
+            shared: shared.len() as u64,
+            read: read.len() as u64,
+            write: write.len() as u64,
+            kernel: kernel.len() as u64,
+            user: user.len() as u64,
+        },
+        pages: pages.len() as u64,
+        tables: tables.len() as u64,
+    };
+    let n = call_refusals::build_refusal(
         ram,
+        isolation,
         tracked,
-        private.len() as u64,
-        shared.len() as u64,
-        read.len() as u64,
-        write.len() as u64,
-        kernel.len() as u64,
-        user.len() as u64,
+        release,
         state.len() as u64,
-        pages.len() as u64,
-        tables.len() as u64,
+        lengths,
     );
-    let n = protector::build_refusal(ram, isolation, tracked, release, fit);
     if n != 0 {
         return protector_state::refused(n);
     }
@@ -75,20 +83,19 @@ pub extern "C" fn protector_change_host_visibility(
 ) -> Reply
     ensures { λ r. ⌜ outcome (maps (now (private .exit)) (now (shared .exit)) (now (read .exit)) (now (write .exit)) (now (kernel .exit)) (now (user .exit))) (now (state .exit)) (now (pages .exit)) (now (tables .entry)) r ≡ visibilityOf (world (maps (now (private .entry)) (now (shared .entry)) (now (read .entry)) (now (write .entry)) (now (kernel .entry)) (now (user .entry))) (now (state .entry)) (now (pages .entry)) (now (tables .entry))) vtl visibility (now (list .entry)) ⌝ }
 {
-    let n = protector::visibility_refusal(
-        state,
-        private.len() as u64,
-        shared.len() as u64,
-        read.len() as u64,
-        write.len() as u64,
-        kernel.len() as u64,
-        user.len() as u64,
-        pages.len() as u64,
-        tables,
-        vtl,
-        visibility,
-        list,
-    );
+    let lengths = Lengths {
+        maps: MapLengths {
+            private: private.len() as u64,
+            shared: shared.len() as u64,
+            read: read.len() as u64,
+            write: write.len() as u64,
+            kernel: kernel.len() as u64,
+            user: user.len() as u64,
+        },
+        pages: pages.len() as u64,
+        tables: tables.len() as u64,
+    };
+    let n = call_refusals::visibility_refusal(state, lengths, tables, vtl, visibility, list);
     if n != 0 {
         return protector_state::refused(n);
     }
@@ -132,22 +139,23 @@ pub extern "C" fn protector_answer_done(
 ) -> Reply
     ensures { λ r. ⌜ outcome (maps (now (private .exit)) (now (shared .exit)) (now (read .exit)) (now (write .exit)) (now (kernel .exit)) (now (user .exit))) (now (state .exit)) (now (pages .exit)) (now (tables .exit)) r ≡ answerDone (world (maps (now (private .entry)) (now (shared .entry)) (now (read .entry)) (now (write .entry)) (now (kernel .entry)) (now (user .entry))) (now (state .entry)) (now (pages .entry)) (now (tables .entry))) ⌝ }
 {
-    let n = protector::answer_refusal(
-        state,
-        private.len() as u64,
-        shared.len() as u64,
-        read.len() as u64,
-        write.len() as u64,
-        kernel.len() as u64,
-        user.len() as u64,
-        pages.len() as u64,
-        tables.len() as u64,
-        false,
-    );
+    let lengths = Lengths {
+        maps: MapLengths {
+            private: private.len() as u64,
+            shared: shared.len() as u64,
+            read: read.len() as u64,
+            write: write.len() as u64,
+            kernel: kernel.len() as u64,
+            user: user.len() as u64,
+        },
+        pages: pages.len() as u64,
+        tables: tables.len() as u64,
+    };
+    let n = call_refusals::answer_refusal(state, lengths, false);
     if n != 0 {
         return protector_state::refused(n);
     }
-    if change_state::is_changing(state) {
+    if protector_state::change::is_changing(state) {
         return change_writes::answer_done(private, read, write, kernel, user, state, pages, tables);
     }
     protector::answer_done(private, shared, read, write, kernel, user, state, pages)
@@ -171,22 +179,23 @@ pub extern "C" fn protector_answer_failed(
 ) -> Reply
     ensures { λ r. ⌜ outcome (maps (now (private .exit)) (now (shared .exit)) (now (read .exit)) (now (write .exit)) (now (kernel .exit)) (now (user .exit))) (now (state .exit)) (now (pages .exit)) (now (tables .exit)) r ≡ answerFailed (world (maps (now (private .entry)) (now (shared .entry)) (now (read .entry)) (now (write .entry)) (now (kernel .entry)) (now (user .entry))) (now (state .entry)) (now (pages .entry)) (now (tables .entry))) code processed ⌝ }
 {
-    let n = protector::answer_refusal(
-        state,
-        private.len() as u64,
-        shared.len() as u64,
-        read.len() as u64,
-        write.len() as u64,
-        kernel.len() as u64,
-        user.len() as u64,
-        pages.len() as u64,
-        tables.len() as u64,
-        true,
-    );
+    let lengths = Lengths {
+        maps: MapLengths {
+            private: private.len() as u64,
+            shared: shared.len() as u64,
+            read: read.len() as u64,
+            write: write.len() as u64,
+            kernel: kernel.len() as u64,
+            user: user.len() as u64,
+        },
+        pages: pages.len() as u64,
+        tables: tables.len() as u64,
+    };
+    let n = call_refusals::answer_refusal(state, lengths, true);
     if n != 0 {
         return protector_state::refused(n);
     }
-    if change_state::is_changing(state) {
+    if protector_state::change::is_changing(state) {
         return change_writes::answer_failed(read, write, kernel, user, state, tables);
     }
     let set = protector_state::settings(state);

@@ -35,9 +35,11 @@ use Rattle.visibility_steps.specs.Steps.{runOf, operationOn, operationOf, count
 use Rattle.protector_state.specs.declared.Reply.{Reply}
 use Rattle.protector_state.specs.State.{stateLen, phaseNumber, firstPhases, phaseOf, phaseIn, requestOf, requestWords, settingsOf, entriesIn}
 use Rattle.protector_state.specs.Reply.{modifies, askedOf, flatOf}
-use Rattle.change_state.specs.State.{stageIn, isChanging}
-use Rattle.protector.specs.World.{World, world, Outcome, outcome, fits, statusOf, statusIn, takes, takesAt, takesIn, applied}
-use Rattle.protector.specs.Calls.{refusedBy, decided, carriedOut, visibilityRefusal, stopOf, askedFor, tableFor, visibilityTaken, visibilityOf, answerRefusal, answerDone, answerFailed}
+use Rattle.protector_state.specs.Changing.{stageIn, isChanging}
+use Rattle.call_refusals.specs.World.{World, world, Outcome, outcome, fits, statusOf, statusIn, takes, takesAt, takesIn}
+use Rattle.protector.specs.Writes.{applied}
+use Rattle.protector.specs.Calls.{refusedBy, decided, carriedOut, stopOf, askedFor, tableFor, visibilityTaken, visibilityOf, answerDone, answerFailed}
+use Rattle.call_refusals.specs.Refusals.{visibilityRefusal, answerRefusal}
 use Rattle.visibility_claims.specs.Whole.{Operation, Given, Succeeds, Fails, Stand, Denied, stands, wholeShare, wholeReturn}
 use Rattle.visibility_claims.specs.Requested.{denial, requestedOf, storedIn}
 use Rattle.visibility_claims.specs.Runs.{Ran, named, askedBy, lastOf, before, run, whole}

@@ -34,9 +34,10 @@ use Rattle.change_steps.specs.declared.Change.{Change}
 use Rattle.change_steps.specs.declared.ChangeStep.{ChangeStep}
 use Rattle.change_steps.specs.Changes as changes
 use Rattle.protector_state.specs.State.{stateLen, firstPhases, phaseOf, phaseIn, requestOf, settingsOf, entriesIn}
-use Rattle.change_state.specs.State.{stageNumber, stageOf, stageIn, isChanging, changeIn, withChange}
-use Rattle.protector.specs.World.{World, overlaysOf, fits, statusOf, takes, takesAt}
-use Rattle.protector.specs.Calls.{carriedOut, carriedChange, answerRefusal, pieceAfter, nextIn, afterDone, afterFailed, visibilityDone, visibilityFailed, changeDone, changeFailed, answerDone, answerFailed}
+use Rattle.protector_state.specs.Changing.{stageNumber, stageOf, stageIn, isChanging, changeIn, withChange}
+use Rattle.call_refusals.specs.World.{World, overlaysOf, fits, statusOf, takes, takesAt}
+use Rattle.protector.specs.Calls.{carriedOut, carriedChange, pieceAfter, nextIn, afterDone, afterFailed, visibilityDone, visibilityFailed, changeDone, changeFailed, answerDone, answerFailed}
+use Rattle.call_refusals.specs.Refusals.{answerRefusal}
 use Rattle.visibility_claims.specs.Whole.{Given, Succeeds, Fails}
 use Rattle.visibility_claims.specs.Calls.{answerOf, takenBy}
 use Rattle.visibility_claims.specs.Ends.{left, leftAt, pageEnd, leftIn, underWay, afterAll, takenOf, unrefused, TakenLowers, UntakenKeeps, TakenEnd, EveryRequestEnds, DoneTaken}

@@ -10,8 +10,9 @@ use Rattle.lock_table.specs.Locks.{listsFrom, held}
 use Rattle.visibility_steps.specs.Steps.{operationOf, ask, end, halt, keep, shareRun, defaultRun, returnRun, afterFlush, afterWait, afterModify, afterAccept, failedModify, doneOf, failedOf, cleared, startOf}
 use Rattle.protector_state.specs.State.{firstPhases, phaseOf}
 use Rattle.protector_state.specs.Reply.{askedOf, flatOf}
-use Rattle.protector.specs.World.{applied}
-use Rattle.protector.specs.Calls.{carriedOut, firstRefusal, visibilityRefusal, visibilityTaken, visibilityOf, answerRefusal, answerDone, answerFailed}
+use Rattle.protector.specs.Writes.{applied}
+use Rattle.protector.specs.Calls.{carriedOut, visibilityTaken, visibilityOf, answerDone, answerFailed}
+use Rattle.call_refusals.specs.Refusals.{firstRefusal, visibilityRefusal, answerRefusal}
 use Rattle.visibility_claims.specs.Calls.{follow}
 use Rattle.visibility_claims.specs.Table.{Replies}
 

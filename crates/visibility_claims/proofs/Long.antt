@@ -14,8 +14,8 @@ use Rattle.page_list.specs.Pages.{numberOf, numberAt, numbersFrom, pagesOf, isL
 use Rattle.overlay_table.specs.Overlays.{placeFrom}
 use Rattle.lock_table.specs.Locks.{listsFrom, held}
 use Rattle.protector_state.specs.State.{firstPhases, phaseOf, entriesIn}
-use Rattle.protector.specs.World.{overlaysOf, locksOf, fits, statusIn}
-use Rattle.protector.specs.Calls.{pageRefusal, firstRefusal, visibilityRefusal}
+use Rattle.call_refusals.specs.World.{overlaysOf, locksOf, fits, statusIn}
+use Rattle.call_refusals.specs.Refusals.{pageRefusal, firstRefusal, visibilityRefusal}
 use Rattle.visibility_claims.specs.Table.{bytesFrom, broad, Lists}
 
 -- n pages from p on

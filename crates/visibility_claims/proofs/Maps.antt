@@ -27,7 +27,7 @@ use Rattle.request_pages.proofs.Runs.{put-none, end-le}
 use Rattle.visibility_steps.specs.declared.Places.{Places}
 use Rattle.visibility_steps.specs.declared.Writes.{Writes}
 use Rattle.visibility_steps.specs.Steps.{places, writes, setPermissions, cleared}
-use Rattle.protector.specs.World.{putPlaces, putPermissions, applied}
+use Rattle.protector.specs.Writes.{putPlaces, putPermissions, applied}
 use Rattle.visibility_claims.specs.Whole.{Protect, marked, withPrivate, withShared, withPermissions, forbidden, protecting, clearedBy}
 
 -- ---- the pages of a run

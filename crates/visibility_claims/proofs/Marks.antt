@@ -19,7 +19,7 @@ use Rattle.page_list.specs.Pages.{among, pagesOf}
 use Rattle.page_list.specs.Runs.{runsOf}
 use Rattle.visibility_steps.specs.declared.Settings.{Settings}
 use Rattle.protector_state.specs.State.{settingsOf}
-use Rattle.protector.specs.World.{World}
+use Rattle.call_refusals.specs.World.{World}
 use Rattle.visibility_claims.specs.Whole.{Operation, Wait, FlushAll, Protect, Invalidate, Release, Modify, Accept, Zero, Flush, TlbWait, Given, Succeeds, Fails, Stand, Denied, Ok, FailedAt, Halts, Whole, stands, asking, fails}
 use Rattle.visibility_claims.specs.Whole.{one, inTurn, perRun, flushes, accepts, defaults, shareOperations, marked, withPrivate, withShared, protecting, writingNone, clearedBy, wholeShare, returned, modified, wholeReturn}
 use Rattle.visibility_claims.specs.Calls.{wholeOn, wholeOf, follow}

@@ -31,9 +31,10 @@ use Rattle.change_steps.specs.declared.ChangeStep.{ChangeStep}
 use Rattle.change_steps.specs.Changes as changes
 use Rattle.protector_state.specs.State.{stateLen, phaseIn, requestOf, settingsOf}
 use Rattle.protector_state.specs.Reply.{finished, askedOf, flatOf}
-use Rattle.change_state.specs.State.{stageIn, isChanging, changeIn}
-use Rattle.protector.specs.World.{World, Outcome, fits, statusIn, takes, takesAt, takesIn}
-use Rattle.protector.specs.Calls.{decided, carriedOut, carriedChange, buildTaken, buildOf, visibilityTaken, visibilityOf, answerRefusal, nextIn, afterDone, afterFailed, visibilityDone, visibilityFailed, changeDone, changeFailed, answerDone, answerFailed}
+use Rattle.protector_state.specs.Changing.{stageIn, isChanging, changeIn}
+use Rattle.call_refusals.specs.World.{World, Outcome, fits, statusIn, takes, takesAt, takesIn}
+use Rattle.protector.specs.Calls.{decided, carriedOut, carriedChange, buildTaken, buildOf, visibilityTaken, visibilityOf, nextIn, afterDone, afterFailed, visibilityDone, visibilityFailed, changeDone, changeFailed, answerDone, answerFailed}
+use Rattle.call_refusals.specs.Refusals.{answerRefusal}
 use Rattle.queries.specs.Queries.{queryRefusal, ramBefore, visibilities, filledBy, query, queryOf}
 use Rattle.visibility_claims.specs.Whole.{Succeeds, Fails}
 use Rattle.visibility_claims.specs.Refusals.{Call, Build, ChangeVisibility, AnswerWith, QueryVisibility, Lent, gave, give, refusal, mayChange, RefusedKeeps, OtherNumbersKeep}

@@ -19,8 +19,9 @@ use Rattle.overlay_table.specs.Overlays.{isOverlay}
 use Rattle.lock_table.specs.Locks.{listsOf, held}
 use Rattle.request_pages.specs.Request.{pick, pickPlaces, over, tableOf, stopAt, isOpen, wanted}
 use Rattle.protector_state.specs.State.{settingsOf, entriesIn}
-use Rattle.protector.specs.World.{World, overlaysOf, locksOf}
-use Rattle.protector.specs.Calls.{pageRefusal, firstRefusal, looksAt, stopOf, askedFor, tableFor}
+use Rattle.call_refusals.specs.World.{World, overlaysOf, locksOf}
+use Rattle.call_refusals.specs.Refusals.{pageRefusal, firstRefusal}
+use Rattle.protector.specs.Calls.{looksAt, stopOf, askedFor, tableFor}
 use Rattle.visibility_claims.specs.Whole.{Ok, StoppedAt}
 use Rattle.visibility_claims.specs.Requested.{isOverlayPage, denial, accessDenied, isSoMarked, Listed, Requested, noMore, withPage, requestedFrom, requestedOf, pagesIn, placesIn, storedIn, PlacesHold}
 

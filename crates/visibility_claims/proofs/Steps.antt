@@ -36,7 +36,8 @@ use Rattle.visibility_steps.specs.declared.Writes.{Writes}
 use Rattle.visibility_steps.specs.declared.Step.{Step}
 use Rattle.visibility_steps.specs.Steps.{isSnp, isCca, releases, places, noWrites, setShared, setPermissions, step, operationOf, ask, end, halt, shareRun, defaultRun, returnRun, afterFlush, afterWait, afterModify, afterAccept, afterDefault0, failedModify, doneOf, failedOf, asked, cleared, startOf}
 use Rattle.visibility_steps.proofs.Laws as laws
-use Rattle.protector.specs.World.{takes, applied}
+use Rattle.call_refusals.specs.World.{takes}
+use Rattle.protector.specs.Writes.{applied}
 use Rattle.visibility_claims.specs.Whole.{Operation, Wait, FlushAll, Protect, Invalidate, Release, Modify, Accept, Zero, Given, Succeeds, Fails, Stand, Ok, StoppedAt, FailedAt, Halts, Whole, stands, fails, one, inTurn, perRun, flushes, unaccepts, accepts, defaults, withPrivate, withShared, protecting, writingNone, clearedBy, wholeShare, returned, modified, wholeReturn}
 use Rattle.visibility_claims.specs.Runs.{Last, named, before, run, told, after}
 use Rattle.visibility_claims.proofs.Maps.{sets, setBy, applied-sets, set-none, applied-none, applied-default, applied-share, applied-return, set-shared, set-private}

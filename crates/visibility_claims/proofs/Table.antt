@@ -9,7 +9,8 @@ use Rattle.lock_table.specs.Locks as locks
 use Rattle.visibility_steps.specs.Steps.{startOf}
 use Rattle.protector_state.specs.State.{firstPhases, phaseOf}
 use Rattle.protector_state.specs.Reply.{askedOf, flatOf}
-use Rattle.protector.specs.Calls.{carriedOut, firstRefusal, visibilityRefusal, visibilityTaken, visibilityOf}
+use Rattle.protector.specs.Calls.{carriedOut, visibilityTaken, visibilityOf}
+use Rattle.call_refusals.specs.Refusals.{firstRefusal, visibilityRefusal}
 use Rattle.visibility_claims.specs.Whole.{one, inTurn, perRun, wholeShare, returned, modified, wholeReturn}
 use Rattle.visibility_claims.specs.Requested.{denial, requestedFrom, pagesIn, placesIn}
 use Rattle.visibility_claims.specs.Table.{Stops, Bars, Visibility}

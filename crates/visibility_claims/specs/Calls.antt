@@ -15,8 +15,9 @@ use Rattle.visibility_steps.specs.declared.Operation.the-variants as crossed
 use Rattle.protector_state.specs.declared.Reply.{Reply}
 use Rattle.protector_state.specs.State.{stateLen, settingsOf}
 use Rattle.protector_state.specs.Reply.{askedOf, flatOf}
-use Rattle.protector.specs.World.{World, Outcome, fits, statusIn}
-use Rattle.protector.specs.Calls.{refusedBy, visibilityOf, answerRefusal, answerDone, answerFailed}
+use Rattle.call_refusals.specs.World.{World, Outcome, fits, statusIn}
+use Rattle.protector.specs.Calls.{refusedBy, visibilityOf, answerDone, answerFailed}
+use Rattle.call_refusals.specs.Refusals.{answerRefusal}
 use Rattle.visibility_claims.specs.Whole.{Operation, Wait, FlushAll, Protect, Invalidate, Release, Modify, Accept, Zero, Flush, TlbWait, Given, Succeeds, Fails, Denied, Whole, stands, wholeShare, wholeReturn}
 use Rattle.visibility_claims.specs.Requested.{denial, Requested, requestedOf, pagesIn, placesIn, storedIn}
 use Rattle.visibility_claims.specs.Runs.{Last, Outstanding, Gives, Ran, whole}

@@ -10,7 +10,7 @@ use Rattle.bitmap.specs.Pages.{bitAt}
 use Rattle.permissions.specs.declared.GuestVtl.{GuestVtl}
 use Rattle.mapping.specs.Maps.{Maps}
 use Rattle.visibility_steps.specs.declared.Settings.{Settings}
-use Rattle.protector.specs.World.{World}
+use Rattle.call_refusals.specs.World.{World}
 use Rattle.protector.specs.Calls.{visibilityOf}
 use Rattle.visibility_claims.specs.Whole.{Operation, Wait, Given, Succeeds, Fails, Stand, flushes, marked, wholeShare, wholeReturn}
 use Rattle.visibility_claims.specs.Calls.{inputRefusal, follow}

@@ -8,8 +8,9 @@ use lib.ListN.{length}
 use Rattle.layout.specs.Layout.{entriesOf, mapLen}
 use Rattle.page_list.specs.Pages.{pagesOf}
 use Rattle.protector_state.specs.declared.Reply.{Reply}
-use Rattle.protector.specs.World.{World, Outcome, fits}
-use Rattle.protector.specs.Calls.{buildFits, buildRefusal, buildOf, visibilityRefusal, visibilityOf, answerRefusal}
+use Rattle.call_refusals.specs.World.{World, Outcome, fits}
+use Rattle.call_refusals.specs.Refusals.{buildFits, buildRefusal, visibilityRefusal, answerRefusal}
+use Rattle.protector.specs.Calls.{buildOf, visibilityOf}
 use Rattle.queries.specs.Queries.{queryRefusal, ramBefore, queryOf}
 use Rattle.visibility_claims.specs.Whole.{Given, Succeeds, Fails}
 use Rattle.visibility_claims.specs.Calls.{answerOf}

@@ -14,7 +14,7 @@ use Rattle.overlay_table.specs.Overlays.{isOverlay}
 use Rattle.lock_table.specs.Locks.{listsOf, held}
 use Rattle.request_pages.specs.Request.{over}
 use Rattle.protector_state.specs.State.{settingsOf, entriesIn}
-use Rattle.protector.specs.World.{World, overlaysOf, locksOf}
+use Rattle.call_refusals.specs.World.{World, overlaysOf, locksOf}
 use Rattle.visibility_claims.specs.Whole.{Stand, Ok, StoppedAt}
 
 -- ---- before anything is changed each page is looked at, in list order: 7 where it is no RAM, 10 where it is locked, 11 where an overlay is to be shared. Overlays

@@ -11,7 +11,8 @@ use Rattle.visibility_steps.specs.declared.Answer.the-variants.{Done, AccessDen
 use Rattle.visibility_steps.specs.declared.Settings.{Settings}
 use Rattle.visibility_steps.specs.declared.Step.{Step}
 use Rattle.visibility_steps.specs.Steps.{doneOf, failedOf}
-use Rattle.protector.specs.World.{takes, applied}
+use Rattle.call_refusals.specs.World.{takes}
+use Rattle.protector.specs.Writes.{applied}
 use Rattle.visibility_claims.specs.Whole.{Operation, Wait, FlushAll, Protect, Invalidate, Release, Modify, Accept, Zero, Flush, TlbWait, Given, Succeeds, Fails, Stand, Denied, Waits, Ok, StoppedAt, FailedAt, Halts, Whole}
 
 -- what the steps gave last: an operation that waits for its answer, or the call's answer

@@ -16,8 +16,9 @@ use Rattle.overlay_table.specs.Overlays as overlays
 use Rattle.lock_table.specs.Locks as locks
 use Rattle.protector_state.specs.State.{builtState}
 use Rattle.protector_state.specs.Reply.{finished, plain}
-use Rattle.protector.specs.World.{World, world, fits}
-use Rattle.protector.specs.Calls.{visibilityRefusal, visibilityOf}
+use Rattle.call_refusals.specs.World.{World, world, fits}
+use Rattle.call_refusals.specs.Refusals.{visibilityRefusal}
+use Rattle.protector.specs.Calls.{visibilityOf}
 use Rattle.visibility_claims.specs.Whole.{Wait, FlushAll, Protect, Invalidate, Modify, Accept, Zero, Given, Succeeds, Fails, Denied, Ok, StoppedAt, FailedAt, Whole}
 use Rattle.visibility_claims.specs.Requested.{requestedOf, pagesIn, placesIn}
 use Rattle.visibility_claims.specs.Calls.{wholeOf, Told, follow}

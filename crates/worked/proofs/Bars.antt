@@ -4,7 +4,6 @@ use Rattle.bitmap.specs.Pages.{word, writtenFrom}
 use Rattle.words.specs.Words.{closed, closedTo, swapped}
 use Rattle.layout.specs.Layout.{entriesOf, ramByte}
 use Rattle.permissions.specs.Rmpadjust.{operandOf}
-use Rattle.mapping.specs.Maps.{mapsFit}
 use Rattle.access.specs.Query.{accessPermission, lowerVtlPermissions}
 use Rattle.fault.specs.Fault.{faultOf, faultRefusal, pageFault}
 use Rattle.page_list.specs.Pages.{numberOf, numberAt, numbersFrom, among, repeats}
@@ -21,9 +20,10 @@ use Rattle.change_steps.specs.Changes as changes
 use Rattle.change_steps.specs.Changes.{protect, wait, finish, protectPages, protectRam, startNew, startOld}
 use Rattle.protector_state.specs.State.{firstPhases, phaseOf}
 use Rattle.protector_state.specs.Reply.{askedOf, flatOf}
-use Rattle.change_state.specs.State.{stageOf}
-use Rattle.protector.specs.World.{applied, entered}
-use Rattle.protector.specs.Calls.{carriedOut, carriedChange, firstRefusal, visibilityRefusal, visibilityTaken, visibilityOf, answerRefusal, afterDone, afterFailed, answerDone, answerFailed}
+use Rattle.protector_state.specs.Changing.{stageOf}
+use Rattle.protector.specs.Writes.{applied, entered}
+use Rattle.protector.specs.Calls.{carriedOut, carriedChange, visibilityTaken, visibilityOf, afterDone, afterFailed, answerDone, answerFailed}
+use Rattle.call_refusals.specs.Refusals.{firstRefusal, visibilityRefusal, answerRefusal}
 use Rattle.protection_entries.specs.Calls.{protectionRefusal, protectionTaken, protectionOf, defaultRefusal, defaultStarted, defaultTaken, defaultOf}
 use Rattle.lock_entries.specs.Calls.{lockRefusal, lockOf, unlockOf}
 use Rattle.setting_entries.specs.Calls.{stateRefusal, enableRefusal, enableOf, enabledIn, defaultIn}
@@ -112,7 +112,7 @@ queries =
     }
 
 pub turns : Turns
-unfolding word writtenFrom closed closedTo swapped entriesOf ramByte operandOf mapsFit accessPermission lowerVtlPermissions faultOf faultRefusal
+unfolding word writtenFrom closed closedTo swapped entriesOf ramByte operandOf accessPermission lowerVtlPermissions faultOf faultRefusal
     pageFault numberOf numberAt numbersFrom among repeats neighbours runAt pick pickPlaces tableOf stopAt runEnd put placeFrom listsFrom endFrom held
     total same kept lock.placeFrom without span nextOf anyOf anyIn renewedFrom operationOf ask end halt keep shareRun defaultRun returnRun afterFlush
     afterWait afterModify afterAccept failedModify doneOf failedOf cleared startOf protect changes.ask wait finish changes.halt changes.keep

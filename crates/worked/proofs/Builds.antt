@@ -3,7 +3,8 @@ use mathlib.Core.Path.{refl}
 use Rattle.bitmap.specs.Pages.{word, writtenFrom}
 use Rattle.layout.specs.Layout.{entriesOf, ramByte, ordered, aligned, refusalOf}
 use Rattle.protector_state.specs.State.{firstPhases, phaseOf}
-use Rattle.protector.specs.Calls.{buildRefusal, buildTaken, buildOf}
+use Rattle.call_refusals.specs.Refusals.{buildRefusal}
+use Rattle.protector.specs.Calls.{buildTaken, buildOf}
 use Rattle.setting_entries.specs.Calls.{stateRefusal, enableRefusal, enableOf, enabledIn, defaultIn}
 use Rattle.worked.specs.Builds.{Builds}
 

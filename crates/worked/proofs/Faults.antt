@@ -3,7 +3,6 @@ use mathlib.Core.Path.{refl}
 use Rattle.bitmap.specs.Pages.{word, writtenFrom}
 use Rattle.layout.specs.Layout.{entriesOf, ramByte}
 use Rattle.permissions.specs.Rmpadjust.{operandOf}
-use Rattle.mapping.specs.Maps.{mapsFit}
 use Rattle.access.specs.Query.{accessPermission, lowerVtlPermissions}
 use Rattle.fault.specs.Fault.{faultOf, faultRefusal, pageFault}
 use Rattle.page_list.specs.Pages.{numberOf, numberAt, numbersFrom, among, repeats}
@@ -14,8 +13,9 @@ use Rattle.lock_table.specs.Locks.{listsFrom, held}
 use Rattle.visibility_steps.specs.Steps.{operationOf, ask, end, halt, keep, shareRun, defaultRun, returnRun, afterFlush, afterWait, afterModify, afterAccept, failedModify, doneOf, failedOf, cleared, startOf}
 use Rattle.protector_state.specs.State.{firstPhases, phaseOf}
 use Rattle.protector_state.specs.Reply.{askedOf, flatOf}
-use Rattle.protector.specs.World.{applied}
-use Rattle.protector.specs.Calls.{carriedOut, firstRefusal, visibilityRefusal, visibilityTaken, visibilityOf, answerRefusal, answerDone, answerFailed}
+use Rattle.protector.specs.Writes.{applied}
+use Rattle.protector.specs.Calls.{carriedOut, visibilityTaken, visibilityOf, answerDone, answerFailed}
+use Rattle.call_refusals.specs.Refusals.{firstRefusal, visibilityRefusal, answerRefusal}
 use Rattle.queries.specs.Queries.{faultIn, lowerIn, accessIn}
 use Rattle.visibility_claims.specs.Whole.{one, inTurn, perRun, wholeShare}
 use Rattle.visibility_claims.specs.Requested.{denial, requestedFrom, pagesIn}
@@ -23,7 +23,7 @@ use Rattle.visibility_claims.specs.Calls.{follow}
 use Rattle.worked.specs.Faults.{Faults, Permissions}
 
 pub faults : Faults
-unfolding word writtenFrom entriesOf ramByte operandOf mapsFit faultOf faultRefusal pageFault numberOf numberAt numbersFrom among repeats runsOf
+unfolding word writtenFrom entriesOf ramByte operandOf faultOf faultRefusal pageFault numberOf numberAt numbersFrom among repeats runsOf
     neighbours runAt pick pickPlaces tableOf stopAt runEnd put placeFrom listsFrom held operationOf ask end halt keep shareRun defaultRun returnRun
     afterFlush afterWait afterModify afterAccept failedModify doneOf failedOf cleared startOf firstPhases phaseOf askedOf flatOf applied carriedOut
     firstRefusal visibilityRefusal visibilityTaken visibilityOf answerRefusal answerDone answerFailed faultIn
@@ -60,7 +60,7 @@ faults =
     }
 
 pub permissions : Permissions
-unfolding entriesOf ramByte mapsFit accessPermission lowerVtlPermissions lowerIn accessIn
+unfolding entriesOf ramByte accessPermission lowerVtlPermissions lowerIn accessIn
 permissions =
     record {
       lower-vtl0 = refl;

@@ -11,9 +11,10 @@ use Rattle.change_steps.specs.Changes as changes
 use Rattle.change_steps.specs.Changes.{protect, wait, finish, startNew}
 use Rattle.protector_state.specs.State.{firstPhases, phaseOf}
 use Rattle.protector_state.specs.Reply.{askedOf, flatOf}
-use Rattle.change_state.specs.State.{stageOf}
-use Rattle.protector.specs.World.{entered}
-use Rattle.protector.specs.Calls.{carriedChange, answerRefusal, afterDone, answerDone}
+use Rattle.protector_state.specs.Changing.{stageOf}
+use Rattle.protector.specs.Writes.{entered}
+use Rattle.protector.specs.Calls.{carriedChange, afterDone, answerDone}
+use Rattle.call_refusals.specs.Refusals.{answerRefusal}
 use Rattle.lock_entries.specs.Calls.{lockRefusal, lockOf, unlockOf}
 use Rattle.overlay_refusals.specs.Refusals.{callRefusal, within, knownRefusal, guestRefusal, dmaRefusal, pageRefusal, registerRefusal, currentOf}
 use Rattle.overlay_entries.specs.Calls.{registerTaken, registerOf}

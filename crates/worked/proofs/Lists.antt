@@ -21,10 +21,12 @@ use Rattle.change_steps.specs.Changes as changes
 use Rattle.change_steps.specs.Changes.{protect, wait, finish, protectPages, protectRam, startNew, startOld}
 use Rattle.protector_state.specs.State.{firstPhases, phaseOf}
 use Rattle.protector_state.specs.Reply.{askedOf, flatOf}
-use Rattle.change_state.specs.State.{stageOf}
+use Rattle.protector_state.specs.Changing.{stageOf}
 use Rattle.permissions.specs.declared.GuestVtl.the-variants.{Vtl0}
-use Rattle.protector.specs.World.{fits, applied, entered}
-use Rattle.protector.specs.Calls.{decided, carriedOut, carriedChange, firstRefusal, visibilityRefusal, visibilityTaken, visibilityOf, answerRefusal, afterDone, afterFailed, answerDone, answerFailed}
+use Rattle.call_refusals.specs.World.{fits}
+use Rattle.protector.specs.Writes.{applied, entered}
+use Rattle.protector.specs.Calls.{decided, carriedOut, carriedChange, visibilityTaken, visibilityOf, afterDone, afterFailed, answerDone, answerFailed}
+use Rattle.call_refusals.specs.Refusals.{firstRefusal, visibilityRefusal, answerRefusal}
 use Rattle.protection_entries.specs.Calls.{protectionRefusal, protectionTaken, protectionOf, defaultRefusal, defaultStarted, defaultTaken, defaultOf}
 use Rattle.lock_entries.specs.Calls.{lockRefusal, lockOf, unlockOf}
 use Rattle.queries.specs.Queries.{queryRefusal, visibilities, filledBy, queryOf}

@@ -16,9 +16,10 @@ use Rattle.change_steps.specs.Changes as changes
 use Rattle.change_steps.specs.Changes.{protect, wait, finish, protectPages, protectRam, startNew, startOld}
 use Rattle.protector_state.specs.State.{firstPhases, phaseOf}
 use Rattle.protector_state.specs.Reply.{askedOf, flatOf}
-use Rattle.change_state.specs.State.{stageOf}
-use Rattle.protector.specs.World.{entered}
-use Rattle.protector.specs.Calls.{carriedChange, firstRefusal, answerRefusal, afterDone, afterFailed, answerDone, answerFailed}
+use Rattle.protector_state.specs.Changing.{stageOf}
+use Rattle.protector.specs.Writes.{entered}
+use Rattle.protector.specs.Calls.{carriedChange, afterDone, afterFailed, answerDone, answerFailed}
+use Rattle.call_refusals.specs.Refusals.{firstRefusal, answerRefusal}
 use Rattle.protection_entries.specs.Calls.{protectionRefusal, protectionTaken, protectionOf, defaultRefusal, defaultStarted, defaultTaken, defaultOf}
 use Rattle.overlay_refusals.specs.Refusals.{callRefusal, within, knownRefusal, guestRefusal, dmaRefusal, pageRefusal, registerRefusal, currentOf, unregisterRefusal}
 use Rattle.overlay_entries.specs.Calls.{isOverlayIn, registerTaken, registerOf, unregisterTaken, unregisterOf}

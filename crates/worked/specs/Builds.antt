@@ -5,11 +5,11 @@ use Prim.Native.Nat.{ℕ, _+_, _^_}
 use lib.ListN.{replicate}
 use Rattle.mapping.specs.Maps.{Maps, maps}
 use Rattle.protector_state.specs.declared.Reply.{Reply}
-use Rattle.protector.specs.World.{World, world, outcome}
+use Rattle.call_refusals.specs.World.{World, world, outcome}
 use Rattle.protector.specs.Calls.{buildOf}
 use Rattle.setting_entries.specs.Calls.{enableOf, enabledIn, defaultIn}
 use Rattle.setting_entries.specs.Calls as calls
-use Rattle.queries.specs.Queries.{value}
+use Rattle.protector_state.specs.Reply.{value}
 use Rattle.visibility_claims.specs.Table.{ram, lent, fresh, enabled}
 use Rattle.worked.specs.Crossing.{ok, refused, keeps, first, whole, clear, settings, noTables, rest}
 

@@ -7,7 +7,7 @@ use lib.ListN.{replicate}
 use Rattle.mapping.specs.Maps.{Maps, maps}
 use Rattle.protector_state.specs.Reply.{finished}
 use Rattle.protector_state.specs.State.{builtState}
-use Rattle.protector.specs.World.{World}
+use Rattle.call_refusals.specs.World.{World}
 use Rattle.protector.specs.Calls.{visibilityOf}
 use Rattle.protection_entries.specs.Calls.{protectionOf, defaultOf}
 use Rattle.visibility_claims.specs.Whole.{Succeeds, Fails}

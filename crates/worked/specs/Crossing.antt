@@ -7,7 +7,7 @@ use Rattle.words.specs.Words.{padded}
 use Rattle.mapping.specs.Maps.{Maps, maps}
 use Rattle.protector_state.specs.declared.Reply.{Reply}
 use Rattle.protector_state.specs.Reply.{finished}
-use Rattle.protector.specs.World.{World, world, Outcome}
+use Rattle.call_refusals.specs.World.{World, world, Outcome}
 use Rattle.visibility_claims.specs.Whole.{Given}
 use Rattle.visibility_claims.specs.Calls.{Told, follow}
 use Rattle.visibility_claims.specs.Table.{ram, dones}

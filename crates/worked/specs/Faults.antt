@@ -6,10 +6,11 @@ use mathlib.Core.Path.{_≡_}
 use Prim.Native.Nat.{ℕ, _+_, _*_, _^_}
 use lib.ListN.{replicate}
 use Rattle.mapping.specs.Maps.{Maps, maps}
-use Rattle.protector.specs.World.{World}
+use Rattle.call_refusals.specs.World.{World}
 use Rattle.protector.specs.Calls.{visibilityOf}
-use Rattle.queries.specs.declared.Value.{Value}
-use Rattle.queries.specs.Queries.{value, faultIn, lowerIn, accessIn}
+use Rattle.protector_state.specs.declared.Value.{Value}
+use Rattle.queries.specs.Queries.{faultIn, lowerIn, accessIn}
+use Rattle.protector_state.specs.Reply.{value}
 use Rattle.visibility_claims.specs.Table.{page, fresh, P2}
 use Rattle.worked.specs.Crossing.{low, whole, clear, untracked, settings}
 

@@ -4,7 +4,7 @@ use mathlib.Core.List.{List, [], _∷_, _++_}
 use mathlib.Core.Path.{_≡_}
 use Prim.Native.Nat.{ℕ, zero, suc, _+_}
 use lib.ListN.{replicate}
-use Rattle.protector.specs.World.{World}
+use Rattle.call_refusals.specs.World.{World}
 use Rattle.overlay_entries.specs.Calls.{registerOf}
 use Rattle.lock_entries.specs.Calls.{kept, lockOf, unlockOf}
 use Rattle.visibility_claims.specs.Table.{page, fresh}

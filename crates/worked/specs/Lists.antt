@@ -6,7 +6,7 @@ use lib.ListN.{replicate}
 use Rattle.mapping.specs.Maps.{maps}
 use Rattle.protector_state.specs.declared.Reply.{Reply}
 use Rattle.protector_state.specs.State.{builtState}
-use Rattle.protector.specs.World.{World}
+use Rattle.call_refusals.specs.World.{World}
 use Rattle.protector.specs.Calls.{visibilityOf}
 use Rattle.protection_entries.specs.Calls.{protectionOf}
 use Rattle.lock_entries.specs.Calls.{lockOf, unlockOf}

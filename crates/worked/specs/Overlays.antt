@@ -6,9 +6,9 @@ use Prim.Native.Nat.{ℕ, _+_, _^_}
 use Rattle.mapping.specs.Maps.{Maps, maps}
 use Rattle.protector_state.specs.declared.Reply.{Reply}
 use Rattle.protector_state.specs.Reply.{finished}
-use Rattle.protector.specs.World.{World}
+use Rattle.call_refusals.specs.World.{World}
 use Rattle.overlay_entries.specs.Calls.{registerOf, unregisterOf, isOverlayIn}
-use Rattle.queries.specs.Queries.{value}
+use Rattle.protector_state.specs.Reply.{value}
 use Rattle.visibility_claims.specs.Whole.{Fails}
 use Rattle.visibility_claims.specs.Calls.{follow}
 use Rattle.visibility_claims.specs.Table.{dones, fresh}

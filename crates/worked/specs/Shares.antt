@@ -6,7 +6,7 @@ use Prim.Native.Nat.{ℕ}
 use Rattle.mapping.specs.Maps.{Maps, maps}
 use Rattle.protector_state.specs.declared.Reply.{Reply}
 use Rattle.protector_state.specs.Reply.{finished}
-use Rattle.protector.specs.World.{World}
+use Rattle.call_refusals.specs.World.{World}
 use Rattle.protector.specs.Calls.{visibilityOf, answerDone, answerFailed}
 use Rattle.protection_entries.specs.Calls.{protectionOf}
 use Rattle.visibility_claims.specs.Whole.{Given, Succeeds, Fails}

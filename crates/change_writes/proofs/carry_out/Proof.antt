@@ -3,7 +3,7 @@ use borrow.Author.Needs.{needs}
 use mathlib.Core.Path.{ap, _∙_}
 use Rattle.permissions.specs.declared.HvMapGpaFlags.{HvMapGpaFlags}
 use Rattle.mapping.specs.Maps.{perms}
-use Rattle.protector.specs.World.{permittedRun}
+use Rattle.protector.specs.Writes.{permittedRun}
 use Rattle.change_writes.proofs.carry_out.Statement.{statement}
 use Rattle.change_writes.proofs.carry_out.Tie as tie
 

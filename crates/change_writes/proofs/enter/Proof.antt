@@ -2,7 +2,7 @@
 use borrow.Author.Needs.{needs}
 use mathlib.Core.Path.{sym, ap, _∙_}
 use Rattle.change_steps.specs.declared.Entry.{Entry}
-use Rattle.protector.specs.World.{entered}
+use Rattle.protector.specs.Writes.{entered}
 use Rattle.change_writes.proofs.enter.Statement.{statement}
 use Rattle.change_writes.proofs.enter.Tie as tie
 

@@ -4,7 +4,7 @@ use mathlib.Core.Path.{ap, ap₂, _∙_}
 use Rattle.change_steps.specs.declared.Stage.{Stage}
 use Rattle.change_steps.specs.declared.Change.{Change}
 use Rattle.change_steps.specs.Changes.{flushStage, flushChange}
-use Rattle.change_state.specs.State.{withChange}
+use Rattle.protector_state.specs.Changing.{withChange}
 use Rattle.change_writes.specs.Flush.{flushReply}
 use Rattle.change_writes.proofs.flush_done.Statement.{statement}
 use Rattle.change_writes.proofs.flush_done.Tie as tie

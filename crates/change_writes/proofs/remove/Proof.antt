@@ -1,6 +1,6 @@
 -- `change_writes::remove` meets its contract. Assumes nothing.
 use borrow.Author.Needs.{needs}
-use Rattle.protector.specs.World.{withoutPage}
+use Rattle.protector.specs.Writes.{withoutPage}
 use Rattle.change_writes.proofs.Laws as laws
 use Rattle.change_writes.proofs.remove.Statement.{statement}
 use Rattle.change_writes.proofs.remove.Tie as tie

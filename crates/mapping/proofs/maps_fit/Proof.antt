@@ -24,7 +24,7 @@ returns-2 : tie.Need-returns-2
 returns-2 c =
     let a = c .before .before .before .before .args in
     and-goes _ _ _ (sym (c .before .before .before .marks-fit .ensures) ∙ not-false (c .before .before .before .marks-fit .result) (c .before .before .if1 .left))
-    (c .permissions-fit .ensures ∙ ap (λ (n : ℕ). permissionsFit n (a .read) (a .write) (a .kernel) (a .user)) (c .before .permission-len .ensures))
+    (c .permissions-fit .ensures ∙ ap (λ (n : ℕ). permissionsFit n (a .lengths)) (c .before .permission-len .ensures))
 
 pub maps-fit-spec : {M : Type 1} → statement M
 maps-fit-spec =

@@ -8,17 +8,23 @@ use Rattle.overlay_entries.proofs.protector_is_overlay_page.Tie as tie
 table-refusal-requires : tie.Need-table-refusal-requires
 table-refusal-requires c κs = search needs
 
-hv-error-requires : tie.Need-hv-error-requires
-hv-error-requires c κs = search needs
+refused-value-requires : tie.Need-refused-value-requires
+refused-value-requires c κs = search needs
 
 returns : tie.Need-returns
-returns c = let a = c .before .before .before .before .before .args in laws.query-refused (a .state .now) (a .tables .now) (a .vtl) (a .gpn) _ (c .before .before .table-refusal .ensures) _ _ (c .before .if1 .taken) (c .hv-error .ensures) refl
+returns c =
+    let c5 = c .before .before .before .before .before in
+    let a = c5 .args in
+    laws.query-refused (a .state .now) (a .tables .now) (a .vtl) (a .gpn) _ (c .before .before .table-refusal .ensures) _ _ (c .before .if1 .taken) refl (c .refused-value .ensures)
 
 vtl-of-requires : tie.Need-vtl-of-requires
 vtl-of-requires c κs = search needs
 
 overlays-of-requires : tie.Need-overlays-of-requires
-overlays-of-requires c κs = let a = c .before .before .before .before .before .args in laws.query-tables (a .state .now) (a .tables .now) (a .vtl) (a .gpn) _ (c .before .before .table-refusal .ensures) (c .before .if1 .left)
+overlays-of-requires c κs =
+    let c5 = c .before .before .before .before .before in
+    let a = c5 .args in
+    laws.query-tables (a .state .now) (a .tables .now) (a .vtl) (a .gpn) _ (c .before .before .table-refusal .ensures) (c .before .if1 .left)
 
 is-overlay-requires : tie.Need-is-overlay-requires
 is-overlay-requires c κs = search needs
@@ -26,22 +32,15 @@ is-overlay-requires c κs = search needs
 digit-of-requires : tie.Need-digit-of-requires
 digit-of-requires c κs = search needs
 
+ok-value-requires : tie.Need-ok-value-requires
+ok-value-requires c κs = search needs
+
 returns-2 : tie.Need-returns-2
 returns-2 c =
-    let c4 = c .before .before .before .before in let c5 = c4 .before in
-    let a = c5 .before .before .before .args in
-    laws.query-taken (a .state .now) (a .tables .now) (a .vtl) (a .gpn) _ (c5 .table-refusal .ensures) _ _ _ _ _ (c4 .if1 .left) (c .before .before .before .vtl-of .ensures)
-    (c .before .before .overlays-of .ensures) (c .before .is-overlay .ensures) (c .digit-of .ensures .0) refl
+    let c3 = c .before .before .before in let c4 = c3 .before in let c5 = c4 .before in let c6 = c5 .before in let c9 = c6 .before .before .before in
+    let a = c9 .args in
+    laws.query-taken (a .state .now) (a .tables .now) (a .vtl) (a .gpn) _ (c6 .table-refusal .ensures) _ _ _ _ _ (c5 .if1 .left) (c4 .vtl-of .ensures)
+    (c3 .overlays-of .ensures) (c .before .before .is-overlay .ensures) (c .before .digit-of .ensures .0) (c .ok-value .ensures)
 
 pub protector-is-overlay-page-spec : {M : Type 1} → statement M
-protector-is-overlay-page-spec =
-    tie.close
-    (tie.spec
-    table-refusal-requires
-    hv-error-requires
-    returns
-    vtl-of-requires
-    overlays-of-requires
-    is-overlay-requires
-    digit-of-requires
-    returns-2)
+protector-is-overlay-page-spec = tie.close (tie.spec table-refusal-requires refused-value-requires returns vtl-of-requires overlays-of-requires is-overlay-requires digit-of-requires ok-value-requires returns-2)

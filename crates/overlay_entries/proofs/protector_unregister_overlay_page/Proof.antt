@@ -5,8 +5,9 @@ use native.Mathlib.Omega.{arith}
 use Rattle.mapping.specs.Maps.{maps}
 use Rattle.permissions.specs.declared.GuestVtl.{GuestVtl}
 use Rattle.permissions.specs.Flags.{vtlOf}
-use Rattle.protector.specs.World.{world, fits}
-use Rattle.protector.proofs.Laws.{call-refused, call-taken, fits-tables}
+use Rattle.call_refusals.specs.World.{world, fits}
+use Rattle.protector.proofs.Laws.{call-refused, call-taken}
+use Rattle.call_refusals.proofs.Laws.{fits-tables}
 use Rattle.overlay_entries.specs.Calls.{unregisterOf, unregisterTaken}
 use Rattle.overlay_entries.proofs.Laws as laws
 use Rattle.overlay_entries.proofs.protector_unregister_overlay_page.Statement.{statement}

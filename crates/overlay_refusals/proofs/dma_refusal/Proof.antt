@@ -1,8 +1,7 @@
 -- `overlay_refusals::dma_refusal` meets its contract. Assumes nothing.
 use borrow.Author.Needs.{needs}
-use mathlib.Core.Path.{sym, ap, _∙_}
-use Rattle.laws.specs.Refusal.{refuses, passes}
-use mathlib.Core.Bool.{not}
+use mathlib.Core.Path.{sym, _∙_}
+use Rattle.laws.specs.Refusal.{when-refuses, when-passes}
 use Rattle.overlay_refusals.specs.Refusals.{dmaRefusal}
 use Rattle.overlay_refusals.proofs.dma_refusal.Statement.{statement}
 use Rattle.overlay_refusals.proofs.dma_refusal.Tie as tie
@@ -12,21 +11,21 @@ is-in-guest-memory-requires c κs = search needs
 
 returns : tie.Need-returns
 unfolding dmaRefusal
-returns c = refuses _ _ _ (ap not (sym (c .before .is-in-guest-memory .ensures) ∙ c .if1 .taken))
+returns c = when-refuses _ _ _ (sym (c .before .is-in-guest-memory .ensures) ∙ c .if1 .taken)
 
 is-locked-requires : tie.Need-is-locked-requires
 is-locked-requires c κs = search needs
 
 returns-2 : tie.Need-returns-2
 unfolding dmaRefusal
-returns-2 c = passes _ _ _ _ (ap not (sym (c .before .before .before .is-in-guest-memory .ensures) ∙ c .before .before .if1 .left)) (refuses _ _ _ (ap not (sym (c .before .is-locked .ensures) ∙ c .if2 .taken)))
+returns-2 c = when-passes _ _ _ _ (sym (c .before .before .before .is-in-guest-memory .ensures) ∙ c .before .before .if1 .left) (when-refuses _ _ _ (sym (c .before .is-locked .ensures) ∙ c .if2 .taken))
 
 add-code-requires : tie.Need-add-code-requires
 add-code-requires c κs = search needs
 
 returns-3 : tie.Need-returns-3
 unfolding dmaRefusal
-returns-3 c = passes _ _ _ _ (ap not (sym (c .before .before .before .before .is-in-guest-memory .ensures) ∙ c .before .before .before .if1 .left)) (passes _ _ _ _ (ap not (sym (c .before .before .is-locked .ensures) ∙ c .before .if2 .left)) (c .add-code .ensures))
+returns-3 c = when-passes _ _ _ _ (sym (c .before .before .before .before .is-in-guest-memory .ensures) ∙ c .before .before .before .if1 .left) (when-passes _ _ _ _ (sym (c .before .before .is-locked .ensures) ∙ c .before .if2 .left) (c .add-code .ensures))
 
 pub dma-refusal-spec : {M : Type 1} → statement M
 dma-refusal-spec =

@@ -4,10 +4,9 @@ use mathlib.Core.Path.{refl, sym, ap, _∙_}
 use Rattle.laws.specs.Refusal.{refuses, passes}
 use mathlib.Core.List.{List}
 use Prim.Native.Nat.{ℕ}
-use lib.ListN.{length}
 use Rattle.overlay_table.specs.Overlays.{isOverlay}
-use Rattle.protector.specs.World.{overlaysOf, lengthsFit}
-use Rattle.protector.proofs.Laws as lengths
+use Rattle.call_refusals.specs.World.{overlaysOf, fitsIn}
+use Rattle.call_refusals.proofs.Laws.{tables-fit}
 use Rattle.overlay_refusals.specs.Refusals.{unregisterRefusal}
 use Rattle.overlay_refusals.proofs.Laws as laws
 use Rattle.overlay_refusals.proofs.unregister_refusal.Statement.{statement}
@@ -18,7 +17,7 @@ call-refusal-requires c κs = search needs
 
 returns : tie.Need-returns
 unfolding unregisterRefusal
-returns c = let a = c .before .before .before .before .args in laws.call-ends (a .state .now) (lengthsFit (a .state .now) (a .private) (a .shared) (a .read) (a .write) (a .kernel) (a .user) (a .pages) (length (a .tables .now))) (a .vtl) _ (c .before .call-refusal .ensures) _ (c .if1 .taken)
+returns c = let a = c .before .before .before .before .args in laws.call-ends (a .state .now) (fitsIn (a .state .now) (a .lengths)) (a .vtl) _ (c .before .call-refusal .ensures) _ (c .if1 .taken)
 
 vtl-of-requires : tie.Need-vtl-of-requires
 vtl-of-requires c κs = search needs
@@ -26,8 +25,8 @@ vtl-of-requires c κs = search needs
 overlays-of-requires : tie.Need-overlays-of-requires
 overlays-of-requires c κs =
     let a = c .before .before .before .before .before .args in
-    lengths.tables-fit (a .state .now) (a .private) (a .shared) (a .read) (a .write) (a .kernel) (a .user) (a .pages) (length (a .tables .now))
-    (laws.call-fits (a .state .now) (lengthsFit (a .state .now) (a .private) (a .shared) (a .read) (a .write) (a .kernel) (a .user) (a .pages) (length (a .tables .now))) (a .vtl) _
+    sym (c .before .before .before .before .before .pre) ∙ tables-fit (a .state .now) (a .lengths)
+    (laws.call-fits (a .state .now) (fitsIn (a .state .now) (a .lengths)) (a .vtl) _
     (c .before .before .call-refusal .ensures) (c .before .if1 .left))
 
 is-overlay-requires : tie.Need-is-overlay-requires
@@ -38,7 +37,7 @@ unfolding unregisterRefusal
 returns-2 c =
     let c4 = c .before .before .before .before in let c5 = c4 .before in
     let a = c5 .before .before .before .args in
-    laws.call-goes (a .state .now) (lengthsFit (a .state .now) (a .private) (a .shared) (a .read) (a .write) (a .kernel) (a .user) (a .pages) (length (a .tables .now))) (a .vtl) _
+    laws.call-goes (a .state .now) (fitsIn (a .state .now) (a .lengths)) (a .vtl) _
     (c5 .call-refusal .ensures) _ _ (c4 .if1 .left) (passes _ _ _ _
     (sym (c .before .is-overlay .ensures ∙ ap (λ (o : List ℕ). isOverlay o (a .gpn))
     (c .before .before .overlays-of .ensures ∙ ap (overlaysOf (a .tables .now)) (c .before .before .before .vtl-of .ensures))) ∙ c .if2 .taken) refl)
@@ -48,7 +47,7 @@ unfolding unregisterRefusal
 returns-3 c =
     let c4 = c .before .before .before .before in let c5 = c4 .before in
     let a = c5 .before .before .before .args in
-    laws.call-goes (a .state .now) (lengthsFit (a .state .now) (a .private) (a .shared) (a .read) (a .write) (a .kernel) (a .user) (a .pages) (length (a .tables .now))) (a .vtl) _
+    laws.call-goes (a .state .now) (fitsIn (a .state .now) (a .lengths)) (a .vtl) _
     (c5 .call-refusal .ensures) _ _ (c4 .if1 .left) (refuses _ _ _
     (sym (c .before .is-overlay .ensures ∙ ap (λ (o : List ℕ). isOverlay o (a .gpn))
     (c .before .before .overlays-of .ensures ∙ ap (overlaysOf (a .tables .now)) (c .before .before .before .vtl-of .ensures))) ∙ c .if2 .left))

@@ -5,7 +5,7 @@ use Rattle.permissions.specs.declared.HvMapGpaFlags.{HvMapGpaFlags}
 use Rattle.permissions.specs.declared.IsolationType.{IsolationType}
 use Rattle.mapping.specs.Maps.{perms}
 use Rattle.protector_state.specs.Reply.{flatOf}
-use Rattle.protector.specs.World.{permittedRun}
+use Rattle.protector.specs.Writes.{permittedRun}
 use Rattle.protection_entries.proofs.carry_out.Statement.{statement}
 use Rattle.protection_entries.proofs.carry_out.Tie as tie
 

@@ -2,7 +2,7 @@
 use borrow.Author.Needs.{needs}
 use Rattle.permissions.specs.Flags.{vtlOf}
 use Rattle.mapping.specs.Maps.{maps}
-use Rattle.protector.specs.World.{world}
+use Rattle.call_refusals.specs.World.{world}
 use Rattle.protector.proofs.Laws.{call-refused, call-taken}
 use Rattle.protection_entries.specs.Calls.{protectionTaken, protectionOf}
 use Rattle.protection_entries.proofs.Laws as laws

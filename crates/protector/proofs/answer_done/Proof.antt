@@ -6,7 +6,7 @@ use Rattle.mapping.specs.Maps.{maps}
 use Rattle.visibility_steps.specs.declared.Step.{Step}
 use Rattle.protector_state.specs.State.{settingsOf, requestOf, withRequest}
 use Rattle.protector_state.specs.Reply.{flatOf}
-use Rattle.protector.specs.World.{applied}
+use Rattle.protector.specs.Writes.{applied}
 use Rattle.protector.proofs.answer_done.Statement.{statement}
 use Rattle.protector.proofs.answer_done.Tie as tie
 

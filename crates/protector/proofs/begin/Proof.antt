@@ -8,7 +8,7 @@ use Rattle.visibility_steps.specs.declared.Writes.{Writes}
 use Rattle.visibility_steps.specs.Steps.{cleared, startOf}
 use Rattle.protector_state.specs.State.{withRequest}
 use Rattle.protector_state.specs.Reply.{askedOf, flatOf}
-use Rattle.protector.specs.World.{applied}
+use Rattle.protector.specs.Writes.{applied}
 use Rattle.protector.proofs.begin.Statement.{statement}
 use Rattle.protector.proofs.begin.Tie as tie
 

@@ -2,80 +2,63 @@
 use borrow.Author.Needs.{needs}
 use mathlib.Core.Path.{refl, sym, ap, _∙_}
 use borrow.Author.Tests.{eq-eqb, ne-eqb}
-use mathlib.Core.Bool.{not}
-use Rattle.laws.specs.Refusal.{refuses, passes}
 use mathlib.Core.List.{List}
 use Prim.Native.Nat.{ℕ}
+use Rattle.laws.specs.Refusal.{when-refuses, when-passes}
 use Rattle.layout.specs.Layout.{entriesOf, mapLen}
+use Rattle.call_refusals.proofs.Laws.{state-refuses, state-long, state-unfit, state-passes}
 use Rattle.queries.specs.Queries.{queryRefusal}
 use Rattle.queries.proofs.query_refusal.Statement.{statement}
 use Rattle.queries.proofs.query_refusal.Tie as tie
 
+state-refusal-requires : tie.Need-state-refusal-requires
+state-refusal-requires c κs = search needs
+
 returns : tie.Need-returns
 unfolding queryRefusal
-returns c = refuses _ _ _ (ne-eqb _ _ (c .if1 .taken))
-
-status-requires : tie.Need-status-requires
-status-requires c κs = search needs
-
-returns-2 : tie.Need-returns-2
-unfolding queryRefusal
-returns-2 c = passes _ _ _ _ (eq-eqb _ _ (c .before .before .if1 .left)) (c .before .status .ensures ∙ refuses _ _ _ (ne-eqb _ _ (λ e. c .if2 .taken (c .before .status .ensures ∙ e))))
+returns c = state-refuses _ _ (c .before .state-refusal .ensures) _ _ (c .if1 .taken)
 
 ram-of-requires : tie.Need-ram-of-requires
-ram-of-requires c κs = search needs
+ram-of-requires c κs = state-long _ _ (c .before .state-refusal .ensures) (c .if1 .left)
 
 map-len-requires : tie.Need-map-len-requires
 map-len-requires c κs = search needs
 
-returns-3 : tie.Need-returns-3
+returns-2 : tie.Need-returns-2
 unfolding queryRefusal
-returns-3 c = passes _ _ _ _ (eq-eqb _ _ (c .before .before .before .before .before .if1 .left)) (passes _ _ _ _ (eq-eqb _ _ (sym (c .before .before .before .before .status .ensures) ∙ c .before .before .before .if2 .left)) (refuses _ _ _ (ne-eqb _ _ (λ e. c .if3 .taken (e ∙ sym (c .before .map-len .ensures ∙ ap (λ (r : List ℕ). mapLen (entriesOf r)) (c .before .before .ram-of .ensures)))))))
+returns-2 c =
+    let c3 = c .before .before .before in let c4 = c3 .before in
+    let len = c .before .map-len .ensures ∙ ap (λ (r : List ℕ). mapLen (entriesOf r)) (c .before .before .ram-of .ensures) in
+    state-unfit _ _ (c4 .state-refusal .ensures) (c3 .if1 .left) _ _ (ne-eqb _ _ (λ e. c .if2 .taken (e ∙ sym len)))
 
 is-long-requires : tie.Need-is-long-requires
 is-long-requires c κs = search needs
 
-returns-4 : tie.Need-returns-4
+returns-3 : tie.Need-returns-3
 unfolding queryRefusal
-returns-4 c =
-    let c4 = c .before .before .before .before in let c5 = c4 .before in let c6 = c5 .before in let c7 = c6 .before in
-    passes _ _ _ _ (eq-eqb _ _ (c7 .if1 .left)) (passes _ _ _ _ (eq-eqb _ _ (sym (c6 .status .ensures) ∙ c5 .if2 .left))
-    (passes _ _ _ _ (eq-eqb _ _ (c .before .before .if3 .left ∙ c .before .before .before .map-len .ensures ∙ ap (λ (r : List ℕ). mapLen (entriesOf r)) (c4 .ram-of .ensures)))
-    (refuses _ _ _ (ap not (sym (c .before .is-long .ensures) ∙ c .if4 .taken)))))
+returns-3 c =
+    let c3 = c .before .before .before in let c4 = c3 .before in let c5 = c4 .before in let c6 = c5 .before in
+    let len = c3 .map-len .ensures ∙ ap (λ (r : List ℕ). mapLen (entriesOf r)) (c4 .ram-of .ensures) in
+    state-passes _ _ (c6 .state-refusal .ensures) (c5 .if1 .left) _ _ _ (eq-eqb _ _ (c .before .before .if2 .left ∙ len)) (when-refuses _ _ _ (sym (c .before .is-long .ensures) ∙ c .if3 .taken))
 
 is-ragged-requires : tie.Need-is-ragged-requires
 is-ragged-requires c κs = search needs
 
+returns-4 : tie.Need-returns-4
+unfolding queryRefusal
+returns-4 c =
+    let c3 = c .before .before .before in let c4 = c3 .before in let c5 = c4 .before in let c6 = c5 .before in let c7 = c6 .before in let c8 = c7 .before in
+    let len = c5 .map-len .ensures ∙ ap (λ (r : List ℕ). mapLen (entriesOf r)) (c6 .ram-of .ensures) in
+    state-passes _ _ (c8 .state-refusal .ensures) (c7 .if1 .left) _ _ _ (eq-eqb _ _ (c4 .if2 .left ∙ len)) (when-passes _ _ _ _ (sym (c3 .is-long .ensures) ∙ c .before .before .if3 .left)
+    (when-refuses _ _ _ (sym (c .before .is-ragged .ensures) ∙ c .if4 .taken)))
+
 returns-5 : tie.Need-returns-5
 unfolding queryRefusal
 returns-5 c =
-    let c4 = c .before .before .before .before in let c5 = c4 .before in let c6 = c5 .before in let c7 = c6 .before in let c8 = c7 .before in let c9 = c8 .before in
-    passes _ _ _ _ (eq-eqb _ _ (c9 .if1 .left)) (passes _ _ _ _ (eq-eqb _ _ (sym (c8 .status .ensures) ∙ c7 .if2 .left))
-    (passes _ _ _ _ (eq-eqb _ _ (c4 .if3 .left ∙ c5 .map-len .ensures ∙ ap (λ (r : List ℕ). mapLen (entriesOf r)) (c6 .ram-of .ensures)))
-    (passes _ _ _ _ (ap not (sym (c .before .before .before .is-long .ensures) ∙ c .before .before .if4 .left))
-    (refuses _ _ _ (ap not (sym (c .before .is-ragged .ensures) ∙ c .if5 .taken))))))
-
-returns-6 : tie.Need-returns-6
-unfolding queryRefusal
-returns-6 c =
-    let c4 = c .before .before .before .before in let c5 = c4 .before in let c6 = c5 .before in let c7 = c6 .before in let c8 = c7 .before in let c9 = c8 .before in
-    passes _ _ _ _ (eq-eqb _ _ (c9 .if1 .left)) (passes _ _ _ _ (eq-eqb _ _ (sym (c8 .status .ensures) ∙ c7 .if2 .left))
-    (passes _ _ _ _ (eq-eqb _ _ (c4 .if3 .left ∙ c5 .map-len .ensures ∙ ap (λ (r : List ℕ). mapLen (entriesOf r)) (c6 .ram-of .ensures)))
-    (passes _ _ _ _ (ap not (sym (c .before .before .before .is-long .ensures) ∙ c .before .before .if4 .left))
-    (passes _ _ _ _ (ap not (sym (c .before .is-ragged .ensures) ∙ c .if5 .left)) (refl)))))
+    let c3 = c .before .before .before in let c4 = c3 .before in let c5 = c4 .before in let c6 = c5 .before in let c7 = c6 .before in let c8 = c7 .before in
+    let len = c5 .map-len .ensures ∙ ap (λ (r : List ℕ). mapLen (entriesOf r)) (c6 .ram-of .ensures) in
+    state-passes _ _ (c8 .state-refusal .ensures) (c7 .if1 .left) _ _ _ (eq-eqb _ _ (c4 .if2 .left ∙ len)) (when-passes _ _ _ _ (sym (c3 .is-long .ensures) ∙ c .before .before .if3 .left)
+    (when-passes _ _ _ _ (sym (c .before .is-ragged .ensures) ∙ c .if4 .left) refl))
 
 pub query-refusal-spec : {M : Type 1} → statement M
-query-refusal-spec =
-    tie.close
-    (tie.spec
-    returns
-    status-requires
-    returns-2
-    ram-of-requires
-    map-len-requires
-    returns-3
-    is-long-requires
-    returns-4
-    is-ragged-requires
-    returns-5
-    returns-6)
+query-refusal-spec = tie.close (tie.spec state-refusal-requires returns ram-of-requires map-len-requires returns-2 is-long-requires returns-3 is-ragged-requires returns-4 returns-5)

@@ -7,11 +7,11 @@ use Rattle.setting_entries.proofs.protector_vtl1_protections_enabled.Ti
 state-refusal-requires : tie.Need-state-refusal-requires
 state-refusal-requires c κs = search needs
 
-refused-requires : tie.Need-refused-requires
-refused-requires c κs = search needs
+refused-value-requires : tie.Need-refused-value-requires
+refused-value-requires c κs = search needs
 
 returns : tie.Need-returns
-returns c = laws.enabled-refused (c .before .before .before .before .args .state .now) (c .before .before .state-refusal .result) (c .before .before .state-refusal .ensures) (c .refused .result) (c .before .if1 .taken) (c .refused .ensures)
+returns c = laws.enabled-refused (c .before .before .before .before .args .state .now) (c .before .before .state-refusal .result) (c .before .before .state-refusal .ensures) (c .refused-value .result) (c .before .if1 .taken) (c .refused-value .ensures)
 
 settings-requires : tie.Need-settings-requires
 settings-requires c κs = laws.passed-length (c .before .before .before .args .state .now) (c .before .state-refusal .result) (c .before .state-refusal .ensures) (c .if1 .left)
@@ -19,23 +19,23 @@ settings-requires c κs = laws.passed-length (c .before .before .before .args .s
 digit-of-requires : tie.Need-digit-of-requires
 digit-of-requires c κs = search needs
 
-told-requires : tie.Need-told-requires
-told-requires c κs = search needs
+ok-value-requires : tie.Need-ok-value-requires
+ok-value-requires c κs = search needs
 
 returns-2 : tie.Need-returns-2
 returns-2 c =
     let c4 = c .before .before .before .before in let c6 = c4 .before .before in
-    laws.enabled-told (c6 .args .state .now) (c4 .state-refusal .result) (c4 .state-refusal .ensures) (c .told .result) (c .before .before .before .if1 .left)
-    (c .before .before .settings .result) (c .before .before .settings .ensures) (c .before .digit-of .result) (c .told .ensures) (c .before .digit-of .ensures .0)
+    laws.enabled-told (c6 .args .state .now) (c4 .state-refusal .result) (c4 .state-refusal .ensures) (c .ok-value .result) (c .before .before .before .if1 .left)
+    (c .before .before .settings .result) (c .before .before .settings .ensures) (c .before .digit-of .result) (c .ok-value .ensures) (c .before .digit-of .ensures .0)
 
 pub protector-vtl1-protections-enabled-spec : {M : Type 1} → statement M
 protector-vtl1-protections-enabled-spec =
     tie.close
     (tie.spec
     state-refusal-requires
-    refused-requires
+    refused-value-requires
     returns
     settings-requires
     digit-of-requires
-    told-requires
+    ok-value-requires
     returns-2)

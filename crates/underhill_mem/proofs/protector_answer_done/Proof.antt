@@ -4,10 +4,11 @@ use mathlib.Core.Bool.{false, cond}
 use lib.ListN.{length}
 use Rattle.mapping.specs.Maps.{maps}
 use Rattle.protector_state.specs.State.{settingsOf}
-use Rattle.change_state.specs.State.{isChanging}
-use Rattle.protector.specs.World.{world}
+use Rattle.protector_state.specs.Changing.{isChanging}
+use Rattle.call_refusals.specs.World.{world, lengthsIn}
 use Rattle.protector.specs.Calls.{answerDone, visibilityDone, changeDone, afterDone, doneIn}
-use Rattle.protector.proofs.Laws.{call-refused, call-taken, pages-fit, tables-fit}
+use Rattle.protector.proofs.Laws.{call-refused, call-taken}
+use Rattle.call_refusals.proofs.Laws.{pages-fit, tables-fit}
 use Rattle.laws.specs.Bools.{chose, chose-not}
 use Rattle.underhill_mem.proofs.Laws as laws
 use Rattle.underhill_mem.proofs.protector_answer_done.Statement.{statement}
@@ -37,8 +38,7 @@ answer-done-requires c κs =
     let c11 = c .before .before .before .before .before .before .before .before .before .before .before in let c12 = c11 .before in
     let a = c12 .before .before .before .before .before .before .before .before .before .before .before .args in (
       laws.answer-passed (a .state .now) _ _ (c11 .if1 .left) false (c12 .answer-refusal .ensures),
-      tables-fit (a .state .now) (length (a .private .now)) (length (a .shared .now))
-          (length (a .read .now)) (length (a .write .now)) (length (a .kernel .now)) (length (a .user .now)) (length (a .pages .now)) (length (a .tables .now))
+      tables-fit (a .state .now) (lengthsIn (world (maps (a .private .now) (a .shared .now) (a .read .now) (a .write .now) (a .kernel .now) (a .user .now)) (a .state .now) (a .pages .now) (a .tables .now)))
           (laws.answer-fits (a .state .now) _ _ (c11 .if1 .left) false (c12 .answer-refusal .ensures)),
     )
 
@@ -82,8 +82,7 @@ answer-done-requires-2 c κs =
     let c11 = c .before .before .before .before .before .before .before .before .before .before .before in let c12 = c11 .before in
     let a = c12 .before .before .before .before .before .before .before .before .before .before .before .args in (
       laws.answer-passed (a .state .now) _ _ (c11 .if1 .left) false (c12 .answer-refusal .ensures),
-      pages-fit (a .state .now) (length (a .private .now)) (length (a .shared .now))
-          (length (a .read .now)) (length (a .write .now)) (length (a .kernel .now)) (length (a .user .now)) (length (a .pages .now)) (length (a .tables .now))
+      pages-fit (a .state .now) (lengthsIn (world (maps (a .private .now) (a .shared .now) (a .read .now) (a .write .now) (a .kernel .now) (a .user .now)) (a .state .now) (a .pages .now) (a .tables .now)))
           (laws.answer-fits (a .state .now) _ _ (c11 .if1 .left) false (c12 .answer-refusal .ensures)),
     )
 

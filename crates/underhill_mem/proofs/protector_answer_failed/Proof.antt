@@ -9,10 +9,11 @@ use Rattle.visibility_steps.specs.declared.Phase.{Phase}
 use Rattle.visibility_steps.specs.declared.Request.{Request}
 use Rattle.visibility_steps.specs.Steps.{failedOf}
 use Rattle.protector_state.specs.State.{settingsOf, phaseIn}
-use Rattle.change_state.specs.State.{isChanging}
-use Rattle.protector.specs.World.{world}
+use Rattle.protector_state.specs.Changing.{isChanging}
+use Rattle.call_refusals.specs.World.{world, lengthsIn}
 use Rattle.protector.specs.Calls.{answerFailed, visibilityFailed, changeFailed, afterFailed}
-use Rattle.protector.proofs.Laws.{call-refused, call-taken, tables-fit}
+use Rattle.protector.proofs.Laws.{call-refused, call-taken}
+use Rattle.call_refusals.proofs.Laws.{tables-fit}
 use Rattle.laws.specs.Bools.{chose, chose-not}
 use Rattle.underhill_mem.proofs.Laws as laws
 use Rattle.underhill_mem.proofs.protector_answer_failed.Statement.{statement}
@@ -43,8 +44,7 @@ answer-failed-requires c κs =
     let c9 = c .before .before .before .before .before .before .before .before .before in let c10 = c9 .before in
     let a = c10 .before .before .before .before .before .before .before .before .before .before .before .args in (
       laws.answer-passed (a .state .now) _ _ (c9 .if1 .left) true (c10 .answer-refusal .ensures),
-      tables-fit (a .state .now) (length (a .private .now)) (length (a .shared .now))
-          (length (a .read .now)) (length (a .write .now)) (length (a .kernel .now)) (length (a .user .now)) (length (a .pages .now)) (length (a .tables .now))
+      tables-fit (a .state .now) (lengthsIn (world (maps (a .private .now) (a .shared .now) (a .read .now) (a .write .now) (a .kernel .now) (a .user .now)) (a .state .now) (a .pages .now) (a .tables .now)))
           (laws.answer-fits (a .state .now) _ _ (c9 .if1 .left) true (c10 .answer-refusal .ensures)),
     )
 

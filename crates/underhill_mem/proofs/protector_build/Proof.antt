@@ -1,17 +1,12 @@
 -- `underhill_mem::protector_build` meets its contract. Assumes nothing.
 use borrow.Author.Needs.{needs}
-use mathlib.Core.Path.{ap, _∙_}
 use Rattle.mapping.specs.Maps.{maps}
-use Rattle.protector.specs.World.{world}
+use Rattle.call_refusals.specs.World.{world}
 use Rattle.protector.specs.Calls.{buildOf, buildTaken}
-use Rattle.protector.specs.Calls.{buildRefusal}
 use Rattle.protector.proofs.Laws.{call-refused, call-taken}
 use Rattle.underhill_mem.proofs.protector_build.Statement.{statement}
 use Rattle.underhill_mem.proofs.protector_build.Tie as tie
 use Rattle.underhill_mem.proofs.Laws as laws
-
-build-fits-requires : tie.Need-build-fits-requires
-build-fits-requires c κs = search needs
 
 build-refusal-requires : tie.Need-build-refusal-requires
 build-refusal-requires c κs = search needs
@@ -22,10 +17,9 @@ refused-requires c κs = search needs
 returns : tie.Need-returns
 unfolding buildOf
 returns c =
-    let a = c .before .before .before .before .before .before .before .before .before .before .before .before .before .before .args in
+    let a = c .before .before .before .before .before .before .before .before .before .before .before .before .before .args in
     let w = world (maps (a .private .now) (a .shared .now) (a .read .now) (a .write .now) (a .kernel .now) (a .user .now)) (a .state .now) (a .pages .now) (a .tables .now) in
-    call-refused w _ _ (c .before .before .build-refusal .ensures ∙ ap (buildRefusal (a .ram .now) (a .isolation) (a .tracked) (a .release))
-    (c .before .before .before .build-fits .ensures)) (buildTaken w (a .ram .now) (a .isolation) (a .tracked) (a .release)) (c .refused .result) (c .before .if1 .taken)
+    call-refused w _ _ (c .before .before .build-refusal .ensures) (buildTaken w (a .ram .now) (a .isolation) (a .tracked) (a .release)) (c .refused .result) (c .before .if1 .taken)
     (c .refused .ensures)
 
 build-requires : tie.Need-build-requires
@@ -34,12 +28,11 @@ build-requires c κs = search needs
 build-state-requires : tie.Need-build-state-requires
 build-state-requires c κs =
     let c20 = c .before .before .before .before .before .before .before .before .before .before .before .before .before .before .before .before .before .before .before .before in
-    let c21 = c20 .before in let c22 = c21 .before in
-    let a = c22 .before .before .before .before .before .before .before .before .before .before .before .args in
+    let c21 = c20 .before in
+    let a = c21 .before .before .before .before .before .before .before .before .before .before .before .args in
     laws.build-passed (a .ram .now) (a .isolation) (a .tracked) (a .release)
     (world (maps (a .private .now) (a .shared .now) (a .read .now) (a .write .now) (a .kernel .now) (a .user .now)) (a .state .now) (a .pages .now) (a .tables .now))
-    (c21 .build-refusal .result) (c20 .if1 .left) (c21 .build-refusal .ensures ∙ ap (buildRefusal (a .ram .now) (a .isolation) (a .tracked) (a .release))
-    (c22 .build-fits .ensures))
+    (c21 .build-refusal .result) (c20 .if1 .left) (c21 .build-refusal .ensures)
 
 clear-requires : tie.Need-clear-requires
 clear-requires c κs = search needs
@@ -82,10 +75,10 @@ unfolding buildOf
 returns-2 c =
     let c7 = c .before .before .before .before .before .before .before in let c11 = c7 .before .before .before .before in
     let c25 = c11 .before .before .before .before .before .before .before .before .before .before .before .before .before .before in
-    let c32 = c25 .before .before .before .before .before .before .before in let c33 = c32 .before in let c34 = c33 .before in
-    let a = c34 .before .before .before .before .before .before .before .before .before .before .before .args in
+    let c32 = c25 .before .before .before .before .before .before .before in let c33 = c32 .before in
+    let a = c33 .before .before .before .before .before .before .before .before .before .before .before .args in
     let w = world (maps (a .private .now) (a .shared .now) (a .read .now) (a .write .now) (a .kernel .now) (a .user .now)) (a .state .now) (a .pages .now) (a .tables .now) in
-    call-taken w _ _ (c33 .build-refusal .ensures ∙ ap (buildRefusal (a .ram .now) (a .isolation) (a .tracked) (a .release)) (c34 .build-fits .ensures))
+    call-taken w _ _ (c33 .build-refusal .ensures)
     (buildTaken w (a .ram .now) (a .isolation) (a .tracked) (a .release)) _ (c32 .if1 .left)
     (laws.build-made w (a .ram .now) (a .isolation) (a .tracked) (a .release) _ _ _ _ _ (c25 .build .ensures) (c11 .build-state .ensures) (c7 .clear .ensures)
     (c .before .before .before .clear2 .ensures) (c .finished .ensures))
@@ -94,7 +87,6 @@ pub protector-build-spec : {M : Type 1} → statement M
 protector-build-spec =
     tie.close
     (tie.spec
-    build-fits-requires
     build-refusal-requires
     refused-requires
     returns

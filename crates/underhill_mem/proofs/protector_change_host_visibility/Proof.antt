@@ -4,9 +4,10 @@ use lib.ListN.{length}
 use Rattle.mapping.specs.Maps.{maps}
 use Rattle.permissions.specs.declared.GuestVtl.{GuestVtl}
 use Rattle.permissions.specs.Flags.{vtlOf, boolOf}
-use Rattle.protector.specs.World.{world}
+use Rattle.call_refusals.specs.World.{world, lengthsIn}
 use Rattle.protector.specs.Calls.{visibilityOf, visibilityTaken}
-use Rattle.protector.proofs.Laws.{call-refused, call-taken, pages-fit}
+use Rattle.protector.proofs.Laws.{call-refused, call-taken}
+use Rattle.call_refusals.proofs.Laws.{pages-fit}
 use Rattle.underhill_mem.proofs.Laws as laws
 use Rattle.underhill_mem.proofs.protector_change_host_visibility.Statement.{statement}
 use Rattle.underhill_mem.proofs.protector_change_host_visibility.Tie as tie
@@ -45,7 +46,7 @@ store-requires : tie.Need-store-requires
 store-requires c κs =
     let a = c .before .before .before .before .before .before .before .before .before .before .before .before .before .before .before .before .before .before .before .before .before .before .args in
     let p = laws.visibility-passed (a .state .now) _ _ (c .before .before .before .before .before .before .before .before .before .if1 .left) (a .tables .now) (a .vtl) (a .visibility) (a .list .now) (c .before .before .before .before .before .before .before .before .before .before .visibility-refusal .ensures) in
-    (pages-fit (a .state .now) (length (a .private .now)) (length (a .shared .now)) (length (a .read .now)) (length (a .write .now)) (length (a .kernel .now)) (length (a .user .now)) (length (a .pages .now)) (length (a .tables .now)) (p .1), p .2)
+    (pages-fit (a .state .now) (lengthsIn (world (maps (a .private .now) (a .shared .now) (a .read .now) (a .write .now) (a .kernel .now) (a .user .now)) (a .state .now) (a .pages .now) (a .tables .now))) (p .1), p .2)
 
 page-count-requires : tie.Need-page-count-requires
 page-count-requires c κs = search needs
