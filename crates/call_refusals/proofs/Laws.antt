@@ -10,15 +10,15 @@ use lib.Seq.{drop-cons}
 use borrow.Author.Tests.{eq-eqb, ne-eqb, eqb-true}
 use Rattle.abi.specs.Refusals as refusal
 use Rattle.laws.specs.Bools.{and-left, and-right}
-use Rattle.laws.specs.Refusal.{unless, first, passed, first-passed}
+use Rattle.laws.specs.Refusal.{unless, when, first, passed, first-passed}
 use Rattle.layout.specs.Layout.{entriesOf, mapLen}
 use Rattle.permissions.specs.declared.GuestVtl.{GuestVtl}
 use Rattle.page_list.specs.Pages.{pagesOf}
 use Rattle.mapping.specs.Maps.{mapsFit}
 use Rattle.protector_state.specs.State.{stateLen, settingsOf, ramOf, entriesIn}
 use Rattle.call_refusals.specs.declared.Lengths.{Lengths}
-use Rattle.call_refusals.specs.World.{World, pagesLen, tablesLen, overlaysOf, locksOf, lengthsFit, fitsIn, lengthsIn, fits, statusIn}
-use Rattle.call_refusals.specs.Refusals.{ready, pageRefusal, firstRefusal}
+use Rattle.call_refusals.specs.World.{World, pagesLen, tablesLen, overlaysOf, locksOf, lengthsFit, fitsIn, lengthsIn, fits, statusIn, takesIn}
+use Rattle.call_refusals.specs.Refusals.{ready, answerRefusal, pageRefusal, firstRefusal}
 
 -- ---- what calls test first
 
@@ -91,6 +91,18 @@ module _ (s : List ℕ) (fit : Bool) (n : ℕ) (e : n ≡ ready s fit 0) where
 
     pub lent-passes : (rest x : ℕ) → x ≡ rest → x ≡ ready s fit rest
     lent-passes rest x q = goes-on s fit rest x (lent-ready .long) (lent-ready .idle) (lent-ready .fits) q
+
+-- ---- an answer that nothing waits for is refused
+
+pub untaken-refused : (s : List ℕ) (fit failed : Bool) → takesIn s failed ≡ false → eqb (answerRefusal s fit failed) 0 ≡ false
+unfolding answerRefusal
+untaken-refused s fit failed e = rw e (go (eqb (length s) stateLen) (eqb (statusIn s) refusal.halted) fit)
+  where
+    go : (a b c : Bool) → eqb (unless a refusal.wrongLength (when b refusal.halted (unless c refusal.wrongLength refusal.nothingAsked))) 0 ≡ false
+    go true false true = refl
+    go true false false = refl
+    go true true c = refl
+    go false b c = refl
 
 -- ---- the first page that is refused
 

@@ -1,20 +1,17 @@
 -- A protection change, an overlay call and a default change through their calls are the whole calls. Assumes nothing.
 use native.Mathlib.Omega.{arith}
-use mathlib.Core.Path.{_≡_, refl, sym, ap, _∙_, subst}
-use mathlib.Core.Bool.{Bool, true, false, not, cond}
+use mathlib.Core.Path.{_≡_, refl, sym, _∙_, subst}
+use mathlib.Core.Bool.{Bool, true, false, cond}
 use mathlib.Core.List.{List, [], _∷_}
 use Prim.Native.Nat.{ℕ, _+_, _-_, _≤_}
 use lib.Dec.{eqb, ltb}
 use lib.ListN.{length, drop, length-drop}
 use lib.Seq.{getD-drop, drop-drop}
-use borrow.Author.Tests.{eq-eqb}
-use Rattle.laws.specs.Bools.{false≢true}
-use Rattle.laws.specs.Refusal.{unless}
+use borrow.Author.Tests.{eq-eqb, eqb-true}
 use Rattle.permissions.specs.declared.GuestVtl.{GuestVtl}
 use Rattle.permissions.specs.Flags.{vtlOf, flagsOf, bitsOf}
 use Rattle.page_list.specs.Pages.{pagesOf}
 use Rattle.page_list.specs.Runs.{part, runsOf, run}
-use Rattle.request_pages.specs.Request.{pick}
 use Rattle.request_pages.proofs.Table.{in-use, length-table, pages-few, pick-each}
 use Rattle.overlay_table.specs.declared.OverlayPage.{OverlayPage}
 use Rattle.overlay_table.specs.Overlays.{isOverlay, entry, addWords}
@@ -23,17 +20,16 @@ use Rattle.change_steps.specs.declared.Stage.the-variants as stage
 use Rattle.change_steps.specs.declared.Entry.the-variants.{Add, Remove}
 use Rattle.change_steps.specs.declared.ChangeStep.{ChangeStep}
 use Rattle.change_steps.specs.Changes as changes
-use Rattle.protector_state.specs.State.{phaseIn, settingsOf, entriesIn}
+use Rattle.protector_state.specs.State.{settingsOf, entriesIn}
 use Rattle.protector_state.specs.Reply.{flatOf}
-use Rattle.visibility_steps.specs.declared.Phase.{Phase}
 use Rattle.visibility_steps.specs.declared.Phase.the-variants as phase
 use Rattle.protector_state.specs.declared.Reply.{Reply}
-use Rattle.protector_state.specs.Changing.{stageIn, isChanging}
-use Rattle.call_refusals.specs.World.{World, world, Outcome, tablesLen, overlaysOf, fits, statusOf, statusIn, takes, takesAt}
+use Rattle.call_refusals.specs.World.{World, world, Outcome, tablesLen, overlaysOf, fits, statusIn}
 use Rattle.protector.specs.Writes.{withoutPage, entered}
 use Rattle.protector.specs.Calls.{withPermissions, carriedChange}
 use Rattle.call_refusals.specs.Refusals.{answerRefusal}
-use Rattle.protector.proofs.Laws as lengths
+use Rattle.call_refusals.proofs.Laws.{fits-tables, untaken-refused}
+use Rattle.visibility_claims.proofs.Calls.{idle-takes}
 use Rattle.protection_entries.specs.Calls.{protectionRefusal, allListed, protectionTaken, protectionOf}
 use Rattle.protection_entries.proofs.Laws.{protection-passed, table-fits}
 use Rattle.overlay_refusals.specs.Refusals.{unregisterRefusal, registerRefusal}
@@ -46,7 +42,8 @@ use Rattle.change_claims.specs.Whole.{Change, change, wholeRuns, wholePa
 use Rattle.change_claims.specs.Calls.{trackedIn, protectionWhole, addedTo, removedFrom, countWhole, newWhole, registerWhole, oldWhole, unregisterWhole, Agrees}
 use Rattle.change_claims.proofs.Steps as at
 use Rattle.change_claims.proofs.Changes as laws
-use Rattle.change_claims.proofs.Counts.{few-runs, few-asked, few-entry, few-overlay, as-whole}
+use Rattle.visibility_claims.proofs.Counts.{few-runs}
+use Rattle.change_claims.proofs.Counts.{few-asked, few-entry, few-overlay, as-whole}
 use Rattle.change_claims.proofs.Tables.{with-long, add-long, without-long}
 
 -- ---- what is lent to a call that is taken
@@ -62,11 +59,6 @@ fits-kept w t T e d = rw (getD-drop 14 (w .state) 3 0, getD-drop 14 (w .state) 1
 
 pub tail-long : (s : List ℕ) → length s ≡ 128 → length (drop 14 s) ≡ 114
 tail-long s h = length-drop 14 s ∙ omega (arith, h)
-
-pub tables-long : (w : World) → fits w ≡ true → length (w .tables) ≡ tablesLen
-tables-long w h =
-    lengths.tables-fit (w .state) (length (w .maps .private)) (length (w .maps .shared)) (length (w .maps .permissions .read)) (length (w .maps .permissions .write))
-    (length (w .maps .permissions .kernel)) (length (w .maps .permissions .user)) (length (w .pages)) (length (w .tables)) h
 
 -- what is given, by the settings: those kept in the state after the change's words, or those of the state before the call
 abbrev given : World → List ℕ → (Settings → ChangeStep) → Settings → Outcome
@@ -118,31 +110,8 @@ module _ (w : World) (vtl flags : ℕ) (l : List ℕ) (z : protectionRefusal (w 
 
 -- ---- a call that asks for nothing: no answer is taken
 
-idle-takes : (ch x : Bool) (p : Phase) (b : Bool) → eqb (cond ch 19 (statusOf p)) 0 ≡ true → cond ch x (takes p b) ≡ false
-idle-takes true x p b e = false≢true e
-idle-takes false x phase.Idle b e = refl
-idle-takes false x phase.Halted b e = false≢true e
-idle-takes false x phase.Wait b e = false≢true e
-idle-takes false x phase.FlushAll b e = false≢true e
-idle-takes false x phase.ProtectNone0 b e = false≢true e
-idle-takes false x phase.ProtectNone1 b e = false≢true e
-idle-takes false x phase.Invalidate b e = false≢true e
-idle-takes false x phase.Release b e = false≢true e
-idle-takes false x phase.Modify b e = false≢true e
-idle-takes false x phase.Accept b e = false≢true e
-idle-takes false x phase.Zero b e = false≢true e
-idle-takes false x phase.ProtectDefault0 b e = false≢true e
-idle-takes false x phase.ProtectDefault1 b e = false≢true e
-
 idle-refuses : (s : List ℕ) (f b : Bool) → eqb (statusIn s) 0 ≡ true → eqb (answerRefusal s f b) 0 ≡ false
-unfolding answerRefusal
-idle-refuses s f b e = rw (idle-takes (isChanging s) (takesAt (stageIn s) b) (phaseIn s) b e) (go (eqb (length s) 128) (not (eqb (statusIn s) 20)) f)
-  where
-    go : (x y z : Bool) → eqb (unless x 4 (unless y 20 (unless z 4 21))) 0 ≡ false
-    go true true true = refl
-    go true true false = refl
-    go true false z = refl
-    go false y z = refl
+idle-refuses s f b e = untaken-refused s f b (idle-takes s b (eqb-true (statusIn s) 0 e))
 
 pub idle-follows : (w : World) (r : Reply) → eqb (statusIn (w .state)) 0 ≡ true → (gs : List Given) → follow (record { world = w; reply = r }) gs ≡ record { asked = asksIn r; last = record { world = w; reply = r } }
 unfolding follow
@@ -168,7 +137,7 @@ module _ (w : World) (v : GuestVtl) (p : ℕ) (long : length (w .state) ≡ 128)
   Is c o = Agrees tail (w .pages) (settingsOf (w .state) .isolation) (whole (c .whole)) (c .tables) (follow o gs)
 
   fit-as : (T : List ℕ) → length T ≡ tablesLen → at.fit tail (w .pages) (w .maps) T ≡ true
-  fit-as T e = fits-kept w (w .pages) T refl (e ∙ sym (tables-long w fit)) ∙ fit
+  fit-as T e = fits-kept w (w .pages) T refl (e ∙ sym (fits-tables w fit)) ∙ fit
 
   protected : (T′ : List ℕ) (fl : ℕ) (source : ℕ) (x : Settings → ChangeStep) → length T′ ≡ tablesLen
       → (let s : Settings = at.settings tail (w .pages) in
@@ -180,10 +149,10 @@ module _ (w : World) (v : GuestVtl) (p : ℕ) (long : length (w .state) ≡ 128)
       (from-call w (w .pages) (onceDone gs (w .tables) T′) x (λ s. wholeOverlay (s .tracked) (eqb source 0) v (flagsOf fl) p (w .maps) gs) gs h)
 
   removed-long : length (removedFrom (w .tables) v p) ≡ tablesLen
-  removed-long = with-long (w .tables) (tables-long w fit) v (withoutPage (overlaysOf (w .tables) v) p) (without-long (overlaysOf (w .tables) v) p)
+  removed-long = with-long (w .tables) (fits-tables w fit) v (withoutPage (overlaysOf (w .tables) v) p) (without-long (overlaysOf (w .tables) v) p)
 
   added-long : (e : OverlayPage) → length (addedTo (w .tables) v e) ≡ tablesLen
-  added-long e = with-long (w .tables) (tables-long w fit) v (addWords (overlaysOf (w .tables) v) e) (add-long (overlaysOf (w .tables) v) e)
+  added-long e = with-long (w .tables) (fits-tables w fit) v (addWords (overlaysOf (w .tables) v) e) (add-long (overlaysOf (w .tables) v) e)
 
   old : (previous source : ℕ)
       → Is (change (wholeOverlay (trackedIn w) (eqb source 0) v (flagsOf previous) p (w .maps) gs) (onceDone gs (w .tables) (removedFrom (w .tables) v p)))
@@ -192,7 +161,7 @@ module _ (w : World) (v : GuestVtl) (p : ℕ) (long : length (w .state) ≡ 128)
   old previous source =
       protected (removedFrom (w .tables) v p) previous source (λ s. changes.startOld (s .tracked) v p previous source) removed-long
       (laws.overlay-law tail (w .pages) (tail-long (w .state) long) stage.ProtectOld Remove refl refl (λ q r. refl) (λ q. refl) v p previous previous source (w .maps) (w .tables) (removedFrom (w .tables) v p) refl
-      (fit-as (w .tables) (tables-long w fit)) (fit-as (removedFrom (w .tables) v p) removed-long) gs)
+      (fit-as (w .tables) (fits-tables w fit)) (fit-as (removedFrom (w .tables) v p) removed-long) gs)
 
   abbrev own : ℕ → ℕ
   own source = bitsOf (currentIn w v p source)
@@ -203,7 +172,7 @@ module _ (w : World) (v : GuestVtl) (p : ℕ) (long : length (w .state) ≡ 128)
       let e : OverlayPage = entry p (own source) new 1 source in
       protected (addedTo (w .tables) v e) new source (λ s. changes.protect (s .tracked) stage.ProtectNew (changes.overlayOf v p new (own source) source) p (run p 1)) (added-long e)
       (laws.overlay-law tail (w .pages) (tail-long (w .state) long) stage.ProtectNew Add refl refl (λ q r. refl) (λ q. refl) v p new (own source) source (w .maps) (w .tables) (addedTo (w .tables) v e) refl
-      (fit-as (w .tables) (tables-long w fit)) (fit-as (addedTo (w .tables) v e) (added-long e)) gs)
+      (fit-as (w .tables) (fits-tables w fit)) (fit-as (addedTo (w .tables) v e) (added-long e)) gs)
 
   no-flags : (source new : ℕ) → Is (newWhole w v p source new gs false) (carriedChange w (w .pages) (changes.wait (changes.overlayOf v p (own source) (own source) source) Add))
   unfolding entered
@@ -250,7 +219,7 @@ pub register-is-whole : (w : World) (vtl p source checked new : ℕ)
 unfolding registerOf registerRefusal
 register-is-whole w vtl p source checked new z gs =
     let k = call-passed (w .state) (fits w) vtl _ z in
-    rw (eq-eqb _ 0 z) (register-taken w (vtlOf vtl) p (k .0) (k .1) (k .2) gs source new)
+    rw (eq-eqb _ 0 z) (register-taken w (vtlOf vtl) p (k .0) (eq-eqb _ _ (k .1)) (k .2) gs source new)
 
 pub unregister-is-whole : (w : World) (vtl p : ℕ) → unregisterRefusal (w .state) (fits w) (w .tables) vtl p ≡ 0 → (gs : List Given)
     → Agrees (drop 14 (w .state)) (w .pages) (settingsOf (w .state) .isolation) (whole (unregisterWhole w (vtlOf vtl) p gs .whole)) (unregisterWhole w (vtlOf vtl) p gs .tables)
@@ -258,4 +227,4 @@ pub unregister-is-whole : (w : World) (vtl p : ℕ) → unregisterRefusal (w .st
 unfolding unregisterOf unregisterRefusal
 unregister-is-whole w vtl p z gs =
     let k = call-passed (w .state) (fits w) vtl _ z in
-    rw (eq-eqb _ 0 z) (unregister-taken w (vtlOf vtl) p (k .0) (k .1) (k .2) gs)
+    rw (eq-eqb _ 0 z) (unregister-taken w (vtlOf vtl) p (k .0) (eq-eqb _ _ (k .1)) (k .2) gs)

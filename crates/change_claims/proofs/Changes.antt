@@ -38,6 +38,7 @@ use Rattle.protector_state.specs.Reply.{askedOf, flatOf}
 use Rattle.call_refusals.specs.World.{Outcome, overlaysOf, takesAt}
 use Rattle.protector.specs.Writes.{entered}
 use Rattle.protector.specs.Calls.{withPermissions}
+use Rattle.visibility_claims.proofs.Steps.{once}
 use Rattle.visibility_claims.specs.Whole.{Operation, Wait, Protect, Flush, TlbWait, Given, Ok, FailedAt, Halts, Whole, stands, one, inTurn, perRun, protecting}
 use Rattle.visibility_claims.specs.Calls.{Told, follow, crossing, replies}
 use Rattle.visibility_claims.specs.Ends.{pageEnd}
@@ -181,7 +182,7 @@ module _ (tail t : List ℕ) (long : length tail ≡ 114) where
     last-one c q h e gs =
         subst (λ (o : Outcome). Same c (one (TlbWait (q .vtl)) m gs (λ gs. ended m gs) (λ code k gs. stands m Halts)) T (follow o gs)) (sym (keep-left stage.TlbWait q (TlbWait (q .vtl)) m T))
         (at.asks tail t long c stage.TlbWait (changes.counted q (q .at)) (TlbWait (q .vtl)) m T (λ gs. ended m gs) (λ code k gs. stands m Halts) (λ gs. T) refl refl h f refl
-        (λ gs. done-over (c + 1) ((q .count + 1) % 2 ^ 64) m T f (at.once c (q .count) e) gs) (λ code k gs z. false≢true z) (λ code k gs z. refl) gs)
+        (λ gs. done-over (c + 1) ((q .count + 1) % 2 ^ 64) m T f (once c (q .count) e) gs) (λ code k gs z. false≢true z) (λ code k gs z. refl) gs)
 
     last-two : (c : ℕ) (q : Change) → q .n ≤ 512 → q .count ≡ c % 2 ^ 64 → (gs : List Given)
         → Same c (inTurn (protecting tr) (Flush (q .flush) ∷ TlbWait (q .vtl) ∷ []) m gs ended) T (follow (left m T (changes.ask stage.Flush q (crossing (Flush (q .flush))) Keep)) gs)
@@ -189,14 +190,14 @@ module _ (tail t : List ℕ) (long : length tail ≡ 114) where
     last-two c q h e gs =
         subst (λ (o : Outcome). Same c (one (Flush (q .flush)) m gs (λ gs. inTurn (protecting tr) (TlbWait (q .vtl) ∷ []) m gs ended) (λ code k gs. stands m Halts)) T (follow o gs)) (sym (keep-left stage.Flush q (Flush (q .flush)) m T))
         (at.asks tail t long c stage.Flush (changes.counted q (q .at)) (Flush (q .flush)) m T (λ gs. inTurn (protecting tr) (TlbWait (q .vtl) ∷ []) m gs ended) (λ code k gs. stands m Halts) (λ gs. T) refl refl h f refl
-        (λ gs. last-one (c + 1) (changes.counted q (q .at)) h (at.once c (q .count) e) gs) (λ code k gs z. false≢true z) (λ code k gs z. refl) gs)
+        (λ gs. last-one (c + 1) (changes.counted q (q .at)) h (once c (q .count) e) gs) (λ code k gs z. false≢true z) (λ code k gs z. refl) gs)
 
     closes : (c : ℕ) (q : Change) → q .n ≤ 512 → q .count ≡ c % 2 ^ 64 → (gs : List Given)
         → Same c (inTurn (protecting tr) (closing (q .flush) (q .vtl)) m gs ended) T (follow (asked stage.Wait (changes.counted q (q .at)) m T Wait) gs)
     unfolding inTurn changes.doneOf
     closes c q h e gs =
         at.asks tail t long c stage.Wait (changes.counted q (q .at)) Wait m T (λ gs. inTurn (protecting tr) (Flush (q .flush) ∷ TlbWait (q .vtl) ∷ []) m gs ended) (λ code k gs. stands m Halts) (λ gs. T) refl refl h f refl
-        (λ gs. last-two (c + 1) (changes.counted q (q .at)) h (at.once c (q .count) e) gs) (λ code k gs z. false≢true z) (λ code k gs z. refl) gs
+        (λ gs. last-two (c + 1) (changes.counted q (q .at)) h (once c (q .count) e) gs) (λ code k gs z. false≢true z) (λ code k gs z. refl) gs
 
   -- an entry is written before Wait
   waits : (c : ℕ) (q : Change) (e : Entry) (m : Maps) (T T′ : List ℕ) → q .n ≤ 512 → q .count ≡ c % 2 ^ 64 → entered e (changes.counted q (q .at)) T ≡ T′ → fit m T′ ≡ true → (gs : List Given)
@@ -240,7 +241,7 @@ module _ (tail t : List ℕ) (long : length tail ≡ 114) where
         subst (λ (o : Outcome). Same c (one (Protect v f r) m′ gs (λ gs. runs rs m′ gs) (λ code k gs. stands m′ Halts)) T (follow o gs)) (sym (protect-left g (chg v fl n a₀ x) a r m T))
         (at.asks tail t long c g q′ (Protect v f r) m′ T (λ gs. runs rs m′ gs) (λ code k gs. stands m′ Halts) (λ gs. T) a0 a1 h (fit-protected v f r true m T k) refl
         more
-        (λ code k gs z. subst (λ (y : ChangeStep). Same (c + 1) (stands m′ Halts) T (follow (left m′ T y) gs)) (sym (fails q′)) (halts (c + 1) q′ m′ T (at.once c x e) gs))
+        (λ code k gs z. subst (λ (y : ChangeStep). Same (c + 1) (stands m′ Halts) T (follow (left m′ T y) gs)) (sym (fails q′)) (halts (c + 1) q′ m′ T (once c x e) gs))
         (λ code k gs z. false≢true (sym z)) gs)
 
     no-runs : (c x a₀ : ℕ) (m : Maps) → x ≡ c % 2 ^ 64 → fit m T ≡ true → (gs : List Given) → Same c (runs [] m gs) T (follow (left m T (changes.wait (chg v fl n a₀ x) Keep)) gs)
@@ -262,7 +263,7 @@ module _ (tail t : List ℕ) (long : length tail ≡ 114) where
     pages-at c x a₀ a m e k o l more gs =
         rw (lt-ltb a n o, runs-at t n a o (omega arith))
         (protects-run stage.ProtectPages refl refl (λ q. refl) c x a₀ a (runAt t n a) (runsOf (part t n (a + runAt t n a .count))) m e k
-        (λ gs. more (c + 1) ((x + 1) % 2 ^ 64) (protecting tr (Protect v f (runAt t n a)) m) gs (at.once c x e) (fit-protected v f (runAt t n a) true m T k)) gs)
+        (λ gs. more (c + 1) ((x + 1) % 2 ^ 64) (protecting tr (Protect v f (runAt t n a)) m) gs (once c x e) (fit-protected v f (runAt t n a) true m T k)) gs)
 
     pub pages-law : n ≤ length t → (j c x a₀ a : ℕ) (m : Maps) → x ≡ c % 2 ^ 64 → fit m T ≡ true → n ≤ a + j → (gs : List Given) → Pages c x a₀ a m gs
     pages-law l zero c x a₀ a m e k b gs = pages-over c x a₀ a m e k (omega arith) gs
@@ -299,7 +300,7 @@ module _ (tail t : List ℕ) (long : length tail ≡ 114) where
         rw o
         (protects-run stage.ProtectRam refl refl (λ q. refl) c x a₀ (r .first + r .count) r (piecesFrom (W p) es j (r .first + r .count)) m e k
         (λ gs. subst (λ (y : List ℕ). Same (c + 1) (runs (piecesFrom (W p) es j (r .first + r .count)) m′ gs) T (follow (left m′ T (changes.protectRam tr (chg v fl n (r .first + r .count) ((x + 1) % 2 ^ 64)) (nextOf (W y) es (r .first + r .count)))) gs))
-        (sym i) (more (c + 1) ((x + 1) % 2 ^ 64) m′ gs (at.once c x e) (fit-protected v f r true m T k) i)) gs)
+        (sym i) (more (c + 1) ((x + 1) % 2 ^ 64) m′ gs (once c x e) (fit-protected v f r true m T k) i)) gs)
 
     pub ram-law : (p : List ℕ) (j c x a₀ a : ℕ) (m : Maps) → x ≡ c % 2 ^ 64 → fit m T ≡ true → m .private ≡ p → pageEnd es ≤ a + j → (gs : List Given) → Ram p j c x a₀ a m gs
     unfolding piecesFrom

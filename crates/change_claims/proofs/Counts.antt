@@ -12,37 +12,21 @@ use Rattle.permissions.specs.declared.IsolationType.{IsolationType}
 use Rattle.permissions.specs.declared.HvMapGpaFlags.{HvMapGpaFlags}
 use Rattle.mapping.specs.Maps.{Maps}
 use Rattle.page_list.specs.declared.PageRun.{PageRun}
-use Rattle.page_list.specs.Runs.{run, runsOf}
+use Rattle.page_list.specs.Runs.{run}
 use Rattle.page_list.specs.Runs as runs
 use Rattle.default_change.specs.Pieces.{nextOf}
 use Rattle.default_change.specs.Visit.{piecesFrom}
-use Rattle.visibility_claims.specs.Whole.{Operation, Protect, Given, Succeeds, Fails, FailedAt, Halts, Whole, stands, fails, one, inTurn, perRun, protecting}
+use Rattle.visibility_claims.specs.Whole.{Operation, Protect, Given, FailedAt, Whole, stands, inTurn, perRun, protecting}
 use Rattle.visibility_claims.specs.Runs.{told, after, whole}
 use Rattle.visibility_claims.specs.Calls.{Told}
+use Rattle.visibility_claims.proofs.Counts as counts
 use Rattle.change_claims.specs.Whole.{closing, ended, runOperations, wholeRuns, wholeEntry, protectingPage, denied, wholeOverlay}
 use Rattle.change_claims.specs.Calls.{Agrees}
 
 -- ---- no more operations than a list has
 
-few-one : (o : Operation) (m : Maps) (gs : List Given) (next : List Given → Whole) (failed : ℕ → ℕ → List Given → Whole) (b : ℕ)
-    → ((gs : List Given) → length (next gs .asked) ≤ b) → ((code k : ℕ) (gs : List Given) → length (failed code k gs .asked) ≤ b)
-    → length (one o m gs next failed .asked) ≤ suc b
-unfolding one
-few-one o m [] next failed b f g = omega arith
-few-one o m (Succeeds ∷ gs) next failed b f g = omega (arith, f gs)
-few-one o m (Fails code k ∷ gs) next failed b f g = go (fails o) (g code k gs) (few-one o m gs next failed b f g)
-  where
-    go : (y : Bool) → length (failed code k gs .asked) ≤ b → length (one o m gs next failed .asked) ≤ suc b
-        → length (cond y (record { asked = o ∷ failed code k gs .asked; maps = failed code k gs .maps; stand = failed code k gs .stand }) (one o m gs next failed) .asked) ≤ suc b
-    go true h i = omega arith
-    go false h i = i
-
 few : (before : Operation → Maps → Maps) (os : List Operation) (m : Maps) (gs : List Given) → length (inTurn before os m gs ended .asked) ≤ length os
-unfolding inTurn
-few before [] m gs = omega arith
-few before (o ∷ os) m gs =
-    few-one o (before o m) gs (λ gs. inTurn before os (before o m) gs ended) (λ code k gs. stands (before o m) Halts) (length os)
-    (λ gs. few before os (before o m) gs) (λ code k gs. omega arith)
+few before os m gs = omega (arith, counts.few before os m gs ended 0 (λ m gs. omega arith))
 
 -- ---- a Protect for each run, and three more
 
@@ -50,19 +34,6 @@ pub run-operations : (v : GuestVtl) (f : HvMapGpaFlags) (rs : List PageRun) → 
 unfolding perRun
 run-operations v f [] = refl
 run-operations v f (r ∷ rs) = let e = run-operations v f rs in omega (arith, e)
-
-pub few-runs : (ps : List ℕ) → length (runsOf ps) ≤ length ps
-unfolding runsOf
-few-runs [] = omega arith
-few-runs (p ∷ ps) = go (runsOf ps) (few-runs ps)
-  where
-    go : (rs : List PageRun) → length rs ≤ length ps → length (runs.before p rs) ≤ suc (length ps)
-    go [] h = omega arith
-    go (r ∷ rs) h = pick (eqb (r .first) (p + 1))
-      where
-        pick : (b : Bool) → length (cond b (run p (r .count + 1) ∷ rs) (run p 1 ∷ r ∷ rs)) ≤ suc (length ps)
-        pick true = omega arith
-        pick false = omega arith
 
 pub few-pieces : (P : ℕ → Bool) (es : List MemoryRangeWithNode) (n a : ℕ) → length (piecesFrom P es n a) ≤ n
 unfolding piecesFrom
@@ -86,7 +57,7 @@ pub few-overlay : (tracked guest : Bool) (v : GuestVtl) (f : HvMapGpaFlags) (p :
 unfolding wholeOverlay
 few-overlay tracked guest v f p m gs =
     let m′ : Maps = protectingPage tracked guest v f p m in
-    few-one (Protect v f (run p 1)) m′ gs (λ gs. wholeEntry tracked v m′ gs) (λ code k gs. stands m′ (FailedAt denied 0)) 3 (λ gs. few-entry tracked v m′ gs) (λ code k gs. omega arith)
+    counts.few-one (Protect v f (run p 1)) m′ gs (λ gs. wholeEntry tracked v m′ gs) (λ code k gs. stands m′ (FailedAt denied 0)) 3 (λ gs. few-entry tracked v m′ gs) (λ code k gs. omega arith)
 
 -- a count of 64 bits is the number itself
 pub as-whole : (rest t : List ℕ) (i : IsolationType) (w : Whole) (T : List ℕ) (x : Told) → length (w .asked) < 2 ^ 64 → Agrees rest t i (after 0 w) T x → Agrees rest t i (whole w) T x

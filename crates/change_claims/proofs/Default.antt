@@ -4,11 +4,10 @@ use mathlib.Core.Path.{_≡_, refl, sym, ap, fun-ext, _∙_, subst}
 use mathlib.Core.Bool.{Bool, true, false}
 use mathlib.Core.List.{List, [], _∷_}
 use Prim.Native.Nat.{ℕ, zero, suc, _+_, _^_, _≤_, _<_}
-use lib.Dec.{eqb}
 use lib.ListN.{length, drop, set, length-set}
 use lib.Seq.{getD-set-other}
-use borrow.Author.Tests.{eqb-true, eq-eqb}
-use Rattle.laws.specs.Refusal.{passed, first-passed}
+use borrow.Author.Tests.{eq-eqb}
+use Rattle.call_refusals.proofs.Laws.{is-ready, fits-tables}
 use Rattle.layout.specs.declared.MemoryRangeWithNode.{MemoryRangeWithNode}
 use Rattle.layout.specs.Layout.{ordered}
 use Rattle.layout.proofs.Laws.{ordered-cons}
@@ -24,7 +23,7 @@ use Rattle.default_change.proofs.Table.{overlay-renewed}
 use Rattle.visibility_steps.specs.declared.Settings.{Settings}
 use Rattle.change_steps.specs.Changes as changes
 use Rattle.protector_state.specs.State.{stateLen, settingsOf, entriesIn}
-use Rattle.call_refusals.specs.World.{World, tablesLen, overlaysOf, fits, statusIn}
+use Rattle.call_refusals.specs.World.{World, tablesLen, overlaysOf, fits}
 use Rattle.protection_entries.specs.Calls.{defaultRefusal, stored, barred, renewedIn, defaultStarted, defaultTaken, defaultOf}
 use Rattle.protection_entries.proofs.Tables.{renewed-own}
 use Rattle.visibility_claims.specs.Whole.{Given}
@@ -39,7 +38,7 @@ use Rattle.change_claims.proofs.Changes as laws
 use Rattle.change_claims.proofs.Ram.{pieces-runs}
 use Rattle.change_claims.proofs.Tables.{with-long, renewed-long}
 use Rattle.change_claims.proofs.Counts.{few-asked, few-pieces, as-whole}
-use Rattle.change_claims.proofs.Calls.{entries-kept, fits-kept, tail-long, tables-long, from-call, protection-is-whole, register-is-whole, unregister-is-whole}
+use Rattle.change_claims.proofs.Calls.{entries-kept, fits-kept, tail-long, from-call, protection-is-whole, register-is-whole, unregister-is-whole}
 
 -- ---- the default stored: layout and lengths stand
 
@@ -63,10 +62,7 @@ tracked-stored w Vtl1 flags = rw (getD-set-other (w .state) 21 17 flags 0 (λ e.
 
 pub default-passed : (w : World) (vtl flags : ℕ) → defaultRefusal (w .state) (fits w) vtl flags ≡ 0 → (length (w .state) ≡ stateLen) × (fits w ≡ true)
 unfolding defaultRefusal
-default-passed w vtl flags z =
-    let a = passed (eqb (length (w .state)) stateLen) 3 _ z in
-    let b = passed (fits w) 3 _ (first-passed (statusIn (w .state)) _ (a .1) .1) in
-    (eqb-true _ _ (a .0), b .0)
+default-passed w vtl flags z = let a = is-ready (w .state) (fits w) _ z in (a .long, a .fits)
 
 -- ---- RAM ends by page 2^52 in a layout in order
 
@@ -95,14 +91,14 @@ module _ (w : World) (v : GuestVtl) (flags : ℕ) (long : length (w .state) ≡ 
   es = entriesIn (w .state)
 
   renewed-fits : length T ≡ tablesLen
-  renewed-fits = with-long (w .tables) (tables-long w fit) v (renewed (w .maps .private) es flags (overlaysOf (w .tables) v)) (renewed-long (w .maps .private) es flags (used (overlaysOf (w .tables) v)) (overlaysOf (w .tables) v) 1)
+  renewed-fits = with-long (w .tables) (fits-tables w fit) v (renewed (w .maps .private) es flags (overlaysOf (w .tables) v)) (renewed-long (w .maps .private) es flags (used (overlaysOf (w .tables) v)) (overlaysOf (w .tables) v) 1)
 
   -- the pieces that are asked for, with the overlays as renewed
   abbrev asked : List PageRun
   asked = pieces (pageEnd es) (w .maps .private) (overlaysOf T v) es
 
   pieces-whole : asked ≡ ramRuns es (overlayIn (w .tables) v) (w .maps)
-  pieces-whole = pieces-runs es o (overlaysOf T v) (w .maps) ∙ ap (λ (P : ℕ → Bool). ramRuns es P (w .maps)) (fun-ext (renewed-overlays w v flags (tables-long w fit)))
+  pieces-whole = pieces-runs es o (overlaysOf T v) (w .maps) ∙ ap (λ (P : ℕ → Bool). ramRuns es P (w .maps)) (fun-ext (renewed-overlays w v flags (fits-tables w fit)))
 
   default-started : Agrees tail (w .pages) (settingsOf (w .state) .isolation) (after 0 (defaultWhole w v flags gs .whole)) (defaultWhole w v flags gs .tables) (follow (defaultStarted (renewedIn w v flags) v flags) gs)
   unfolding defaultStarted wholeRuns
@@ -116,7 +112,7 @@ module _ (w : World) (v : GuestVtl) (flags : ℕ) (long : length (w .state) ≡ 
       (subst (λ (es : List MemoryRangeWithNode). at.Same tail (w .pages) 0 (wholeRuns (s .tracked) v (flagsOf flags) (pieces (pageEnd es) (w .maps .private) (overlaysOf T v) es) (w .maps) gs) T
       (follow (at.left tail (w .pages) (w .maps) T (changes.startRam (s .tracked) v flags (nextPiece (w .maps .private) (overlaysOf T v) es 0))) gs)) (entries-kept (w .state) (w .pages))
       (laws.ram-law tail (w .pages) (tail-long (w .state) long) v flags 0 (omega arith) T (w .maps .private) (pageEnd (at.entries tail (w .pages))) 0 0 0 0 (w .maps) refl
-      (fits-kept w (w .pages) T refl (renewed-fits ∙ sym (tables-long w fit)) ∙ fit) refl (omega arith) gs)))
+      (fits-kept w (w .pages) T refl (renewed-fits ∙ sym (fits-tables w fit)) ∙ fit) refl (omega arith) gs)))
 
   -- no more of them than pages
   few-runs : length (ramRuns es (overlayIn (w .tables) v) (w .maps)) ≤ pageEnd es

@@ -19,7 +19,7 @@ use Rattle.protector_state.specs.State.{entriesIn}
 use Rattle.protector_state.specs.Reply.{finished, flatOf}
 use Rattle.call_refusals.specs.World.{World}
 use Rattle.overlay_entries.specs.Calls.{entryIn}
-use Rattle.visibility_claims.specs.Whole.{Operation, Protect, Given, Fails, Stand, Ok, FailedAt, Whole, stands, one, protecting}
+use Rattle.visibility_claims.specs.Whole.{Protect, Given, Fails, Stand, Ok, FailedAt, Whole, stands, one, protecting}
 use Rattle.visibility_claims.specs.Runs.{told, whole}
 use Rattle.visibility_claims.specs.Calls.{Told, Says}
 use Rattle.change_claims.specs.Whole.{Change, change, closing, ended, runOperations, ramRuns, wholeRuns, wholeEntry, protectingPage, denied, wholeOverlay}

@@ -1,6 +1,6 @@
 -- The permission maps page by page as calls leave them. Assumes nothing.
 use mathlib.Core.Path.{_≡_, refl, sym, ap, _∙_, subst}
-use mathlib.Core.Bool.{Bool, true, false, not, cond, _&&_, _||_}
+use mathlib.Core.Bool.{Bool, true, false, cond, _&&_, _||_}
 use mathlib.Core.Logic.{⊎-elim}
 use mathlib.Core.List.{List, [], _∷_}
 use Prim.Native.Nat.{ℕ, zero, suc, _/_, _<_}
@@ -8,7 +8,7 @@ use lib.Dec.{eqb, ltb}
 use lib.ListN.{length, take}
 use borrow.Author.Tests.{eqb-true, eqb-false, lt-ltb}
 use Rattle.laws.specs.Bools.{false≢true, both-true, and-left, or-true, or-left, or-right}
-use Rattle.laws.specs.Refusal.{passed, first-passed}
+use Rattle.laws.specs.Refusal.{passed, when-passed, first-passed}
 use Rattle.bitmap.specs.Pages.{bitAt}
 use Rattle.layout.specs.declared.MemoryRangeWithNode.{MemoryRangeWithNode}
 use Rattle.layout.specs.Layout.{isRam, mapLen}
@@ -17,12 +17,13 @@ use Rattle.permissions.specs.declared.GuestVtl.{GuestVtl}
 use Rattle.permissions.specs.declared.GuestVtl.the-variants.{Vtl0, Vtl1}
 use Rattle.permissions.specs.declared.HvMapGpaFlags.{HvMapGpaFlags}
 use Rattle.permissions.specs.Flags.{vtlOf, boolOf, flagsOf, noFlags, fitVtl, fitBool, fitFlags}
-use Rattle.mapping.specs.Maps.{Permissions, Maps, marksFit, permissionLen, permissionsFit}
+use Rattle.mapping.specs.Maps.{Permissions, Maps, marksFit, permissionLen, lengthsOf}
 use Rattle.page_list.specs.Pages.{among, repeats, pagesOf, isLong, isRagged}
 use Rattle.request_pages.specs.Request.{pick, wanted}
 use Rattle.visibility_steps.specs.declared.Settings.{Settings}
-use Rattle.protector_state.specs.State.{stateLen, settingsOf, ramOf, entriesIn}
-use Rattle.call_refusals.specs.World.{World, pagesLen, tablesLen, overlaysOf, locksOf, fits, statusIn}
+use Rattle.protector_state.specs.State.{settingsOf, ramOf, entriesIn}
+use Rattle.call_refusals.specs.World.{World, overlaysOf, locksOf, fits, lengthsIn}
+use Rattle.call_refusals.proofs.Laws.{is-ready, maps-fit}
 use Rattle.call_refusals.specs.Refusals.{pageRefusal, firstRefusal, visibilityRefusal}
 use Rattle.protector.specs.Calls.{stopOf}
 use Rattle.protection_entries.specs.Calls.{protectionRefusal, eachRefusal}
@@ -54,9 +55,7 @@ module _ (w : World) (fit : fits w ≡ true) where
   maps-long t =
       let n : ℕ = mapLen (entriesIn (w .state)) in
       let m : Permissions = w .maps .permissions in
-      let marks : Bool = marksFit n (length (w .maps .private)) (length (w .maps .shared)) in
-      let four : Bool = permissionsFit (permissionLen n (trackedIn w)) (length (m .read)) (length (m .write)) (length (m .kernel)) (length (m .user)) in
-      let a = both-true marks four (and-left (marks && four) (eqb (length (w .pages)) pagesLen && eqb (length (w .tables)) tablesLen) fit) in
+      let a = both-true (marksFit n (lengthsOf (w .maps))) _ (maps-fit n (trackedIn w) (lengthsIn w) fit) in
       let d : permissionLen n (trackedIn w) ≡ n = ap (permissionLen n) t in
       let r = both-true (eqb (length (m .read)) (permissionLen n (trackedIn w))) _ (a .1) in
       let x = both-true (eqb (length (m .write)) (permissionLen n (trackedIn w))) _ (r .1) in
@@ -105,25 +104,23 @@ each-ram es overlays locks share (p ∷ ps) q z h = go (eqb (pageRefusal es over
 listed-ram : (w : World) (vtl flags : ℕ) (l : List ℕ) → TakesProtection w vtl flags l → (p : ℕ) → among (pagesOf l) p ≡ true → isRam (entriesIn (w .state)) p ≡ true
 unfolding protectionRefusal
 listed-ram w vtl flags l z p h =
-    let a = passed (eqb (length (w .state)) stateLen) 3 _ z in
-    let b = passed (fits w) 3 _ (first-passed (statusIn (w .state)) _ (a .1) .1) in
-    let c = passed (not (isLong l)) 4 _ (b .1) in
+    let b = is-ready (w .state) (fits w) _ z in
+    let c = when-passed (isLong l) 4 _ (b .goes) in
     let d = passed (fitVtl vtl) 7 _ (c .1) in
     let e = passed (fitFlags flags) 7 _ (d .1) in
-    let f = passed (not (isRagged l)) 7 _ (e .1) in
+    let f = when-passed (isRagged l) 7 _ (e .1) in
     each-ram (entriesIn (w .state)) (overlaysOf (w .tables) (vtlOf vtl)) (locksOf (w .tables) (vtlOf vtl)) true (pagesOf l) p (first-passed (eachRefusal (w .state) (w .tables) (vtlOf vtl) l) _ (f .1) .0) h
 
 shown-ram : (w : World) (vtl visibility : ℕ) (l : List ℕ) → TakesVisibility w vtl visibility l → (fits w ≡ true) × ((p : ℕ) → among (pagesOf l) p ≡ true → isRam (entriesIn (w .state)) p ≡ true)
 unfolding visibilityRefusal
 shown-ram w vtl visibility l z =
-    let a = passed (eqb (length (w .state)) stateLen) 3 _ z in
-    let b = passed (fits w) 3 _ (first-passed (statusIn (w .state)) _ (a .1) .1) in
-    let c = passed (not (isLong l)) 4 _ (b .1) in
-    let d = passed (not (repeats (pagesOf l))) 5 _ (c .1) in
+    let b = is-ready (w .state) (fits w) _ z in
+    let c = when-passed (isLong l) 4 _ (b .goes) in
+    let d = when-passed (repeats (pagesOf l)) 5 _ (c .1) in
     let e = passed (fitVtl vtl) 7 _ (d .1) in
     let f = passed (fitBool visibility) 7 _ (e .1) in
-    let g = passed (not (isRagged l)) 7 _ (f .1) in
-    (b .0, λ p h. each-ram (entriesIn (w .state)) (overlaysOf (w .tables) (vtlOf vtl)) (locksOf (w .tables) (vtlOf vtl)) (boolOf visibility) (pagesOf l) p (g .1) h)
+    let g = when-passed (isRagged l) 7 _ (f .1) in
+    (b .fits, λ p h. each-ram (entriesIn (w .state)) (overlaysOf (w .tables) (vtlOf vtl)) (locksOf (w .tables) (vtlOf vtl)) (boolOf visibility) (pagesOf l) p (g .1) h)
 
 -- ---- visibility changes: the pages asked for are of the list
 

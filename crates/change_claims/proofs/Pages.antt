@@ -27,7 +27,7 @@ use Rattle.change_claims.specs.Pages.{protectedIn}
 use Rattle.change_claims.specs.Claims.{storedIn, TakesDefault, defaultCall, InOrder, AgreesIn, takenRam, DefaultVisits}
 use Rattle.change_claims.proofs.Ram.{pieces-runs}
 use Rattle.change_claims.proofs.Permits.{ram-visits}
-use Rattle.change_claims.proofs.Calls.{tables-long}
+use Rattle.call_refusals.proofs.Laws.{fits-tables}
 use Rattle.change_claims.proofs.Default.{entries-stored, default-passed, renewed-overlays, default-is-whole}
 use Rattle.change_claims.proofs.Finished.{runs-asked}
 
@@ -68,7 +68,7 @@ module _ (w : World) (vtl flags : ℕ) (gs : List Given) (z : TakesDefault w vtl
   overlays-stay : (p : ℕ) → left p ≡ first p
   overlays-stay p =
       ap (λ (t : List ℕ). overlayIn t (vtlOf vtl) p) (made .same-tables)
-      ∙ renewed-overlays (storedIn w vtl flags) (vtlOf vtl) flags (tables-long w (default-passed w vtl flags (z .0) .1)) p
+      ∙ renewed-overlays (storedIn w vtl flags) (vtlOf vtl) flags (fits-tables w (default-passed w vtl flags (z .0) .1)) p
 
   same-overlays : left ≡ first
   same-overlays = fun-ext overlays-stay

@@ -26,7 +26,7 @@ use Rattle.page_list.specs.Pages.{among}
 use Rattle.page_list.specs.Runs.{run, before, runsOf}
 use Rattle.default_change.specs.Pieces.{pageUp}
 use Rattle.default_change.specs.Visit.{upTo, pick, pagesIn}
-use Rattle.visibility_claims.specs.Whole.{Operation, perRun, defaults, withPermissions, protecting}
+use Rattle.visibility_claims.specs.Whole.{perRun, defaults, withPermissions, protecting}
 use Rattle.change_claims.specs.Whole.{runOperations, entryPages, isProtected, ramRuns}
 use Rattle.change_claims.specs.Claims.{takenRam}
 use Rattle.change_claims.specs.Pages.{Sets, within, Permits, PermitsFor}

@@ -32,6 +32,7 @@ use Rattle.protector_state.specs.State.{stateLen, phaseIn, settingsOf}
 use Rattle.permissions.specs.HvError.{codeOf}
 use Rattle.protector_state.specs.Reply.{finished, askedOf, flatOf}
 use Rattle.protector_state.specs.Changing.{isChanging}
+use Rattle.call_refusals.specs.Refusals.{ready}
 use Rattle.call_refusals.specs.World.{World, Outcome, overlaysOf, fits, statusOf, statusIn}
 use Rattle.protector.specs.Calls.{decided, refusedBy, carriedChange}
 use Rattle.lock_entries.proofs.Lists.{lock-nothing, unlock-nothing}
@@ -135,10 +136,10 @@ status-10 false phase.ProtectDefault1 = refl
 
 -- its first tests never give 10
 not-10 : (s : List ℕ) (fit : Bool) (vtl flags : ℕ) → eqb (defaultRefusal s fit vtl flags) 10 ≡ false
-unfolding defaultRefusal
+unfolding ready defaultRefusal
 not-10 s fit vtl flags = go (eqb (length s) stateLen) (statusIn s) (eqb (statusIn s) 0) (status-10 (isChanging s) (phaseIn s)) fit (fitVtl vtl) (fitFlags flags)
   where
-    go : (a : Bool) (n : ℕ) (b : Bool) → eqb n 10 ≡ false → (c d e : Bool) → eqb (unless a 4 (unless b n (unless c 4 (unless d 8 (unless e 8 0))))) 10 ≡ false
+    go : (a : Bool) (n : ℕ) (b : Bool) → eqb n 10 ≡ false → (c d e : Bool) → eqb (unless a 4 (cond b (unless c 4 (unless d 8 (unless e 8 0))) n)) 10 ≡ false
     go false n b h c d e = refl
     go true n false h c d e = h
     go true n true h false d e = refl

@@ -9,7 +9,6 @@ use lib.ListN.{length}
 use borrow.Author.Tests.{eq-eqb}
 use Rattle.permissions.proofs.Laws.{vtl-number}
 use Rattle.laws.specs.Bools.{false≢true}
-use Rattle.laws.specs.Refusal.{unless}
 use Rattle.bitmap.proofs.Steps.{run-none}
 use Rattle.permissions.specs.declared.IsolationType.{IsolationType}
 use Rattle.permissions.specs.declared.HvMapGpaFlags.{HvMapGpaFlags}
@@ -34,12 +33,9 @@ use Rattle.protector.specs.Calls.{withPermissions, carriedChange, pieceAfter, a
 use Rattle.call_refusals.specs.Refusals.{answerRefusal}
 use Rattle.visibility_claims.specs.Whole.{Operation, Wait, FlushAll, Protect, Invalidate, Release, Modify, Accept, Zero, Flush, TlbWait, Given, Succeeds, Fails, Whole, fails, one}
 use Rattle.visibility_claims.specs.Runs.{told, after}
+use Rattle.visibility_claims.proofs.Calls.{taken-21}
 use Rattle.visibility_claims.specs.Calls.{asksIn, Told, follow, crossing, replies, Says}
 use Rattle.change_claims.specs.Calls.{Agrees}
-
--- a count of 64 bits, once more
-pub once : (c x : ℕ) → x ≡ c % 2 ^ 64 → (x + 1) % 2 ^ 64 ≡ (c + 1) % 2 ^ 64
-once c x e = omega arith
 
 -- ---- what is kept is read again
 
@@ -103,10 +99,6 @@ outstanding i (Flush v) = refl
 outstanding i (TlbWait v) = refl
 
 -- ---- whether an answer is taken
-
-taken-21 : (y : Bool) → eqb (unless y 21 0) 0 ≡ y
-taken-21 true = refl
-taken-21 false = refl
 
 -- the state of a change under way: its words before a tail that no answer changes
 module _ (tail t : List ℕ) where

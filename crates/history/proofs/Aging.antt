@@ -42,7 +42,7 @@ use Rattle.visibility_claims.specs.Calls.{answerOf}
 use Rattle.visibility_claims.proofs.Calls.{phase-read, request-read, few-done, few-failed}
 use Rattle.history.specs.Seen.{Seen, Age, asks, ageAfter, seesTaken, seesAnswer, seesCall}
 use Rattle.history.specs.Marks.{isSettled}
-use Rattle.history.proofs.Fits.{pages-long}
+use Rattle.call_refusals.proofs.Laws.{fits-pages}
 use Rattle.history.proofs.Bits.{Has, clash, clear-kept}
 use Rattle.history.proofs.Right.{opened, isQuiet, Names, Fits}
 use Rattle.history.proofs.Steps.{done-fits, failed-fits}
@@ -334,7 +334,7 @@ module _ (es : List MemoryRangeWithNode) (w : World) (o : Seen) (k : Stands es w
     n = length (askedFor w v b l)
 
     table-long : length t ≡ 1024
-    table-long = length-table (wanted (w .maps .shared) b) (take (stopOf w v b l) (pagesOf l)) (w .pages) (pages-long w (x .fit)) (omega (arith, length-take (stopOf w v b l) (pagesOf l), pages-few l (x .short)))
+    table-long = length-table (wanted (w .maps .shared) b) (take (stopOf w v b l) (pagesOf l)) (w .pages) (fits-pages w (x .fit)) (omega (arith, length-take (stopOf w v b l) (pagesOf l), pages-few l (x .short)))
 
     few-asked : n ≤ 512
     few-asked = few es w o k v b l x

@@ -8,7 +8,7 @@ use lib.ListN.{length}
 use lib.Dec.{eqb, ltb}
 use Rattle.abi.specs.Refusals as refusal
 use Rattle.laws.specs.Bools.{false≢true, or-right}
-use Rattle.laws.specs.Refusal.{unless}
+use Rattle.laws.specs.Refusal.{unless, when}
 use Rattle.layout.specs.declared.MemoryRangeWithNode.{MemoryRangeWithNode}
 use Rattle.layout.specs.Layout.{isRam}
 use Rattle.permissions.specs.declared.GuestVtl.{GuestVtl}
@@ -113,7 +113,7 @@ module _ (i : IsolationType) where
 -- ---- the refusals of an answer: a: the state block is whole, h: halted, c: what is lent fits, d: an answer is waited for
 
 abbrev pub chain : Bool → Bool → Bool → Bool → ℕ
-chain a h c d = unless a refusal.wrongLength (unless (not h) refusal.halted (unless c refusal.wrongLength (unless d refusal.nothingAsked 0)))
+chain a h c d = unless a refusal.wrongLength (when h refusal.halted (unless c refusal.wrongLength (unless d refusal.nothingAsked 0)))
 
 abbrev pub counts : Bool → ℕ → Bool
 counts h n = not h && (not (eqb n refusal.wrongLength) && not (eqb n refusal.nothingAsked))

@@ -10,7 +10,8 @@ use lib.Dec.{eqb, ltb}
 use borrow.Author.Tests.{eqb-true, ltb-false}
 use Rattle.abi.specs.Refusals as refusal
 use Rattle.laws.specs.Bools.{false≢true}
-use Rattle.laws.specs.Refusal.{passed, first-passed}
+use Rattle.laws.specs.Refusal.{passed, when-passed}
+use Rattle.call_refusals.proofs.Laws.{is-ready}
 use Rattle.layout.specs.declared.MemoryRangeWithNode.{MemoryRangeWithNode}
 use Rattle.layout.specs.Layout.{isRam}
 use Rattle.permissions.specs.declared.GuestVtl.{GuestVtl}
@@ -23,7 +24,7 @@ use Rattle.visibility_steps.specs.declared.Settings.{Settings}
 use Rattle.visibility_steps.specs.Steps.{asked, startOf}
 use Rattle.change_steps.specs.declared.ChangeStep.{ChangeStep}
 use Rattle.protector_state.specs.declared.Reply.{Reply}
-use Rattle.protector_state.specs.State.{stateLen, phaseIn, requestOf, settingsOf, entriesIn}
+use Rattle.protector_state.specs.State.{phaseIn, requestOf, settingsOf, entriesIn}
 use Rattle.protector_state.specs.Reply.{askedOf, flatOf}
 use Rattle.protector_state.specs.Changing.{isChanging}
 use Rattle.call_refusals.specs.World.{World, world, Outcome, overlaysOf, locksOf, fits, statusIn}
@@ -134,15 +135,13 @@ pub record Taken (w : World) (v : GuestVtl) (share : Bool) (l : List ℕ) : Type
 pub taken : (w : World) (vtl visibility : ℕ) (l : List ℕ) → visibilityRefusal (w .state) (fits w) (w .tables) vtl visibility l ≡ 0 → Taken w (vtlOf vtl) (boolOf visibility) l
 unfolding visibilityRefusal
 taken w vtl visibility l z =
-    let a = passed (eqb (length (w .state)) stateLen) 3 _ z in
-    let b = first-passed (statusIn (w .state)) _ (a .1) in
-    let c = passed (fits w) 3 _ (b .1) in
-    let d = passed (not (isLong l)) 4 _ (c .1) in
-    let e = passed (not (repeats (pagesOf l))) 5 _ (d .1) in
+    let a = is-ready (w .state) (fits w) _ z in
+    let d = when-passed (isLong l) 4 _ (a .goes) in
+    let e = when-passed (repeats (pagesOf l)) 5 _ (d .1) in
     let f = passed (fitVtl vtl) 7 _ (e .1) in
     let g = passed (fitBool visibility) 7 _ (f .1) in
-    let h = passed (not (isRagged l)) 7 _ (g .1) in
-    record { fit = c .0; idle = b .0; short = ltb-false 4096 (length l) (not-true (isLong l) (d .0)); apart = not-true (repeats (pagesOf l)) (e .0); each = h .1 }
+    let h = when-passed (isRagged l) 7 _ (g .1) in
+    record { fit = a .fits; idle = a .idle; short = ltb-false 4096 (length l) (d .0); apart = e .0; each = h .1 }
 
 module _ (es : List MemoryRangeWithNode) (w : World) (o : Seen) (k : Stands es w o) (v : GuestVtl) (b : Bool) (l : List ℕ) (x : Taken w v b l) where
   abbrev P : ℕ → Bool

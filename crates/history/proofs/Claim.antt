@@ -18,16 +18,17 @@ use Rattle.layout.proofs.Laws.{Fit, fit, entries-count, page-in-map}
 use Rattle.permissions.specs.declared.GuestVtl.{GuestVtl}
 use Rattle.permissions.specs.declared.GuestVtl.the-variants.{Vtl0, Vtl1}
 use Rattle.permissions.specs.Flags.{fitIsolation, fitBool, boolOf}
-use Rattle.mapping.specs.Maps.{Permissions, fresh, marksFit, permissionLen, permissionsFit}
+use Rattle.mapping.specs.Maps.{Permissions, fresh, marksFit, lengthsOf}
 use Rattle.mapping.proofs.Marks.{fresh-page}
 use Rattle.overlay_table.specs.Overlays as overlays
 use Rattle.overlay_table.specs.Overlays.{flat}
 use Rattle.lock_entries.proofs.Limits.{none-locked}
 use Rattle.protector_state.specs.declared.Reply.{Reply}
 use Rattle.protector_state.specs.State.{stateLen, firstPhases, phaseOf, builtState, settingsOf, ramOf, entriesIn}
-use Rattle.call_refusals.specs.World.{World, Outcome, pagesLen, tablesLen, overlaysOf, locksOf}
+use Rattle.call_refusals.specs.World.{World, Outcome, tablesLen, overlaysOf, locksOf, lengthsFit, lengthsIn}
 use Rattle.protector.specs.Calls.{refusedBy, buildTaken, buildOf}
-use Rattle.call_refusals.specs.Refusals.{buildFits, buildRefusal}
+use Rattle.call_refusals.specs.Refusals.{buildFits, buildRefusal, testedOf}
+use Rattle.call_refusals.proofs.Laws.{maps-fit}
 use Rattle.history.specs.Seen.{Seen, Took, tookAs, unseen}
 use Rattle.history.specs.Marks.{Has, readOff, Settled}
 use Rattle.history.specs.Tables.{EachFits, Overlays, EachShort, Locked, Tables}
@@ -37,11 +38,11 @@ use Rattle.history.specs.Resting.{Rests}
 use Rattle.history.specs.Made.{Built}
 use Rattle.history.specs.History.{History}
 use Rattle.history.proofs.Bits.{clash}
-use Rattle.history.proofs.Fits.{tables-long}
+use Rattle.call_refusals.proofs.Laws.{fits-tables}
 use Rattle.history.specs.Answered.{given}
 use Rattle.history.specs.Claim.{ClaimFrom, Claim}
 use Rattle.history.proofs.Is.{build-is}
-use Rattle.history.proofs.Strays.{Whole}
+use Rattle.history.proofs.Passed.{Whole}
 use Rattle.history.proofs.Histories.{Lent}
 use Rattle.history.proofs.Restart.{settled-hold, settled-lent}
 
@@ -77,7 +78,7 @@ fresh-bare es n z = fresh-page es false n z ∙ go (isRam es z && ltb (z / 8) n)
 fresh-none : (es : List MemoryRangeWithNode) (n z : ℕ) → Has (fresh es false n) z → ⊥
 fresh-none es n z h = clash _ h (fresh-bare es n z)
 
-module _ (u : World) (ram : List ℕ) (i t r : ℕ) (z : buildRefusal ram i t r (buildFits (mapLen (entriesOf ram)) t u) ≡ 0) where
+module _ (u : World) (ram : List ℕ) (i t r : ℕ) (z : buildRefusal ram i t r (buildFits (mapLen (entriesOf ram)) t (length (u .state)) (lengthsIn u)) ≡ 0) where
   abbrev es : List MemoryRangeWithNode
   es = entriesOf ram
 
@@ -88,17 +89,11 @@ module _ (u : World) (ram : List ℕ) (i t r : ℕ) (z : buildRefusal ram i t r 
   well : Fit ram
   well = fit ram ram-taken
 
-  lengths : buildFits (mapLen es) t u ≡ true
+  lengths : buildFits (mapLen es) t (length (u .state)) (lengthsIn u) ≡ true
   unfolding buildRefusal
   lengths =
       let b = passed (fitIsolation i) 2 _ (first-passed (refusalOf ram) _ z .1) in
-      passed (buildFits (mapLen es) t u) 3 _ (b .1) .0
-
-  marks-fit : marksFit (mapLen es) (length (u .maps .private)) (length (u .maps .shared)) ≡ true
-  marks-fit = and-left _ _ lengths
-
-  long-private : length (u .maps .private) ≡ mapLen es
-  long-private = eqb-true _ _ (and-left _ _ marks-fit)
+      passed (buildFits (mapLen es) t (length (u .state)) (lengthsIn u)) 3 _ (b .1) .0
 
   short-ram : length ram ≤ 96
   short-ram = omega (arith, well .divided, well .few, entries-count ram)
@@ -107,17 +102,14 @@ module _ (u : World) (ram : List ℕ) (i t r : ℕ) (z : buildRefusal ram i t r 
   unfolding buildRefusal
   tracked-fit =
       let b = passed (fitIsolation i) 2 _ (first-passed (refusalOf ram) _ z .1) in
-      let c = passed (buildFits (mapLen es) t u) 3 _ (b .1) in
+      let c = passed (buildFits (mapLen es) t (length (u .state)) (lengthsIn u)) 3 _ (b .1) in
       passed (fitBool t) 7 _ (c .1) .0
 
-  abbrev mapsFit : Bool
-  mapsFit = permissionsFit (permissionLen (mapLen es) (boolOf t)) (length (u .maps .permissions .read)) (length (u .maps .permissions .write)) (length (u .maps .permissions .kernel)) (length (u .maps .permissions .user))
+  all-fit : lengthsFit (mapLen es) (boolOf t) (lengthsIn u) ≡ true
+  all-fit = subst (λ (b : Bool). lengthsFit (mapLen es) (boolOf t) (cond b (lengthsIn u) (testedOf 2 (lengthsIn u))) ≡ true) tracked-fit (and-right (eqb (length (u .state)) stateLen) _ lengths)
 
-  maps-fit : mapsFit ≡ true
-  maps-fit = subst (λ (b : Bool). cond b mapsFit true ≡ true) tracked-fit (and-left _ _ (and-right (marksFit (mapLen es) (length (u .maps .private)) (length (u .maps .shared))) _ lengths))
-
-  runs-fit : (eqb (length (u .state)) stateLen && (eqb (length (u .pages)) pagesLen && eqb (length (u .tables)) tablesLen)) ≡ true
-  runs-fit = and-right (cond (fitBool t) mapsFit true) _ (and-right (marksFit (mapLen es) (length (u .maps .private)) (length (u .maps .shared))) _ lengths)
+  long-private : length (u .maps .private) ≡ mapLen es
+  long-private = eqb-true _ _ (and-left _ _ (and-left (marksFit (mapLen es) (lengthsOf (u .maps))) _ (maps-fit (mapLen es) (boolOf t) (lengthsIn u) all-fit)))
 
   built-long : length (builtState ram i t r) ≡ stateLen
   built-long = omega (arith, length-append ram (replicate (96 - length ram) 0), length-replicate {A = ℕ} (96 - length ram) 0, short-ram)
@@ -133,7 +125,7 @@ module _ (u : World) (ram : List ℕ) (i t r : ℕ) (z : buildRefusal ram i t r 
         fit =
             let p : Permissions = u .maps .permissions in
             rw (entries-built ram i t r well, same-long true (u .maps .private), same-long false (u .maps .shared), same-long true (p .read), same-long true (p .write), same-long true (p .kernel), same-long true (p .user), length-replicate {A = ℕ} (length (u .pages)) 0, length-replicate {A = ℕ} (length (u .tables)) 0)
-            (and-true _ _ (and-true _ _ marks-fit maps-fit) (and-right (eqb (length (u .state)) stateLen) _ runs-fit));
+            all-fit;
       }
 
   -- nothing is under way, and each RAM page is marked private
@@ -162,12 +154,12 @@ module _ (u : World) (ram : List ℕ) (i t r : ℕ) (z : buildRefusal ram i t r 
 
 -- a build whose reply has no number of a refusal was taken
 build-taken : (u w : World) (ram : List ℕ) (i t r : ℕ) (reply : Reply) → given w reply ≡ buildOf u ram i t r → reply .number ≡ 0
-    → (buildRefusal ram i t r (buildFits (mapLen (entriesOf ram)) t u) ≡ 0) × (buildTaken u ram i t r .world ≡ w)
+    → (buildRefusal ram i t r (buildFits (mapLen (entriesOf ram)) t (length (u .state)) (lengthsIn u)) ≡ 0) × (buildTaken u ram i t r .world ≡ w)
 unfolding buildOf
 build-taken u w ram i t r reply e d = go (eqb n 0) refl e
   where
     n : ℕ
-    n = buildRefusal ram i t r (buildFits (mapLen (entriesOf ram)) t u)
+    n = buildRefusal ram i t r (buildFits (mapLen (entriesOf ram)) t (length (u .state)) (lengthsIn u))
 
     go : (b : Bool) → eqb n 0 ≡ b → given w reply ≡ cond b (buildTaken u ram i t r) (refusedBy u n) → (n ≡ 0) × (buildTaken u ram i t r .world ≡ w)
     go true h e = (eqb-true n 0 h, ap (λ (X : Outcome). X .world) (sym e))
@@ -191,7 +183,7 @@ empty-tables es = record { long = none-locked .long; overlays = none-entered es;
 -- ---- a build that was taken
 
 module _ {ram : List ℕ} {i t r : ℕ} {u w : World} {reply : Reply} (b : Built ram i t r u w reply) (d : reply .number ≡ 0) where
-  was : (buildRefusal ram i t r (buildFits (mapLen (entriesOf ram)) t u) ≡ 0) × (buildTaken u ram i t r .world ≡ w)
+  was : (buildRefusal ram i t r (buildFits (mapLen (entriesOf ram)) t (length (u .state)) (lengthsIn u)) ≡ 0) × (buildTaken u ram i t r .world ≡ w)
   was = build-taken u w ram i t r reply (build-is b) d
 
   -- the world that it leaves is settled, and what is read off its marks is what is seen at a build: one start among those that Restart is about
@@ -214,14 +206,14 @@ module _ {ram : List ℕ} {i t r : ℕ} {u w : World} {reply : Reply} (b : Built
 
   no-words : w .tables ≡ replicate tablesLen 0
   no-words =
-      zeros ∙ ap (λ (n : ℕ). replicate n 0) (sym (length-replicate {A = ℕ} (length (u .tables)) 0) ∙ ap (length {A = ℕ}) (sym zeros) ∙ tables-long w (built-settled .lent))
+      zeros ∙ ap (λ (n : ℕ). replicate n 0) (sym (length-replicate {A = ℕ} (length (u .tables)) 0) ∙ ap (length {A = ℕ}) (sym zeros) ∙ fits-tables w (built-settled .lent))
 
   fresh-settings : SettingsFit i t r (buildTaken u ram i t r .world .state)
   unfolding buildTaken buildRefusal
   fresh-settings =
       let a = first-passed (refusalOf ram) _ (was .0) in
       let c = passed (fitIsolation i) 2 _ (a .1) in
-      let e = passed (buildFits (mapLen (entriesOf ram)) t u) 3 _ (c .1) in
+      let e = passed (buildFits (mapLen (entriesOf ram)) t (length (u .state)) (lengthsIn u)) 3 _ (c .1) in
       let f = passed (fitBool t) 7 _ (e .1) in
       record {
         same-isolation = refl;

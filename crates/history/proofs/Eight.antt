@@ -24,7 +24,7 @@ use Rattle.protector_state.specs.Changing.{stageOf}
 use Rattle.call_refusals.specs.World.{World, world, Outcome}
 use Rattle.protector.specs.Writes.{applied, entered}
 use Rattle.protector.specs.Calls.{carriedOut, carriedChange, visibilityTaken, visibilityOf, afterDone, answerDone, buildTaken, buildOf}
-use Rattle.call_refusals.specs.Refusals.{firstRefusal, visibilityRefusal, answerRefusal, buildRefusal}
+use Rattle.call_refusals.specs.Refusals.{ready, firstRefusal, visibilityRefusal, answerRefusal, buildRefusal}
 use Rattle.protection_entries.specs.Calls.{protectionRefusal, protectionTaken, protectionOf, defaultRefusal, defaultStarted, defaultTaken, defaultOf}
 use Rattle.overlay_refusals.specs.Refusals.{callRefusal, within, knownRefusal, guestRefusal, dmaRefusal, pageRefusal, registerRefusal, currentOf, unregisterRefusal}
 use Rattle.overlay_entries.specs.Calls.{registerTaken, registerOf, unregisterTaken, unregisterOf}
@@ -73,7 +73,7 @@ pub share8 : Made sharing8 built8 (asking8 .world) (asking8 .reply)
 share8 = any-call built8 .made sharing8
 
 pub share8-asks : asks (asking8 .reply) ≡ true
-unfolding visibilityOf visibilityRefusal buildOf buildRefusal refusalOf entriesOf ordered aligned buildTaken word writtenFrom ramByte numberOf numberAt numbersFrom among repeats pick tableOf stopAt put placeFrom listsFrom held ask operationOf cleared startOf firstPhases phaseOf askedOf flatOf applied carriedOut firstRefusal visibilityTaken
+unfolding visibilityOf ready visibilityRefusal buildOf buildRefusal refusalOf entriesOf ordered aligned buildTaken word writtenFrom ramByte numberOf numberAt numbersFrom among repeats pick tableOf stopAt put placeFrom listsFrom held ask operationOf cleared startOf firstPhases phaseOf askedOf flatOf applied carriedOut firstRefusal visibilityTaken
 share8-asks = refl
 
 -- ---- and while it waits a build with isolation 9, lent what stands, is refused (3): a step of the list
@@ -97,7 +97,7 @@ pub record Others8 : Type 0 where
   pub unregisters : asks (unregisterOf (afterAll (registerOf built8 0 5 0 15 1 .world) (dones 4)) 0 5 .reply) ≡ true
 
 pub others8 : Others8
-unfolding buildOf buildRefusal refusalOf entriesOf ordered aligned buildTaken word writtenFrom ramByte numberOf numberAt numbersFrom neighbours runAt pick tableOf placeFrom listsFrom held span nextOf anyOf anyIn
+unfolding ready buildOf buildRefusal refusalOf entriesOf ordered aligned buildTaken word writtenFrom ramByte numberOf numberAt numbersFrom neighbours runAt pick tableOf placeFrom listsFrom held span nextOf anyOf anyIn
     renewedFrom changes.protect changes.ask changes.wait changes.finish changes.protectPages changes.protectRam changes.doneOf changes.startNew changes.startOld firstPhases phaseOf flatOf askedOf stageOf entered carriedChange firstRefusal answerRefusal afterDone answerDone protectionRefusal protectionTaken protectionOf
     defaultRefusal defaultStarted defaultTaken defaultOf callRefusal within knownRefusal guestRefusal dmaRefusal pageRefusal registerRefusal currentOf registerTaken registerOf unregisterRefusal unregisterTaken unregisterOf closed closedTo afterAll
 others8 = record { protects = refl; defaults = refl; registers = refl; unregisters = refl }

@@ -17,7 +17,7 @@ use Rattle.visibility_claims.specs.Ends.{leftIn, underWay, afterAll, takenOf, u
 use Rattle.visibility_claims.proofs.Ends as claims
 use Rattle.history.specs.Seen.{Seen, unseen, asks, isWaiting, isTaken, seesCall, seesAnswer}
 use Rattle.history.specs.Marks.{readOff, Settled}
-use Rattle.history.specs.Call.{Call, Answer, sees}
+use Rattle.history.specs.Call.{Answer, sees}
 use Rattle.history.specs.Made.{Made, Built}
 use Rattle.history.specs.History.{History, none, call, Event, Called, eventsIn}
 use Rattle.history.specs.Answered.{given}
@@ -25,14 +25,14 @@ use Rattle.history.specs.Ends.{Course, start, answer, other, courseOf, t
 use Rattle.history.proofs.Bits.{clash}
 use Rattle.history.proofs.World.{Stands}
 use Rattle.history.proofs.Answers.{taken-seen}
-use Rattle.history.proofs.Strays.{Whole}
+use Rattle.history.proofs.Passed.{Whole}
 use Rattle.history.proofs.Wholes.{answer-long}
 use Rattle.history.proofs.Histories.{Lent, lent-kept, history-keeps}
 use Rattle.history.proofs.Falls.{taken-waits, answer-is, at-stop, steps-fall}
 use Rattle.history.proofs.Claim.{lent-holds}
 use Rattle.history.proofs.Restart.{settled-lent}
 use Rattle.history.proofs.Exists.{any-call}
-use Rattle.history.proofs.Eight.{sharing8, asking8, share8, share8-asks}
+use Rattle.history.proofs.Eight.{sharing8, asking8, share8-asks}
 
 -- ---- and the whole of it
 

@@ -6,12 +6,13 @@ use mathlib.Core.Bool.{Bool, true, false, cond, _&&_}
 use mathlib.Core.List.{List, []}
 use Prim.Native.Nat.{ℕ}
 use lib.Dec.{eqb}
+use lib.ListN.{length}
 use borrow.Author.Tests.{eqb-true, eqb-false}
 use contract.Lifetimes.{Lfts}
 use Rattle.laws.specs.Refusal.{passed, first-passed}
 use Rattle.layout.specs.Layout.{entriesOf, refusalOf, mapLen}
 use Rattle.permissions.specs.Flags.{fitIsolation}
-use Rattle.call_refusals.specs.World.{World, Outcome}
+use Rattle.call_refusals.specs.World.{World, Outcome, lengthsIn}
 use Rattle.protector.specs.Calls.{refusedBy, visibilityOf, answerDone, answerFailed, buildTaken, buildOf}
 use Rattle.call_refusals.specs.Refusals.{buildFits, buildRefusal}
 use Rattle.protection_entries.specs.Calls.{protectionOf, defaultOf}
@@ -27,7 +28,7 @@ use Rattle.history.specs.History.{IsRefusal, block, other, lockBlock, lo
 use Rattle.history.specs.Callable.{Callable, Strays}
 use Rattle.history.specs.Answered.{given}
 use Rattle.history.proofs.Bits.{clash}
-use Rattle.history.proofs.Fits.{mapsLong}
+use Rattle.history.proofs.Fits.{mapsIn}
 use Rattle.history.proofs.Spared.{visibility-same, protection-same, default-same, register-same, unregister-same}
 
 -- ---- a world as it is lent
@@ -112,7 +113,7 @@ unfolding buildOf buildRefusal
 unfit-refused w ram isolation tracked release f e = go (eqb n 0) refl e
   where
     n : ℕ
-    n = buildRefusal ram isolation tracked release (buildFits (mapLen (entriesOf ram)) tracked w)
+    n = buildRefusal ram isolation tracked release (buildFits (mapLen (entriesOf ram)) tracked (length (w .state)) (lengthsIn w))
 
     go : (b : Bool) → eqb n 0 ≡ b → cond b (buildTaken w ram isolation tracked release) (refusedBy w n) .reply .number ≡ 0 → ⊥
     go true h _ = clash _ (passed (fitIsolation isolation) 2 _ (first-passed (refusalOf ram) _ (eqb-true n 0 h) .1) .0) f
@@ -137,7 +138,7 @@ pub any-stray : (u : World) → Strays u
 any-stray u =
     record {
       no-block = block (λ e. absurd (omega (arith, e)));
-      no-pages = other refl (none (mapsLong u));
+      no-pages = other refl (none (mapsIn u));
       no-lock-block = lockBlock (λ e. absurd (omega (arith, e)));
       no-lock-tables = lockTables refl (λ e. absurd (omega (arith, e)));
     }

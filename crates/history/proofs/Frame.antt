@@ -7,12 +7,13 @@ use mathlib.Core.List.{List}
 use lib.Dec.{eqb}
 use lib.ListN.{length, set}
 use borrow.Author.Tests.{eqb-true}
-use Rattle.laws.specs.Refusal.{passed, first-passed}
+use Rattle.laws.specs.Refusal.{passed}
+use Rattle.call_refusals.proofs.Laws.{is-ready}
 use Rattle.permissions.specs.HvError.{codeOf}
 use Rattle.protector_state.specs.Reply.{finished}
 use Rattle.protector_state.specs.State.{stateLen, settingsOf}
 use Rattle.call_refusals.specs.World.{World, world}
-use Rattle.setting_entries.specs.Calls.{stateRefusal, enableRefusal, enabled, enableOf}
+use Rattle.setting_entries.specs.Calls.{enableRefusal, enabled, enableOf}
 use Rattle.history.specs.Seen.{Seen}
 use Rattle.history.specs.Call.{Visibility, Protection, Default, Register, Unregister, Lock, Unlock, Enable, Call, Write, Read, Answer, gives, sees}
 use Rattle.history.proofs.Bits.{clash}
@@ -20,13 +21,13 @@ use Rattle.history.proofs.Wholes.{lock-tables-long, unlock-tables-long}
 
 -- what the setter does to the state block: nothing where it is refused
 pub setter-frame : (K : List ℕ → Type 0) (s : List ℕ) → K s → (settingsOf s .tracked ≡ true → length s ≡ stateLen → K (set s 19 1)) → K (enableOf s .state)
-unfolding enableOf enableRefusal stateRefusal
+unfolding enableOf enableRefusal
 setter-frame K s k f = go (eqb (enableRefusal s) 0) refl
   where
     go : (b : Bool) → eqb (enableRefusal s) 0 ≡ b → K (cond b (enabled (set s 19 1) (finished 0 0 0 0)) (enabled s (finished (enableRefusal s) (codeOf (enableRefusal s)) 0 0)) .state)
     go true e =
-        let a = first-passed (stateRefusal s) _ (eqb-true (enableRefusal s) 0 e) in
-        f (passed (settingsOf s .tracked) 23 _ (a .1) .0) (eqb-true _ _ (passed (eqb (length s) stateLen) 3 _ (a .0) .0))
+        let a = is-ready s true _ (eqb-true (enableRefusal s) 0 e) in
+        f (passed (settingsOf s .tracked) 23 _ (a .goes) .0) (a .long)
     go false e = k
 
 pub record Framed (K : World → Seen → Type 0) : Type 0 where

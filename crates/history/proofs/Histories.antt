@@ -22,7 +22,7 @@ use Rattle.history.proofs.World.{Stands}
 use Rattle.history.proofs.Is.{is}
 use Rattle.history.proofs.Refused.{stray-unseen}
 use Rattle.history.proofs.Answers.{answer-stands}
-use Rattle.history.proofs.Strays.{Whole}
+use Rattle.history.proofs.Passed.{Whole}
 use Rattle.history.proofs.Lengths.{tables-whole, set-whole}
 use Rattle.history.proofs.Wholes.{visibility-long, answer-long, protection-long, default-long, register-long, unregister-long}
 use Rattle.history.proofs.Calls.{visibility-stands, tables-stand, set-stands}

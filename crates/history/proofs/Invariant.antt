@@ -23,7 +23,7 @@ use Rattle.history.specs.Tables.{TablesFit}
 use Rattle.history.specs.Settings.{SettingsFit}
 use Rattle.history.specs.Permitted.{Permitted}
 use Rattle.history.proofs.World.{Stands}
-use Rattle.history.proofs.Strays.{Whole}
+use Rattle.history.proofs.Passed.{Whole}
 use Rattle.history.proofs.Histories.{Keeps, Both, InWorld, product, history-keeps, stands-kept, SnpAges, ages-kept, Lengths, lengths-kept, Unlisted, unlisted-kept}
 use Rattle.history.proofs.Tabled.{tables-kept}
 use Rattle.history.proofs.PermittedCalls.{permissions-kept}

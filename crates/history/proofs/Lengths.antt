@@ -33,7 +33,7 @@ use Rattle.protector.specs.Writes.{applied, withoutPage, entered}
 use Rattle.protector.specs.Calls.{carriedOut, carriedChange}
 use Rattle.history.proofs.World.{request-entries, change-entries}
 use Rattle.history.proofs.Calls.{set-entries}
-use Rattle.history.proofs.Strays.{Whole}
+use Rattle.history.proofs.Passed.{Whole}
 
 -- ---- runs of words
 

@@ -1,5 +1,6 @@
 pub mod Took
 pub mod Fits
+pub mod Passed
 pub mod Bits
 pub mod Right
 pub mod Steps

@@ -1,12 +1,13 @@
 -- Locked lists stay lists that fit, whatever is locked and unlocked. Assumes nothing.
 use mathlib.Core.Path.{_≡_, refl, sym, subst}
-use mathlib.Core.Bool.{Bool, true, false, cond, not}
+use mathlib.Core.Bool.{Bool, true, false, cond}
 use mathlib.Core.List.{List, [], _∷_, _++_}
 use Prim.Native.Nat.{ℕ, _≤_}
 use lib.Dec.{eqb}
 use lib.ListN.{length}
 use borrow.Author.Tests.{eqb-true, eqb-false, ltb-false}
-use Rattle.laws.specs.Refusal.{passed, first-passed}
+use Rattle.laws.specs.Refusal.{when-passed}
+use Rattle.call_refusals.proofs.Laws.{is-ready}
 use Rattle.layout.specs.declared.MemoryRangeWithNode.{MemoryRangeWithNode}
 use Rattle.permissions.specs.declared.GuestVtl.{GuestVtl}
 use Rattle.permissions.specs.declared.GuestVtl.the-variants.{Vtl0, Vtl1}
@@ -15,13 +16,11 @@ use Rattle.page_list.specs.Pages.{pagesOf, isLong}
 use Rattle.request_pages.proofs.Table.{pages-few}
 use Rattle.lock_table.specs.Locks as locks
 use Rattle.lock_table.specs.Locks.{Fit, roomFor, same, lastOf, allButLast, lastFirst, unlocked}
-use Rattle.protector_state.specs.State.{stateLen}
-use Rattle.call_refusals.specs.World.{tablesLen, overlaysOf, locksOf, statusIn}
+use Rattle.call_refusals.specs.World.{overlaysOf, locksOf}
 use Rattle.lock_entries.specs.Calls.{Kept, ended, lockRefusal, lockOf, unlockOf}
 use Rattle.lock_entries.specs.Lists.{Lists, lists, listsAt, withLists, Holds, Makes}
 use Rattle.lock_entries.proofs.Lists.{lock-room, lock-full, unlock-found, unlock-none, lock-refused, unlock-refused}
 use Rattle.history.specs.Tables.{EachShort, Overlays, Tables}
-use Rattle.history.proofs.Calls.{not-true}
 
 -- ---- each list short
 
@@ -107,12 +106,7 @@ module _ (es : List MemoryRangeWithNode) (s t : List ℕ) (k : Tables es t) wher
 
     few : lockRefusal s (length t) vtl l ≡ 0 → length ps ≤ 512
     unfolding lockRefusal
-    few z =
-        let a = passed (eqb (length s) stateLen) 3 _ z in
-        let b = first-passed (statusIn s) _ (a .1) in
-        let c = passed (eqb (length t) tablesLen) 3 _ (b .1) in
-        let d = passed (not (isLong l)) 4 _ (c .1) in
-        pages-few l (ltb-false 4096 (length l) (not-true (isLong l) (d .0)))
+    few z = pages-few l (ltb-false 4096 (length l) (when-passed (isLong l) 4 _ (is-ready s _ _ z .goes) .0))
 
     gave : (y : Kept) (n : ℕ) → y ≡ ended t n → Relocked es t (y .tables)
     gave y n e = subst (λ (y : Kept). Relocked es t (y .tables)) (sym e) same-tables

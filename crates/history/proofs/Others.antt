@@ -4,9 +4,8 @@ use mathlib.Core.Path.{_≡_, refl}
 use mathlib.Core.List.{List, []}
 use mathlib.Core.Bool.{Bool, true, false, cond}
 use native.Mathlib.Omega.{arith}
-use lib.ListN.{length, set}
+use lib.ListN.{length}
 use lib.Dec.{eqb, ltb}
-use Rattle.laws.specs.Refusal.{passed, first-passed}
 use Rattle.layout.specs.declared.MemoryRangeWithNode.{MemoryRangeWithNode}
 use Rattle.permissions.specs.declared.GuestVtl.{GuestVtl}
 use Rattle.permissions.specs.declared.GuestVtl.the-variants.{Vtl0, Vtl1}
@@ -17,13 +16,15 @@ use Rattle.overlay_table.specs.Overlays.{isOverlay}
 use Rattle.change_steps.specs.declared.ChangeStep.{ChangeStep}
 use Rattle.change_steps.specs.declared.Change.{Change}
 use Rattle.change_steps.specs.Changes.{protect, ask, wait, protectPages, protectRam, startNew, startOld}
-use Rattle.protector_state.specs.State.{stateLen, settingsOf}
+use Rattle.protector_state.specs.State.{settingsOf}
 use Rattle.call_refusals.specs.World.{World, world, Outcome, overlaysOf, fits, statusIn}
 use Rattle.protector.specs.Calls.{refusedBy, carriedChange}
 use Rattle.protection_entries.specs.Calls.{defaultRefusal, storedDefault, stored, barred, renewedTables, renewedIn, defaultStep, defaultStarted, defaultTaken, defaultOf, protectionRefusal, allListed, protectionStep, protectionTaken, protectionOf}
-use Rattle.overlay_refusals.specs.Refusals.{callRefusal, unregisterRefusal, registerRefusal}
+use Rattle.overlay_refusals.specs.Refusals.{unregisterRefusal, registerRefusal}
 use Rattle.overlay_entries.specs.Calls.{entryIn, counting, unregisterTaken, unregisterOf, currentIn, registerTaken, registerOf}
 use Rattle.history.specs.Seen.{Seen, seesCall}
+use Rattle.history.specs.Call.{Protection, Default, Register, Unregister}
+use Rattle.history.proofs.Passed.{passed-in}
 use Rattle.history.proofs.World.{Stands, stops}
 use Rattle.history.proofs.Answers.{new-told, old-told, start-pages-told, start-ram-told}
 use Rattle.history.proofs.Calls.{called, set-entries, set-stands, tables-stand, change-starts}
@@ -52,25 +53,13 @@ old-goes tracked v p previous source = refl
 
 -- ---- nothing is under way where a call is taken
 
-pub protection-idle : (w : World) (vtl flags : ℕ) (l : List ℕ) → protectionRefusal (w .state) (fits w) (w .maps .shared) (w .tables) vtl flags l ≡ 0 → statusIn (w .state) ≡ 0
-unfolding protectionRefusal
-protection-idle w vtl flags l z = first-passed (statusIn (w .state)) _ (passed (eqb (length (w .state)) stateLen) 3 _ z .1) .0
-
-pub default-idle : (w : World) (vtl flags : ℕ) → defaultRefusal (w .state) (fits w) vtl flags ≡ 0 → statusIn (w .state) ≡ 0
-unfolding defaultRefusal
-default-idle w vtl flags z = first-passed (statusIn (w .state)) _ (passed (eqb (length (w .state)) stateLen) 3 _ z .1) .0
-
-pub call-idle : (w : World) (vtl rest : ℕ) → callRefusal (w .state) (fits w) vtl rest ≡ 0 → statusIn (w .state) ≡ 0
-unfolding callRefusal
-call-idle w vtl rest z = first-passed (statusIn (w .state)) _ (passed (eqb (length (w .state)) stateLen) 3 _ z .1) .0
-
 module _ (es : List MemoryRangeWithNode) (w : World) (o : Seen) (k : Stands es w o) where
   pub protection-stands : (vtl flags : ℕ) (l : List ℕ) → let X = protectionOf w vtl flags l in Stands es (X .world) (seesCall [] (X .reply) (X .world .pages) o)
   unfolding protectionOf protectionTaken
   protection-stands vtl flags l =
       let t : List ℕ = allListed l (w .pages) in
       called (Stands es) w o k [] (protectionRefusal (w .state) (fits w) (w .maps .shared) (w .tables) vtl flags l) (protectionTaken w (vtlOf vtl) flags l)
-      (λ z. change-starts es w o k (protection-idle w vtl flags l z) (w .state) (w .tables) t (protectionStep (w .state) t (vtlOf vtl) flags (length (pagesOf l))) refl
+      (λ z. change-starts es w o k (passed-in (Protection vtl flags l) w z .idle) (w .state) (w .tables) t (protectionStep (w .state) t (vtlOf vtl) flags (length (pagesOf l))) refl
       (start-pages-told (settingsOf (w .state) .isolation) (settingsOf (w .state) .tracked) (vtlOf vtl) flags (length (pagesOf l)) t) (pages-go _ _ t 0))
 
   module _ (v : GuestVtl) (flags : ℕ) (idle : statusIn (w .state) ≡ 0) where
@@ -99,12 +88,12 @@ module _ (es : List MemoryRangeWithNode) (w : World) (o : Seen) (k : Stands es w
   unfolding defaultOf
   default-stands vtl flags =
       called (Stands es) w o k [] (defaultRefusal (w .state) (fits w) vtl flags) (defaultTaken (stored w (vtlOf vtl) flags) (vtlOf vtl) flags)
-      (λ z. default-taken (vtlOf vtl) flags (default-idle w vtl flags z))
+      (λ z. default-taken (vtlOf vtl) flags (passed-in (Default vtl flags) w z .idle))
 
   pub unregister-stands : (vtl p : ℕ) → let X = unregisterOf w vtl p in Stands es (X .world) (seesCall [] (X .reply) (X .world .pages) o)
-  unfolding unregisterOf unregisterTaken unregisterRefusal
+  unfolding unregisterOf unregisterTaken
   unregister-stands vtl p =
-      called (Stands es) w o k [] (unregisterRefusal (w .state) (fits w) (w .tables) vtl p) (unregisterTaken w (vtlOf vtl) p) (λ z. go (call-idle w vtl _ z) (ltb 1 (entryIn (w .tables) (vtlOf vtl) p .«ref_count»)))
+      called (Stands es) w o k [] (unregisterRefusal (w .state) (fits w) (w .tables) vtl p) (unregisterTaken w (vtlOf vtl) p) (λ z. go (passed-in (Unregister vtl p) w z .idle) (ltb 1 (entryIn (w .tables) (vtlOf vtl) p .«ref_count»)))
     where
       v : GuestVtl
       v = vtlOf vtl
@@ -122,10 +111,10 @@ module _ (es : List MemoryRangeWithNode) (w : World) (o : Seen) (k : Stands es w
           (old-told _ _ _ _ _ _) (old-goes _ _ _ _ _)
 
   pub register-stands : (vtl p source checked new : ℕ) → let X = registerOf w vtl p source checked new in Stands es (X .world) (seesCall [] (X .reply) (X .world .pages) o)
-  unfolding registerOf registerTaken registerRefusal
+  unfolding registerOf registerTaken
   register-stands vtl p source checked new =
       called (Stands es) w o k [] (registerRefusal (w .state) (fits w) (w .maps .shared) (w .tables) (currentIn w (vtlOf vtl) p source) vtl p source checked new) (registerTaken w (vtlOf vtl) p source new)
-      (λ z. go (call-idle w vtl _ z) (isOverlay (overlaysOf (w .tables) (vtlOf vtl)) p))
+      (λ z. go (passed-in (Register vtl p source checked new) w z .idle) (isOverlay (overlaysOf (w .tables) (vtlOf vtl)) p))
     where
       v : GuestVtl
       v = vtlOf vtl

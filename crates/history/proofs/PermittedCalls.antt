@@ -1,7 +1,7 @@
 -- Every call keeps the permission maps inside RAM, and so does every list of calls. Assumes nothing.
 use native.Mathlib.Omega.{arith}
 use mathlib.Core.Path.{_≡_, refl, sym, ap, _∙_, subst}
-use mathlib.Core.Bool.{Bool, true, false, cond, not}
+use mathlib.Core.Bool.{Bool, true, false, cond}
 use mathlib.Core.List.{List}
 use Prim.Native.Nat.{ℕ, _+_, _-_, _≤_, _<_, min}
 use lib.Dec.{eqb, ltb}
@@ -10,7 +10,8 @@ use lib.Seq.{getD-take, getD-set-other}
 use borrow.Author.Tests.{eqb-true, ltb-true, ltb-false}
 use Rattle.abi.specs.Refusals as refusal
 use Rattle.laws.specs.Bools.{and-left}
-use Rattle.laws.specs.Refusal.{passed, first-passed}
+use Rattle.laws.specs.Refusal.{passed, when-passed, first-passed}
+use Rattle.call_refusals.proofs.Laws.{is-ready}
 use Rattle.laws.specs.Ranges.{between, between-from, between-to}
 use Rattle.bitmap.specs.Pages.{bitAt}
 use Rattle.layout.specs.declared.MemoryRangeWithNode.{MemoryRangeWithNode}
@@ -22,12 +23,11 @@ use Rattle.permissions.specs.Flags.{fitVtl, vtlOf, fitFlags, flagsOf, bitsOf, b
 use Rattle.page_list.specs.declared.PageRun.{PageRun}
 use Rattle.page_list.specs.Pages.{pagesOf, among, isLong, isRagged}
 use Rattle.page_list.specs.Runs.{part}
-use Rattle.request_pages.specs.Request.{pick, put}
+use Rattle.request_pages.specs.Request.{put}
 use Rattle.request_pages.proofs.Table.{in-use, length-table, pages-few, pick-each}
 use Rattle.overlay_table.specs.declared.OverlayPage.{OverlayPage}
 use Rattle.overlay_table.specs.Overlays.{isOverlay}
 use Rattle.default_change.specs.Pieces.{wanted, free, nextPiece}
-use Rattle.visibility_steps.specs.declared.Phase.{Phase}
 use Rattle.visibility_steps.specs.declared.Phase.the-variants as at
 use Rattle.visibility_steps.specs.declared.Step.{Step}
 use Rattle.change_steps.specs.declared.Stage.{Stage}
@@ -53,11 +53,12 @@ use Rattle.history.specs.Marks.{Has}
 use Rattle.history.specs.Call.{Writer, Visibility, Protection, Default, Register, Unregister, Lock, Unlock, Enable, Call, Write, Read, Answer, givesWriter, gives}
 use Rattle.history.specs.Tables.{TablesFit}
 use Rattle.history.specs.Permitted.{Inside, OnRam, isPages, isListing, Permitted}
-use Rattle.history.proofs.Fits.{pages-long}
+use Rattle.call_refusals.proofs.Laws.{fits-pages}
 use Rattle.history.proofs.Bits.{among-own}
 use Rattle.history.proofs.Start.{first-all, ram-page}
-use Rattle.history.proofs.Calls.{not-true, taken, in-ram}
-use Rattle.history.proofs.Strays.{answer-whole, protection-whole}
+use Rattle.history.proofs.Calls.{taken, in-ram}
+use Rattle.history.proofs.Passed.{passed-in, whole}
+use Rattle.history.proofs.Strays.{answer-whole}
 use Rattle.history.proofs.Deciding.{decides, either}
 use Rattle.history.proofs.Entries.{overlays-entry, overlays-own}
 use Rattle.history.proofs.Tabled.{fresh-page}
@@ -175,14 +176,11 @@ module _ (es : List MemoryRangeWithNode) where
     listed-each : (length l ≤ 4096) × (eachRefusal (w .state) (w .tables) (vtlOf vtl) l ≡ 0)
     unfolding protectionRefusal
     listed-each =
-        let a = passed (eqb (length (w .state)) stateLen) 3 _ z in
-        let b = first-passed (statusIn (w .state)) _ (a .1) in
-        let c = passed (fits w) 3 _ (b .1) in
-        let d = passed (not (isLong l)) 4 _ (c .1) in
+        let d = when-passed (isLong l) 4 _ (is-ready (w .state) (fits w) _ z .goes) in
         let e = passed (fitVtl vtl) 7 _ (d .1) in
         let f = passed (fitFlags flags) 7 _ (e .1) in
-        let g = passed (not (isRagged l)) 7 _ (f .1) in
-        (ltb-false 4096 (length l) (not-true (isLong l) (d .0)), first-passed (eachRefusal (w .state) (w .tables) (vtlOf vtl) l) _ (g .1) .0)
+        let g = when-passed (isRagged l) 7 _ (f .1) in
+        (ltb-false 4096 (length l) (d .0), first-passed (eachRefusal (w .state) (w .tables) (vtlOf vtl) l) _ (g .1) .0)
 
     listed-ram : OnRam es (length (pagesOf l)) (allListed l (w .pages))
     listed-ram j h d =
@@ -213,7 +211,7 @@ module _ (es : List MemoryRangeWithNode) where
       unfolding answerRefusal
       takes-it =
           let a = passed (eqb (length (w .state)) stateLen) 3 _ z in
-          let b = passed (not (eqb (statusIn (w .state)) refusal.halted)) 19 _ (a .1) in
+          let b = when-passed (eqb (statusIn (w .state)) refusal.halted) 19 _ (a .1) in
           let c = passed (fits w) 3 _ (b .1) in
           passed (takesIn (w .state) failed) 20 _ (c .1) .0
 
@@ -221,7 +219,7 @@ module _ (es : List MemoryRangeWithNode) where
       takes-change c e = ap (λ (b : Bool). cond b (takesAt (stageIn (w .state)) failed) (takes (phaseIn (w .state)) failed)) (sym e) ∙ takes-it
 
       long : requestOf (w .state) .n ≤ length (w .pages)
-      long = omega (arith, pages-long w (answer-whole w failed z .fit))
+      long = omega (arith, fits-pages w (answer-whole w failed z .fit))
 
       visible : isChanging (w .state) ≡ false → OnRam es (requestOf (w .state) .n) (w .pages)
       visible e = p .listed (ap (λ (b : Bool). cond b (isPages (stageIn (w .state))) (eqb (statusOf (phaseIn (w .state))) refusal.busy)) e ∙ phase-waits (phaseIn (w .state)) failed (takes-change false e))
@@ -250,7 +248,7 @@ module _ (es : List MemoryRangeWithNode) where
     protection-permits vtl flags l =
         decides (Permitted es) w (protectionRefusal (w .state) (fits w) (w .maps .shared) (w .tables) vtl flags l) _ p
         (λ z. let few : length (pagesOf l) ≤ 512 = pages-few l (listed-each w (k .first .layout) vtl flags l z .0) in
-        let q : length (w .pages) ≡ 1024 = pages-long w (protection-whole w vtl flags l z .fit) in
+        let q : length (w .pages) ≡ 1024 = fits-pages w (whole w (passed-in (Protection vtl flags l) w z) .fit) in
         let long : length (allListed l (w .pages)) ≡ 1024 = length-table (λ p. true) (pagesOf l) (w .pages) q few in
         change-permits w (allListed l (w .pages)) _ (p .inside)
         (safe-pages es (allListed l (w .pages)) (settingsOf (w .state) .tracked) (changeOf (vtlOf vtl) flags (length (pagesOf l))) 0 (omega (arith, few, long)) (listed-ram w (k .first .layout) vtl flags l z)))

@@ -8,21 +8,18 @@ use lib.ListN.{length}
 use lib.Dec.{eqb}
 use borrow.Author.Tests.{ne-eqb}
 use Rattle.abi.specs.Refusals as refusal
-use Rattle.laws.specs.Refusal.{unless, passed, first-passed}
 use Rattle.layout.specs.Layout.{entriesOf, mapLen}
 use Rattle.permissions.specs.Flags.{vtlOf, boolOf}
 use Rattle.page_list.specs.Pages.{pagesOf}
 use Rattle.protector_state.specs.declared.Reply.{Reply}
-use Rattle.protector_state.specs.State.{stateLen}
 use Rattle.protector_state.specs.Changing.{isChanging}
-use Rattle.call_refusals.specs.World.{World, world, Outcome, fits, statusIn}
+use Rattle.call_refusals.specs.World.{World, world, Outcome, fits, statusIn, lengthsIn}
 use Rattle.protector.specs.Calls.{refusedBy, decided, buildTaken, buildOf, visibilityTaken, visibilityOf, visibilityDone, visibilityFailed, changeDone, changeFailed, answerDone, answerFailed}
-use Rattle.call_refusals.specs.Refusals.{buildFits, buildRefusal, visibilityRefusal, answerRefusal}
-use Rattle.protection_entries.specs.Calls.{protectionRefusal, protectionTaken, protectionOf, defaultRefusal, stored, defaultTaken, defaultOf}
-use Rattle.overlay_refusals.specs.Refusals.{registerRefusal, unregisterRefusal}
-use Rattle.overlay_entries.specs.Calls.{currentIn, registerTaken, registerOf, unregisterTaken, unregisterOf}
+use Rattle.call_refusals.specs.Refusals.{buildFits, buildRefusal, answerRefusal}
+use Rattle.protection_entries.specs.Calls.{protectionTaken, protectionOf, stored, defaultTaken, defaultOf}
+use Rattle.overlay_entries.specs.Calls.{registerTaken, registerOf, unregisterTaken, unregisterOf}
 use Rattle.lock_entries.specs.Calls.{ended, lockRefusal, lockTaken, lockOf, unlockTaken, unlockOf}
-use Rattle.setting_entries.specs.Calls.{stateRefusal, enableRefusal, enableOf}
+use Rattle.setting_entries.specs.Calls.{enableRefusal, enableOf}
 use Rattle.visibility_claims.specs.Whole.{Given, Succeeds, Fails}
 use Rattle.visibility_claims.specs.Calls.{answerOf}
 use Rattle.visibility_claims.specs.Ends.{underWay}
@@ -31,20 +28,8 @@ use Rattle.history.specs.Call.{Writer, Visibility, Protection, Default, 
 use Rattle.history.specs.History.{Stray, StrayWriter, Wrong, IsRefusal}
 use Rattle.history.specs.Answered.{given}
 use Rattle.history.proofs.Bits.{clash}
-use Rattle.history.proofs.Others.{protection-idle, default-idle, call-idle}
-use Rattle.history.proofs.Strays.{not-whole, visibility-whole, protection-whole, default-whole, register-whole, unregister-whole, answer-whole, lock-refused, enable-refused, untaken-seen, answer-stray}
-
--- ---- the number that a call is refused by
-
-abbrev pub refusalIn : Writer → World → ℕ
-refusalIn (Visibility vtl share list) x = visibilityRefusal (x .state) (fits x) (x .tables) vtl share list
-refusalIn (Protection vtl flags list) x = protectionRefusal (x .state) (fits x) (x .maps .shared) (x .tables) vtl flags list
-refusalIn (Default vtl flags) x = defaultRefusal (x .state) (fits x) vtl flags
-refusalIn (Register vtl page source checked new) x = registerRefusal (x .state) (fits x) (x .maps .shared) (x .tables) (currentIn x (vtlOf vtl) page source) vtl page source checked new
-refusalIn (Unregister vtl page) x = unregisterRefusal (x .state) (fits x) (x .tables) vtl page
-refusalIn (Lock vtl list) x = lockRefusal (x .state) (length (x .tables)) vtl list
-refusalIn (Unlock vtl list) x = lockRefusal (x .state) (length (x .tables)) vtl list
-refusalIn Enable x = enableRefusal (x .state)
+use Rattle.history.proofs.Passed.{refusalIn, lentFits, Passed, passed-in, whole}
+use Rattle.history.proofs.Strays.{not-whole, not-lent, answer-whole, untaken-seen, answer-stray}
 
 -- nothing comes of it: it leaves what it was lent, and nothing is seen
 pub record NoEffect (x : World) (X : Effect Reply) (view : Reply → List ℕ → Seen → Seen) : Type 0 where
@@ -76,14 +61,17 @@ barred-no-effect Enable x f = record { keeps = rw (ne-eqb (enableRefusal (x .sta
 -- ---- something of another length bars it
 
 stray-barred : (a : Writer) (u x : World) → StrayWriter a u x → refusalIn a x ≡ 0 → ⊥
-stray-barred (Visibility vtl share list) u x s z = not-whole u x s (visibility-whole x vtl share list z)
-stray-barred (Protection vtl flags list) u x s z = not-whole u x s (protection-whole x vtl flags list z)
-stray-barred (Default vtl flags) u x s z = not-whole u x s (default-whole x vtl flags z)
-stray-barred (Register vtl page source checked new) u x s z = not-whole u x s (register-whole x vtl page source checked new z)
-stray-barred (Unregister vtl page) u x s z = not-whole u x s (unregister-whole x vtl page z)
-stray-barred (Lock vtl list) u x s z = lock-refused u x vtl list s z
-stray-barred (Unlock vtl list) u x s z = lock-refused u x vtl list s z
-stray-barred Enable u x s z = enable-refused (x .state) s z
+stray-barred a u x s z = go a s (passed-in a x z)
+  where
+    go : (a : Writer) → StrayWriter a u x → Passed x (lentFits a x) → ⊥
+    go (Visibility vtl share list) s k = not-whole u x s (whole x k)
+    go (Protection vtl flags list) s k = not-whole u x s (whole x k)
+    go (Default vtl flags) s k = not-whole u x s (whole x k)
+    go (Register vtl page source checked new) s k = not-whole u x s (whole x k)
+    go (Unregister vtl page) s k = not-whole u x s (whole x k)
+    go (Lock vtl list) s k = not-lent u x s k
+    go (Unlock vtl list) s k = not-lent u x s k
+    go Enable s k = s (k .long)
 
 -- an answer too writes nothing then, and isn't taken
 module _ (u x : World) (s : Stray u x) where
@@ -118,19 +106,8 @@ stray-unseen (Answer g) u x o halts s = answer-unseen u x s o halts g
 busy : (n : ℕ) → eqb n refusal.busy ≡ true → n ≡ 0 → ⊥
 busy n e z = clash (eqb n refusal.busy) e (ap (λ n. eqb n refusal.busy) z)
 
-idle : (s : List ℕ) (rest : ℕ) → unless (eqb (length s) stateLen) refusal.wrongLength (unless (eqb (statusIn s) 0) (statusIn s) rest) ≡ 0 → statusIn s ≡ 0
-idle s rest z = first-passed (statusIn s) _ (passed (eqb (length s) stateLen) 3 _ z .1) .0
-
 busy-barred : (a : Writer) (x : World) → underWay x ≡ true → refusalIn a x ≡ 0 → ⊥
-unfolding visibilityRefusal registerRefusal unregisterRefusal lockRefusal enableRefusal stateRefusal
-busy-barred (Visibility vtl share list) x b z = busy _ b (idle (x .state) _ z)
-busy-barred (Protection vtl flags list) x b z = busy _ b (protection-idle x vtl flags list z)
-busy-barred (Default vtl flags) x b z = busy _ b (default-idle x vtl flags z)
-busy-barred (Register vtl page source checked new) x b z = busy _ b (call-idle x vtl _ z)
-busy-barred (Unregister vtl page) x b z = busy _ b (call-idle x vtl _ z)
-busy-barred (Lock vtl list) x b z = busy _ b (idle (x .state) _ z)
-busy-barred (Unlock vtl list) x b z = busy _ b (idle (x .state) _ z)
-busy-barred Enable x b z = busy _ b (passed (eqb (length (x .state)) stateLen) 3 _ (first-passed _ _ z .0) .1)
+busy-barred a x b z = busy _ b (passed-in a x z .idle)
 
 pub busy-no-effect : (a : Writer) (x : World) → underWay x ≡ true → NoEffect x (givesWriter a x) (seesWriter a)
 busy-no-effect a x b = barred-no-effect a x (busy-barred a x b)
@@ -142,7 +119,7 @@ unfolding buildOf buildTaken
 build-keeps x y ram i t l r e f = go (eqb n 0) e
   where
     n : ℕ
-    n = buildRefusal ram i t l (buildFits (mapLen (entriesOf ram)) t x)
+    n = buildRefusal ram i t l (buildFits (mapLen (entriesOf ram)) t (length (x .state)) (lengthsIn x))
 
     go : (b : Bool) → given y r ≡ cond b (buildTaken x ram i t l) (refusedBy x n) → y ≡ x
     go true e = absurd (f (ap (λ (X : Outcome). X .reply .number) e))

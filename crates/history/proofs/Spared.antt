@@ -1,15 +1,14 @@
 -- What each call that may write spares of what it is lent. Assumes nothing.
 use Prim.Native.Nat.{ℕ, _+_, _-_}
-use mathlib.Core.Path.{_≡_, refl, ap}
+use mathlib.Core.Path.{_≡_, refl}
 use mathlib.Core.List.{List}
 use mathlib.Core.Bool.{Bool, true, false, cond}
 use lib.Dec.{eqb, ltb}
 use Rattle.permissions.specs.declared.GuestVtl.{GuestVtl}
 use Rattle.permissions.specs.Flags.{vtlOf, boolOf, bitsOf}
 use Rattle.overlay_table.specs.Overlays.{isOverlay}
-use Rattle.change_steps.specs.declared.Change.{Change}
 use Rattle.change_steps.specs.declared.ChangeStep.{ChangeStep}
-use Rattle.change_steps.specs.Changes.{protect, startNew, startOld}
+use Rattle.change_steps.specs.Changes.{startNew, startOld}
 use Rattle.protector_state.specs.State.{settingsOf}
 use Rattle.call_refusals.specs.World.{World, world, Outcome, overlaysOf, fits}
 use Rattle.protector.specs.Calls.{refusedBy, carriedOut, carriedChange, visibilityTaken, visibilityOf}

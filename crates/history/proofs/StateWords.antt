@@ -3,10 +3,8 @@ use mathlib.Core.Path.{_≡_}
 use mathlib.Core.Bool.{true, false}
 use mathlib.Core.List.{List}
 use Prim.Native.Nat.{ℕ, _+_, _-_, _<_}
-use lib.Dec.{eqb, ltb}
+use lib.Dec.{ltb}
 use lib.ListN.{length, set}
-use borrow.Author.Tests.{eqb-true}
-use Rattle.laws.specs.Refusal.{passed}
 use Rattle.permissions.specs.declared.GuestVtl.{GuestVtl}
 use Rattle.permissions.specs.Flags.{vtlOf}
 use Rattle.overlay_table.specs.Overlays.{isOverlay}
@@ -28,6 +26,7 @@ use Rattle.visibility_claims.specs.Whole.{Given, Succeeds, Fails}
 use Rattle.visibility_claims.specs.Calls.{answerOf}
 use Rattle.history.specs.Seen.{Seen}
 use Rattle.history.specs.Call.{Writer, Visibility, Protection, Default, Register, Unregister, Lock, Unlock, Enable, Call, Write, Read, Answer, givesWriter, gives}
+use Rattle.history.proofs.Passed.{passed-in}
 use Rattle.history.proofs.Deciding.{decides, either}
 use Rattle.history.proofs.Frame.{setter-frame}
 use Rattle.history.proofs.Histories.{InWorld, KeepsWith}
@@ -56,10 +55,6 @@ module _ (K : List ℕ → Type 0) (f : Words K) where
   default-set w v flags k =
       either S (barred (w .maps .private) (w .state) (w .tables) v) (refusedBy w 10) (defaultStarted (renewedIn w v flags) v flags) k (carried (renewedIn w v flags) (w .pages) _ k)
 
-  long-passed : (w : World) (vtl flags : ℕ) → defaultRefusal (w .state) (fits w) vtl flags ≡ 0 → length (w .state) ≡ stateLen
-  unfolding defaultRefusal
-  long-passed w vtl flags z = eqb-true _ _ (passed (eqb (length (w .state)) stateLen) 3 _ z .0)
-
   module _ (w : World) (k : S w) where
     set-writer : (a : Writer) → S (givesWriter a w .world)
     unfolding visibilityOf visibilityTaken protectionOf protectionTaken defaultOf registerOf registerTaken unregisterOf unregisterTaken
@@ -67,7 +62,7 @@ module _ (K : List ℕ → Type 0) (f : Words K) where
     set-writer (Protection vtl flags list) = decides S w (protectionRefusal (w .state) (fits w) (w .maps .shared) (w .tables) vtl flags list) _ k (λ _. carried w _ _ k)
     set-writer (Default vtl flags) =
         decides S w (defaultRefusal (w .state) (fits w) vtl flags) _ k
-        (λ z. default-set (stored w (vtlOf vtl) flags) (vtlOf vtl) flags (f .defaulted (w .state) (vtlOf vtl) flags (flags-fit w vtl flags z) (long-passed w vtl flags z) k))
+        (λ z. default-set (stored w (vtlOf vtl) flags) (vtlOf vtl) flags (f .defaulted (w .state) (vtlOf vtl) flags (flags-fit w vtl flags z) (passed-in (Default vtl flags) w z .long) k))
     set-writer (Register vtl page source checked new) =
         decides S w (registerRefusal (w .state) (fits w) (w .maps .shared) (w .tables) (currentIn w (vtlOf vtl) page source) vtl page source checked new) _ k
         (λ _. either S (isOverlay (overlaysOf (w .tables) (vtlOf vtl)) page) (counting w (vtlOf vtl) page (entryIn (w .tables) (vtlOf vtl) page .«ref_count» + 1)) _ k (carried w (w .pages) _ k))

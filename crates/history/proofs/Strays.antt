@@ -2,73 +2,37 @@
 use Prim.Native.Nat.{ℕ}
 use mathlib.Core.Path.{_≡_, refl, sym, ap, _∙_, subst}
 use mathlib.Core.List.{List}
-use mathlib.Core.Bool.{Bool, true, false, cond, not}
+use mathlib.Core.Bool.{Bool, true, false, cond}
 use lib.ListN.{length}
 use lib.Dec.{eqb}
 use borrow.Author.Tests.{eqb-true, ne-eqb}
 use Rattle.abi.specs.Refusals as refusal
-use Rattle.laws.specs.Refusal.{unless, passed, first-passed}
-use Rattle.permissions.specs.Flags.{vtlOf}
+use Rattle.laws.specs.Refusal.{passed, when-passed}
 use Rattle.protector_state.specs.State.{stateLen}
 use Rattle.call_refusals.specs.World.{World, Outcome, tablesLen, fits, statusIn, takesIn}
 use Rattle.protector.specs.Calls.{refusedBy, decided}
-use Rattle.call_refusals.specs.Refusals.{visibilityRefusal, answerRefusal}
-use Rattle.protection_entries.specs.Calls.{defaultRefusal, protectionRefusal}
-use Rattle.overlay_refusals.specs.Refusals.{callRefusal, registerRefusal, unregisterRefusal}
-use Rattle.overlay_entries.specs.Calls.{currentIn}
-use Rattle.lock_entries.specs.Calls.{lockRefusal}
-use Rattle.setting_entries.specs.Calls.{stateRefusal, enableRefusal}
+use Rattle.call_refusals.specs.Refusals.{answerRefusal}
 use Rattle.visibility_claims.specs.Whole.{Given}
 use Rattle.history.specs.Seen.{Seen, isTaken, seesTaken, seesAnswer}
 use Rattle.history.specs.History.{Stray, block, other, StrayLock, lockBlock, lockTables}
+use Rattle.history.proofs.Passed.{Passed, Whole}
 use Rattle.history.proofs.Bits.{clash}
 use Rattle.history.proofs.Answers.{chain, counts, chain-untaken}
 
--- a state block of its length, and all else as it should be
-pub record Whole (x : World) : Type 0 where
-  pub long : length (x .state) ≡ stateLen
-  pub fit : fits x ≡ true
-
+-- nothing is of another length where the state block is whole and what else is lent fits
 pub not-whole : (u x : World) → Stray u x → Whole x → ⊥
 not-whole u x (block f) k = f (k .long)
 not-whole u x (other e f) k = clash (fits x) (k .fit) f
 
-begins : (x : World) (rest : ℕ) → unless (eqb (length (x .state)) stateLen) refusal.wrongLength (unless (eqb (statusIn (x .state)) 0) (statusIn (x .state)) (unless (fits x) refusal.wrongLength rest)) ≡ 0 → Whole x
-begins x rest z =
-    let a = passed (eqb (length (x .state)) stateLen) 3 _ z in
-    let b = first-passed (statusIn (x .state)) _ (a .1) in
-    record { long = eqb-true _ _ (a .0); fit = passed (fits x) 3 _ (b .1) .0 }
-
-pub visibility-whole : (x : World) (vtl visibility : ℕ) (l : List ℕ) → visibilityRefusal (x .state) (fits x) (x .tables) vtl visibility l ≡ 0 → Whole x
-unfolding visibilityRefusal
-visibility-whole x vtl visibility l z = begins x _ z
-
-pub protection-whole : (x : World) (vtl flags : ℕ) (l : List ℕ) → protectionRefusal (x .state) (fits x) (x .maps .shared) (x .tables) vtl flags l ≡ 0 → Whole x
-unfolding protectionRefusal
-protection-whole x vtl flags l z = begins x _ z
-
-pub default-whole : (x : World) (vtl flags : ℕ) → defaultRefusal (x .state) (fits x) vtl flags ≡ 0 → Whole x
-unfolding defaultRefusal
-default-whole x vtl flags z = begins x _ z
-
-call-whole : (x : World) (vtl rest : ℕ) → callRefusal (x .state) (fits x) vtl rest ≡ 0 → Whole x
-unfolding callRefusal
-call-whole x vtl rest z = begins x _ z
-
-pub register-whole : (x : World) (vtl p source checked new : ℕ)
-    → registerRefusal (x .state) (fits x) (x .maps .shared) (x .tables) (currentIn x (vtlOf vtl) p source) vtl p source checked new ≡ 0 → Whole x
-unfolding registerRefusal
-register-whole x vtl p source checked new z = call-whole x vtl _ z
-
-pub unregister-whole : (x : World) (vtl p : ℕ) → unregisterRefusal (x .state) (fits x) (x .tables) vtl p ≡ 0 → Whole x
-unfolding unregisterRefusal
-unregister-whole x vtl p z = call-whole x vtl _ z
+pub not-lent : (u x : World) → StrayLock u x → Passed x (eqb (length (x .tables)) tablesLen) → ⊥
+not-lent u x (lockBlock f) k = f (k .long)
+not-lent u x (lockTables _ f) k = f (eqb-true _ _ (k .fits))
 
 pub answer-whole : (x : World) (failed : Bool) → answerRefusal (x .state) (fits x) failed ≡ 0 → Whole x
 unfolding answerRefusal
 answer-whole x failed z =
     let a = passed (eqb (length (x .state)) stateLen) 3 _ z in
-    let b = passed (not (eqb (statusIn (x .state)) refusal.halted)) 19 _ (a .1) in
+    let b = when-passed (eqb (statusIn (x .state)) refusal.halted) 19 _ (a .1) in
     record { long = eqb-true _ _ (a .0); fit = passed (fits x) 3 _ (b .1) .0 }
 
 -- an answer refused so
@@ -116,21 +80,3 @@ module _ (u x : World) (o : Seen) (halts : o .halted ≡ eqb (statusIn (u .state
   answer-stray K g k =
       subst (λ (X : Outcome). K (seesAnswer g (X .reply) (X .world .pages) o)) (sym refused-answer)
       (subst (λ (b : Bool). K (cond b (seesTaken g (refusedBy x (chain A H (fits x) D) .reply) (x .pages) o) o)) (sym (untaken s)) k)
-
--- ---- locks and the setter, the same
-
-pub lock-refused : (u x : World) (vtl : ℕ) (l : List ℕ) → StrayLock u x → lockRefusal (x .state) (length (x .tables)) vtl l ≡ 0 → ⊥
-unfolding lockRefusal
-lock-refused u x vtl l s z =
-    let a = passed (eqb (length (x .state)) stateLen) 3 _ z in
-    let b = first-passed (statusIn (x .state)) _ (a .1) in
-    let c = passed (eqb (length (x .tables)) tablesLen) 3 _ (b .1) in
-    go s (eqb-true _ _ (a .0)) (eqb-true _ _ (c .0))
-  where
-    go : StrayLock u x → length (x .state) ≡ stateLen → length (x .tables) ≡ tablesLen → ⊥
-    go (lockBlock f) d e = f d
-    go (lockTables _ f) d e = f e
-
-pub enable-refused : (s : List ℕ) → (length s ≡ stateLen → ⊥) → enableRefusal s ≡ 0 → ⊥
-unfolding enableRefusal stateRefusal
-enable-refused s f z = f (eqb-true _ _ (passed (eqb (length s) stateLen) 3 _ (first-passed _ _ z .0) .0))

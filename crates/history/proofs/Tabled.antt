@@ -8,7 +8,8 @@ use lib.Dec.{eqb, ltb}
 use lib.ListN.{length, set}
 use borrow.Author.Tests.{eqb-true, eqb-false, eq-eqb, ne-eqb, ltb-true, ltb-false}
 use Rattle.laws.specs.Bools.{digit-le}
-use Rattle.laws.specs.Refusal.{passed, first-passed}
+use Rattle.laws.specs.Refusal.{passed, when-passed}
+use Rattle.call_refusals.proofs.Laws.{is-ready}
 use Rattle.bitmap.specs.Pages.{bitAt}
 use Rattle.layout.specs.declared.MemoryRangeWithNode.{MemoryRangeWithNode}
 use Rattle.layout.specs.Layout.{isRam}
@@ -22,7 +23,7 @@ use Rattle.overlay_table.specs.Overlays.{used, isOverlay, placeOf, entryAt, add
 use Rattle.visibility_steps.specs.declared.Step.{Step}
 use Rattle.change_steps.specs.declared.ChangeStep.{ChangeStep}
 use Rattle.change_steps.specs.Changes.{changeOf, startNew, startOld}
-use Rattle.protector_state.specs.State.{stateLen, settingsOf, entriesIn}
+use Rattle.protector_state.specs.State.{settingsOf, entriesIn}
 use Rattle.protector_state.specs.Changing.{stageIn, isChanging, changeIn}
 use Rattle.call_refusals.specs.World.{World, world, Outcome, overlaysOf, locksOf, isLocked, fits, statusIn}
 use Rattle.protector.specs.Calls.{refusedBy, carriedOut, carriedChange, visibilityTaken, visibilityOf, nextIn, afterDone, afterFailed, visibilityDone, visibilityFailed, changeDone, changeFailed, answerDone, answerFailed}
@@ -40,7 +41,6 @@ use Rattle.history.proofs.World.{Stands}
 use Rattle.history.proofs.Frame.{setter-frame}
 use Rattle.history.proofs.Histories.{KeepsWith, InWorld}
 use Rattle.history.proofs.Locked.{lock-tables, unlock-tables}
-use Rattle.history.proofs.Calls.{not-true}
 use Rattle.history.proofs.Deciding.{decides, either}
 use Rattle.history.proofs.Entries.{overlays-entry, overlays-counted, overlays-renewed}
 use Rattle.history.proofs.Tables.{put, pending-written, pending-request, pending-idle, pending-same, pending-set, Sound, sound-pages, sound-ram, sound-done, sound-failed, sound-new, sound-old}
@@ -77,15 +77,15 @@ module _ (es : List MemoryRangeWithNode) (shared o locks : List ℕ) (p source :
 
       go : (b : Bool) → boolOf source ≡ b → cond b D G ≡ 0 → Fresh es o p source
       go true e z =
-          let a = passed (not (isRam es p)) 6 _ z in
-          let b = passed (not (isLocked o locks p)) 9 _ (a .1) in
+          let a = when-passed (isRam es p) 6 _ z in
+          let b = when-passed (isLocked o locks p) 9 _ (a .1) in
           let one : source ≡ 1 = eqb-true source 1 e in
-          record { page = not-true (isRam es p) (a .0) ∙ sym (ne-eqb source 0 (λ d. omega (arith, one, d))); room = room-left (b .1) }
+          record { page = a .0 ∙ sym (ne-eqb source 0 (λ d. omega (arith, one, d))); room = room-left (b .1) }
       go false e z =
           let a = passed (isRam es p) 6 _ z in
           let b = passed (within current (flagsOf checked)) 12 _ (a .1) in
-          let c = passed (not (bitAt 8 shared p)) 11 _ (b .1) in
-          let d = passed (not (isLocked o locks p)) 9 _ (c .1) in
+          let c = when-passed (bitAt 8 shared p) 11 _ (b .1) in
+          let d = when-passed (isLocked o locks p) 9 _ (c .1) in
           let none : source ≡ 1 → ⊥ = eqb-false source 1 e in
           record { page = a .0 ∙ sym (eq-eqb source 0 (least source two none)); room = room-left (d .1) }
 
@@ -102,10 +102,7 @@ bits-few f = omega (arith, digit-le (f .readable), digit-le (f .writable), digit
 pub flags-fit : (w : World) (vtl flags : ℕ) → defaultRefusal (w .state) (fits w) vtl flags ≡ 0 → flags < 16
 unfolding defaultRefusal
 flags-fit w vtl flags z =
-    let a = passed (eqb (length (w .state)) stateLen) 3 _ z in
-    let b = first-passed (statusIn (w .state)) _ (a .1) in
-    let c = passed (fits w) 3 _ (b .1) in
-    let d = passed (fitVtl vtl) 7 _ (c .1) in
+    let d = passed (fitVtl vtl) 7 _ (is-ready (w .state) (fits w) _ z .goes) in
     ltb-true flags 16 (passed (fitFlags flags) 7 _ (d .1) .0)
 
 -- ---- the calls
@@ -165,7 +162,7 @@ module _ (es : List MemoryRangeWithNode) where
     unfolding unregisterOf unregisterTaken unregisterRefusal
     unregister-tabled vtl p =
         decides (TablesFit es) w (unregisterRefusal (w .state) (fits w) (w .tables) vtl p) (unregisterTaken w v p) k
-        (λ z. let c = call-passed (w .state) (fits w) vtl _ z in go (eqb-true _ 0 (c .1)) (passed (isOverlay (overlaysOf (w .tables) v) p) 13 _ (c .4) .0) (ltb 1 (e .«ref_count»)) refl)
+        (λ z. let c = call-passed (w .state) (fits w) vtl _ z in go (c .1) (passed (isOverlay (overlaysOf (w .tables) v) p) 13 _ (c .4) .0) (ltb 1 (e .«ref_count»)) refl)
       where
         v : GuestVtl
         v = vtlOf vtl
@@ -192,7 +189,7 @@ module _ (es : List MemoryRangeWithNode) where
         decides (TablesFit es) w (registerRefusal (w .state) (fits w) (w .maps .shared) (w .tables) (currentIn w v p source) vtl p source checked new) (registerTaken w v p source new) k
         (λ z. let c = call-passed (w .state) (fits w) vtl _ z in
         let f = flags-passed source checked new _ (c .4) in
-        go (eqb-true _ 0 (c .1)) (ltb-true source 2 (f .0)) (f .3) (isOverlay o p) refl)
+        go (c .1) (ltb-true source 2 (f .0)) (f .3) (isOverlay o p) refl)
       where
         v : GuestVtl
         v = vtlOf vtl

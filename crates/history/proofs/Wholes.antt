@@ -5,7 +5,7 @@ use mathlib.Core.Path.{_≡_, refl, sym, _∙_}
 use mathlib.Core.List.{List}
 use mathlib.Core.Bool.{Bool, true, false, cond}
 use lib.Dec.{eqb, ltb}
-use lib.ListN.{length, take, set, length-set, length-take}
+use lib.ListN.{length, take, length-set, length-take}
 use Rattle.permissions.specs.declared.GuestVtl.{GuestVtl}
 use Rattle.permissions.specs.declared.GuestVtl.the-variants.{Vtl0, Vtl1}
 use Rattle.permissions.specs.Flags.{vtlNumber, vtlOf, boolOf}
@@ -27,10 +27,10 @@ use Rattle.overlay_entries.specs.Calls.{currentIn, entryIn, counting, registerT
 use Rattle.lock_entries.specs.Calls.{ended, lockRefusal, lockTaken, lockOf, unlockTaken, unlockOf}
 use Rattle.visibility_claims.specs.Whole.{Given, Succeeds, Fails}
 use Rattle.visibility_claims.specs.Calls.{answerOf}
-use Rattle.history.proofs.Fits.{pages-long}
+use Rattle.call_refusals.proofs.Laws.{fits-pages}
 use Rattle.history.proofs.Calls.{taken}
 use Rattle.history.proofs.Deciding.{decides, either}
-use Rattle.history.proofs.Strays.{Whole}
+use Rattle.history.proofs.Passed.{Whole}
 use Rattle.history.proofs.Lengths.{step-whole, change-whole, tables-whole, set-whole, replaced-long, renewed-long, lock-long, unlock-long}
 
 module _ (w : World) (k : Whole w) where
@@ -39,7 +39,7 @@ module _ (w : World) (k : Whole w) where
   visibility-long vtl share l =
       let v : GuestVtl = vtlOf vtl in
       let b : Bool = boolOf share in
-      let p = pages-long w (k .fit) in
+      let p = fits-pages w (k .fit) in
       decides Whole w (visibilityRefusal (w .state) (fits w) (w .tables) vtl share l) (visibilityTaken w v b l) k
       (λ z. step-whole w (tableFor w v b l) _ (length-table (wanted (w .maps .shared) b) (take (stopOf w v b l) (pagesOf l)) (w .pages) p (omega (arith, length-take (stopOf w v b l) (pagesOf l), pages-few l (taken w vtl share l z .short))) ∙ sym p) k)
 
@@ -53,7 +53,7 @@ module _ (w : World) (k : Whole w) where
   pub protection-long : (vtl flags : ℕ) (l : List ℕ) → Whole (protectionOf w vtl flags l .world)
   unfolding protectionOf protectionTaken
   protection-long vtl flags l =
-      let p = pages-long w (k .fit) in
+      let p = fits-pages w (k .fit) in
       decides Whole w (protectionRefusal (w .state) (fits w) (w .maps .shared) (w .tables) vtl flags l) (protectionTaken w (vtlOf vtl) flags l) k
       (λ z. change-whole w (allListed l (w .pages)) _ (length-table (λ p. true) (pagesOf l) (w .pages) p (pages-few l (protection-passed w vtl flags l _ refl z .2)) ∙ sym p) k)
 

@@ -9,14 +9,13 @@ use lib.ListN.{length, take, drop, length-take, length-drop}
 use lib.Seq.{getD-drop, drop-drop, length-take-le}
 use borrow.Author.Tests.{eqb-true, eq-eqb, ne-eqb, le-ltb, ltb-false}
 use Rattle.permissions.proofs.Laws.{vtl-number}
-use Rattle.laws.specs.Bools.{false≢true, digit, and-left, and-right}
-use Rattle.laws.specs.Refusal.{unless, passed, first-passed}
+use Rattle.laws.specs.Bools.{false≢true, digit}
+use Rattle.laws.specs.Refusal.{unless, when, first, when-passed, first-passed}
 use Rattle.bitmap.proofs.Map.{length-written}
 use Rattle.permissions.specs.declared.GuestVtl.{GuestVtl}
 use Rattle.permissions.specs.declared.IsolationType.{IsolationType}
 use Rattle.permissions.specs.Flags.{fitVtl, vtlOf, fitBool, boolOf}
-use Rattle.layout.specs.Layout.{mapLen}
-use Rattle.mapping.specs.Maps.{Maps, Permissions, marksFit, permissionLen, permissionsFit}
+use Rattle.mapping.specs.Maps.{Maps}
 use Rattle.page_list.specs.declared.PageRun.{PageRun}
 use Rattle.page_list.specs.Pages.{pagesOf, isLong, repeats, isRagged}
 use Rattle.request_pages.specs.Request.{pickPlaces, put, wanted}
@@ -39,7 +38,8 @@ use Rattle.protector_state.specs.Changing.{stageIn, isChanging}
 use Rattle.call_refusals.specs.World.{World, world, Outcome, outcome, fits, statusOf, statusIn, takes, takesAt, takesIn}
 use Rattle.protector.specs.Writes.{applied}
 use Rattle.protector.specs.Calls.{refusedBy, decided, carriedOut, stopOf, askedFor, tableFor, visibilityTaken, visibilityOf, answerDone, answerFailed}
-use Rattle.call_refusals.specs.Refusals.{visibilityRefusal, answerRefusal}
+use Rattle.call_refusals.specs.Refusals.{ready, visibilityRefusal, answerRefusal}
+use Rattle.call_refusals.proofs.Laws.{is-ready, fits-pages, untaken-refused}
 use Rattle.visibility_claims.specs.Whole.{Operation, Given, Succeeds, Fails, Stand, Denied, stands, wholeShare, wholeReturn}
 use Rattle.visibility_claims.specs.Requested.{denial, requestedOf, storedIn}
 use Rattle.visibility_claims.specs.Runs.{Ran, named, askedBy, lastOf, before, run, whole}
@@ -241,11 +241,11 @@ replies-more i (x ∷ xs) ys = ap (λ (l : List Reply). askedOf i (crossing x) �
 
 -- ---- whether an answer is taken, where what is lent fits
 
-taken-21 : (y : Bool) → eqb (unless y 21 0) 0 ≡ y
+pub taken-21 : (y : Bool) → eqb (unless y 21 0) 0 ≡ y
 taken-21 true = refl
 taken-21 false = refl
 
-taken-at : (p : Phase) (b : Bool) → eqb (unless (not (eqb (statusOf p) 20)) 20 (unless (takes p b) 21 0)) 0 ≡ takes p b
+taken-at : (p : Phase) (b : Bool) → eqb (when (eqb (statusOf p) 20) 20 (unless (takes p b) 21 0)) 0 ≡ takes p b
 taken-at at.Idle b = refl
 taken-at at.Halted b = refl
 taken-at at.Wait b = taken-21 (not b)
@@ -378,52 +378,45 @@ fits-kept w p q t e = rw (getD-drop 10 (w .state) 7 0, getD-drop 10 (w .state) 2
 
 -- ---- what refuses a call: its input and the state first, then its pages
 
-chain : (t : Bool) (code rest rest′ d : ℕ) → eqb code 0 ≡ false → rest ≡ cond (eqb rest′ 0) d rest′ → unless t code rest ≡ cond (eqb (unless t code rest′) 0) d (unless t code rest′)
-chain true code rest rest′ d z h = h
-chain false code rest rest′ d z h = rw z
+when-chain : (t : Bool) (code rest rest′ d : ℕ) → eqb code 0 ≡ false → rest ≡ first rest′ d → when t code rest ≡ first (when t code rest′) d
+when-chain true code rest rest′ d z h = rw z
+when-chain false code rest rest′ d z h = h
 
-status-chain : (n rest rest′ d : ℕ) → rest ≡ cond (eqb rest′ 0) d rest′ → unless (eqb n 0) n rest ≡ cond (eqb (unless (eqb n 0) n rest′) 0) d (unless (eqb n 0) n rest′)
-status-chain n rest rest′ d h = go (eqb n 0) refl
+ready-chain : (s : List ℕ) (fit : Bool) (rest rest′ d : ℕ) → rest ≡ first rest′ d → ready s fit rest ≡ first (ready s fit rest′) d
+unfolding ready
+ready-chain s fit rest rest′ d h = go (eqb (length s) stateLen) (eqb (statusIn s) 0) refl fit
   where
-    go : (b : Bool) → eqb n 0 ≡ b → cond b rest n ≡ cond (eqb (cond b rest′ n) 0) d (cond b rest′ n)
-    go true e = h
-    go false e = rw e
+    go : (long idle : Bool) → eqb (statusIn s) 0 ≡ idle → (fit : Bool)
+        → unless long 4 (cond idle (unless fit 4 rest) (statusIn s)) ≡ first (unless long 4 (cond idle (unless fit 4 rest′) (statusIn s))) d
+    go false idle e fit = refl
+    go true false e fit = rw e
+    go true true e false = refl
+    go true true e true = h
 
-unfit-chain : (a b c : Bool) (d : ℕ) → unless a 8 (unless b 8 (unless c 8 d)) ≡ cond (eqb (unless (a && (b && c)) 8 0) 0) d (unless (a && (b && c)) 8 0)
+unfit-chain : (a b c : Bool) (d : ℕ) → unless a 8 (unless b 8 (when c 8 d)) ≡ first (unless (a && (b && not c)) 8 0) d
 unfit-chain true true true d = refl
 unfit-chain true true false d = refl
 unfit-chain true false c d = refl
 unfit-chain false b c d = refl
 
 refusal-is : (w : World) (vtl visibility : ℕ) (l : List ℕ) → visibilityRefusal (w .state) (fits w) (w .tables) vtl visibility l
-    ≡ cond (eqb (inputRefusal w vtl visibility l) 0) (denial w (vtlOf vtl) (boolOf visibility) (pagesOf l)) (inputRefusal w vtl visibility l)
+    ≡ first (inputRefusal w vtl visibility l) (denial w (vtlOf vtl) (boolOf visibility) (pagesOf l))
 unfolding visibilityRefusal inputRefusal
 refusal-is w vtl visibility l =
     let d : ℕ = denial w (vtlOf vtl) (boolOf visibility) (pagesOf l) in
-    chain (eqb (length (w .state)) stateLen) 4 _ _ d refl
-    (status-chain (statusIn (w .state)) _ _ d
-    (chain (fits w) 4 _ _ d refl
-    (chain (not (isLong l)) 5 _ _ d refl
-    (chain (not (repeats (pagesOf l))) 6 _ _ d refl
-    (ap (λ (n : ℕ). unless (fitVtl vtl) 8 (unless (fitBool visibility) 8 (unless (not (isRagged l)) 8 n))) (sym (same-denial w (vtlOf vtl) (boolOf visibility) (pagesOf l)))
-    ∙ unfit-chain (fitVtl vtl) (fitBool visibility) (not (isRagged l)) d)))))
+    ready-chain (w .state) (fits w) _ _ d
+    (when-chain (isLong l) 5 _ _ d refl
+    (when-chain (repeats (pagesOf l)) 6 _ _ d refl
+    (ap (λ (n : ℕ). unless (fitVtl vtl) 8 (unless (fitBool visibility) 8 (when (isRagged l) 8 n))) (sym (same-denial w (vtlOf vtl) (boolOf visibility) (pagesOf l)))
+    ∙ unfit-chain (fitVtl vtl) (fitBool visibility) (isRagged l) d)))
 
 -- a call that is taken is refused by neither
 pub taken-input : (w : World) (vtl visibility : ℕ) (l : List ℕ) → visibilityRefusal (w .state) (fits w) (w .tables) vtl visibility l ≡ 0 → inputRefusal w vtl visibility l ≡ 0
-taken-input w vtl visibility l z = go (inputRefusal w vtl visibility l) _ (sym (refusal-is w vtl visibility l) ∙ z)
-  where
-    go : (n d : ℕ) → cond (eqb n 0) d n ≡ 0 → n ≡ 0
-    go n d h = either (eqb n 0) refl h
-      where
-        either : (b : Bool) → eqb n 0 ≡ b → cond b d n ≡ 0 → n ≡ 0
-        either true e h = eqb-true n 0 e
-        either false e h = h
+taken-input w vtl visibility l z = first-passed (inputRefusal w vtl visibility l) _ (sym (refusal-is w vtl visibility l) ∙ z) .0
 
 pub taken-pages : (w : World) (vtl visibility : ℕ) (l : List ℕ) → visibilityRefusal (w .state) (fits w) (w .tables) vtl visibility l ≡ 0
     → denial w (vtlOf vtl) (boolOf visibility) (pagesOf l) ≡ 0
-taken-pages w vtl visibility l z =
-    let d : ℕ = denial w (vtlOf vtl) (boolOf visibility) (pagesOf l) in
-    sym (ap (λ (n : ℕ). cond (eqb n 0) d n) (taken-input w vtl visibility l z)) ∙ sym (refusal-is w vtl visibility l) ∙ z
+taken-pages w vtl visibility l z = first-passed (inputRefusal w vtl visibility l) _ (sym (refusal-is w vtl visibility l) ∙ z) .1
 
 -- one whose input and state don't refuse it: what it was found to have
 record Taken (w : World) (l : List ℕ) : Type 0 where
@@ -435,18 +428,11 @@ record Taken (w : World) (l : List ℕ) : Type 0 where
 taken-call : (w : World) (vtl visibility : ℕ) (l : List ℕ) → inputRefusal w vtl visibility l ≡ 0 → Taken w l
 unfolding inputRefusal
 taken-call w vtl visibility l z =
-    let a = passed (eqb (length (w .state)) stateLen) 3 _ z in
-    let b = first-passed (statusIn (w .state)) _ (a .1) in
-    let c = passed (fits w) 3 _ (b .1) in
-    let d = passed (not (isLong l)) 4 _ (c .1) in
-    record { block = eqb-true _ _ (a .0); idle = b .0; fit = c .0; short = not-long (isLong l) refl (d .0) }
-  where
-    not-long : (b : Bool) → isLong l ≡ b → not b ≡ true → length l ≤ 4096
-    not-long true e h = false≢true h
-    not-long false e h = ltb-false 4096 (length l) e
+    let a = is-ready (w .state) (fits w) _ z in
+    record { block = a .long; idle = a .idle; fit = a .fits; short = ltb-false 4096 (length l) (when-passed (isLong l) 4 _ (a .goes) .0) }
 
 -- where nothing is under way no answer is taken
-idle-takes : (s : List ℕ) (b : Bool) → statusIn s ≡ 0 → takesIn s b ≡ false
+pub idle-takes : (s : List ℕ) (b : Bool) → statusIn s ≡ 0 → takesIn s b ≡ false
 idle-takes s b e = go (isChanging s) e
   where
     none : (p : Phase) → statusOf p ≡ 0 → takes p b ≡ false
@@ -474,12 +460,7 @@ modify-pages w v share l = in-use (wanted (w .maps .shared) share) (take (stopOf
 
 module _ (w : World) (v : GuestVtl) (l : List ℕ) (k : Taken w l) where
   pages-long : length (w .pages) ≡ 1024
-  pages-long =
-      let n : ℕ = mapLen (entriesIn (w .state)) in
-      let m : Permissions = w .maps .permissions in
-      let marks : Bool = marksFit n (length (w .maps .private)) (length (w .maps .shared)) in
-      let permits : Bool = permissionsFit (permissionLen n (settingsOf (w .state) .tracked)) (length (m .read)) (length (m .write)) (length (m .kernel)) (length (m .user)) in
-      eqb-true _ _ (and-left _ _ (and-right (marks && permits) _ (k .fit)))
+  pages-long = fits-pages w (k .fit)
 
   few-pages : (n : ℕ) → length (take n (pagesOf l)) ≤ 512
   few-pages n = omega (arith, length-take n (pagesOf l), pages-few l (k .short))
@@ -539,14 +520,7 @@ module _ (w : World) (v : GuestVtl) (l : List ℕ) (k : Taken w l) where
   -- ---- refused by a page: nothing is under way, so no answer is taken either
 
   none : (b : Bool) → eqb (answerRefusal (w .state) (fits w) b) 0 ≡ false
-  unfolding answerRefusal
-  none b = rw (idle-takes (w .state) b (k .idle)) (go (eqb (length (w .state)) stateLen) (not (eqb (statusIn (w .state)) 20)) (fits w))
-    where
-      go : (a b c : Bool) → eqb (unless a 4 (unless b 20 (unless c 4 21))) 0 ≡ false
-      go true true true = refl
-      go true true false = refl
-      go true false c = refl
-      go false b c = refl
+  none b = untaken-refused (w .state) (fits w) b (idle-takes (w .state) b (k .idle))
 
   untaken : (g : Given) → takenBy g w ≡ false
   untaken Succeeds = none false

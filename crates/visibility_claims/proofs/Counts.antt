@@ -26,7 +26,7 @@ use Rattle.visibility_claims.proofs.Steps.{share-whole, return-whole}
 
 -- ---- no more operations than a list has
 
-few-one : (o : Operation) (m : Maps) (gs : List Given) (next : List Given → Whole) (failed : ℕ → ℕ → List Given → Whole) (b : ℕ)
+pub few-one : (o : Operation) (m : Maps) (gs : List Given) (next : List Given → Whole) (failed : ℕ → ℕ → List Given → Whole) (b : ℕ)
     → ((gs : List Given) → length (next gs .asked) ≤ b) → ((code k : ℕ) (gs : List Given) → length (failed code k gs .asked) ≤ b)
     → length (one o m gs next failed .asked) ≤ suc b
 unfolding one
@@ -39,7 +39,7 @@ few-one o m (Fails code k ∷ gs) next failed b f g = go (fails o) (g code k gs)
     go true h i = omega arith
     go false h i = i
 
-few : (before : Operation → Maps → Maps) (os : List Operation) (m : Maps) (gs : List Given) (next : Maps → List Given → Whole) (b : ℕ)
+pub few : (before : Operation → Maps → Maps) (os : List Operation) (m : Maps) (gs : List Given) (next : Maps → List Given → Whole) (b : ℕ)
     → ((m : Maps) (gs : List Given) → length (next m gs .asked) ≤ b) → length (inTurn before os m gs next .asked) ≤ length os + b
 unfolding inTurn
 few before [] m gs next b f = omega (arith, f m gs)
@@ -52,7 +52,7 @@ few before (o ∷ os) m gs next b f =
 
 -- ---- no more runs than pages, and so many operations for each
 
-few-runs : (ps : List ℕ) → length (runsOf ps) ≤ length ps
+pub few-runs : (ps : List ℕ) → length (runsOf ps) ≤ length ps
 unfolding runsOf
 few-runs [] = omega arith
 few-runs (p ∷ ps) = go (runsOf ps) (few-runs ps)

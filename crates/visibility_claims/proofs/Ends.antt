@@ -2,7 +2,7 @@
 use native.Mathlib.Omega.{arith}
 use mathlib.Core.Path.{_≡_, refl, sym, ap, ap₂, _∙_, subst}
 use mathlib.Core.Logic.{⊎-elim}
-use mathlib.Core.Bool.{Bool, true, false, not, cond, _&&_}
+use mathlib.Core.Bool.{Bool, true, false, cond, _&&_}
 use mathlib.Core.List.{List, [], _∷_}
 use Prim.Native.Nat.{ℕ, zero, suc, _+_, _-_, _*_, _≤_, _<_, min, max}
 use native.Mathlib.Decide.{decLt}
@@ -11,7 +11,7 @@ use lib.ListN.{length, getD, drop}
 use lib.Seq.{getD-drop, drop-drop}
 use borrow.Author.Tests.{eq-eqb, eqb-true, eqb-false, ltb-true, leb-true, leb-false}
 use Rattle.laws.specs.Bools.{false≢true, and-left, both-true, lt-or-le}
-use Rattle.laws.specs.Refusal.{unless}
+use Rattle.laws.specs.Refusal.{unless, when}
 use Rattle.permissions.specs.declared.OptionFlags.{OptionFlags}
 use Rattle.permissions.specs.declared.OptionFlags.the-variants.{Some, None}
 use Rattle.layout.specs.declared.MemoryRangeWithNode.{MemoryRangeWithNode}
@@ -516,7 +516,7 @@ done-taken w a b c = rw (eq-eqb (length (w .state)) stateLen a, b) (either (isCh
     s : List ℕ
     s = w .state
 
-    go : (p : Phase) → eqb (statusOf p) 19 ≡ true → eqb (unless (not (eqb (statusOf p) 20)) 20 (unless (takes p false) 21 0)) 0 ≡ true
+    go : (p : Phase) → eqb (statusOf p) 19 ≡ true → eqb (when (eqb (statusOf p) 20) 20 (unless (takes p false) 21 0)) 0 ≡ true
     go at.Idle e = e
     go at.Halted e = e
     go at.Wait e = refl
@@ -532,6 +532,6 @@ done-taken w a b c = rw (eq-eqb (length (w .state)) stateLen a, b) (either (isCh
     go at.ProtectDefault1 e = refl
 
     either : (b : Bool) → isChanging s ≡ b → eqb (cond b 19 (statusOf (phaseIn s))) 19 ≡ true
-        → eqb (unless (not (eqb (cond b 19 (statusOf (phaseIn s))) 20)) 20 (unless (cond b (takesAt (stageIn s) false) (takes (phaseIn s) false)) 21 0)) 0 ≡ true
+        → eqb (when (eqb (cond b 19 (statusOf (phaseIn s))) 20) 20 (unless (cond b (takesAt (stageIn s) false) (takes (phaseIn s) false)) 21 0)) 0 ≡ true
     either true d e = rw (changing-some s 0 0 0 d .1)
     either false d e = go (phaseIn s) e

@@ -12,12 +12,12 @@ use Rattle.protector_state.specs.State.{firstPhases, phaseOf}
 use Rattle.protector_state.specs.Reply.{askedOf, flatOf}
 use Rattle.protector.specs.Writes.{applied}
 use Rattle.protector.specs.Calls.{carriedOut, visibilityTaken, visibilityOf, answerDone, answerFailed}
-use Rattle.call_refusals.specs.Refusals.{firstRefusal, visibilityRefusal, answerRefusal}
+use Rattle.call_refusals.specs.Refusals.{ready, firstRefusal, visibilityRefusal, answerRefusal}
 use Rattle.visibility_claims.specs.Calls.{follow}
 use Rattle.visibility_claims.specs.Table.{Replies}
 
 pub replies : Replies
-unfolding word writtenFrom entriesOf ramByte numberOf numberAt numbersFrom among repeats neighbours runAt pick pickPlaces tableOf stopAt runEnd put placeFrom listsFrom held operationOf ask end halt keep shareRun defaultRun returnRun afterFlush afterWait afterModify afterAccept failedModify doneOf failedOf cleared startOf firstPhases phaseOf askedOf flatOf applied carriedOut firstRefusal visibilityRefusal visibilityTaken visibilityOf answerRefusal answerDone answerFailed follow
+unfolding word writtenFrom entriesOf ramByte numberOf numberAt numbersFrom among repeats neighbours runAt pick pickPlaces tableOf stopAt runEnd put placeFrom listsFrom held operationOf ask end halt keep shareRun defaultRun returnRun afterFlush afterWait afterModify afterAccept failedModify doneOf failedOf cleared startOf firstPhases phaseOf askedOf flatOf applied carriedOut firstRefusal ready visibilityRefusal visibilityTaken visibilityOf answerRefusal answerDone answerFailed follow
 replies =
     record {
       P2-told = refl;

@@ -15,7 +15,7 @@ use Rattle.overlay_table.specs.Overlays.{placeFrom}
 use Rattle.lock_table.specs.Locks.{listsFrom, held}
 use Rattle.protector_state.specs.State.{firstPhases, phaseOf, entriesIn}
 use Rattle.call_refusals.specs.World.{overlaysOf, locksOf, fits, statusIn}
-use Rattle.call_refusals.specs.Refusals.{pageRefusal, firstRefusal, visibilityRefusal}
+use Rattle.call_refusals.specs.Refusals.{ready, pageRefusal, firstRefusal, visibilityRefusal}
 use Rattle.visibility_claims.specs.Table.{bytesFrom, broad, Lists}
 
 -- n pages from p on
@@ -104,7 +104,7 @@ broad-idle = refl
 
 -- THE CLAIMS
 pub lists : Lists
-unfolding visibilityRefusal
+unfolding ready visibilityRefusal
 lists =
     record {
       taken-512 = rw (broad-fits, broad-idle, short 512 (omega arith), pages-are 512, no-repeat 512 0, whole-pages 512)

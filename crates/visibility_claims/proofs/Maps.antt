@@ -1,29 +1,22 @@
 -- What a step writes, as the whole call says it. Assumes nothing.
 use native.Mathlib.Omega.{arith}
-use mathlib.Core.Path.{_≡_, refl, sym, ap, ap₂, _∙_}
-use mathlib.Core.Bool.{Bool, true, false, cond, _||_}
-use mathlib.Core.List.{List, [], _∷_}
-use Prim.Native.Nat.{ℕ, suc, _+_, _*_, _≤_, _<_}
-use lib.Dec.{eqb}
-use lib.ListN.{length, getD, take, drop}
-use lib.Seq.{take-take, take-add, drop-at, length-take-le}
-use borrow.Author.Tests.{eqb-true}
-use Rattle.laws.specs.Bools.{or-swap}
-use Rattle.laws.specs.Ranges.{between, between-join}
+use mathlib.Core.Path.{_≡_, sym, ap, ap₂, _∙_}
+use mathlib.Core.Bool.{Bool, true, false, cond}
+use mathlib.Core.List.{List}
+use Prim.Native.Nat.{ℕ, _+_, _*_, _≤_, _<_}
+use lib.ListN.{length, take}
+use Rattle.laws.specs.Ranges.{between}
 use Rattle.bitmap.specs.Pages.{written}
 use Rattle.bitmap.proofs.Map.{alike}
-use Rattle.bitmap.proofs.Runs.{one-between}
 use Rattle.permissions.specs.declared.GuestVtl.{GuestVtl}
 use Rattle.permissions.specs.declared.GuestVtl.the-variants.{Vtl0, Vtl1}
 use Rattle.permissions.specs.declared.HvMapGpaFlags.{HvMapGpaFlags}
 use Rattle.permissions.specs.Flags.{noFlags}
 use Rattle.mapping.specs.Maps.{Maps, Permissions}
 use Rattle.page_list.specs.Pages.{among}
-use Rattle.page_list.specs.Runs.{part, neighbours, runAt}
-use Rattle.page_list.specs.declared.PageRun.{PageRun}
-use Rattle.page_list.proofs.RunLaws.{run-here, part-next}
+use Rattle.page_list.specs.Runs.{part, runAt}
 use Rattle.request_pages.specs.Request.{runEnd, put}
-use Rattle.request_pages.proofs.Runs.{put-none, end-le}
+use Rattle.request_pages.proofs.Runs.{put-none, run-places}
 use Rattle.visibility_steps.specs.declared.Places.{Places}
 use Rattle.visibility_steps.specs.declared.Writes.{Writes}
 use Rattle.visibility_steps.specs.Steps.{places, writes, setPermissions, cleared}
@@ -32,51 +25,12 @@ use Rattle.visibility_claims.specs.Whole.{Protect, marked, withPrivate, 
 
 -- ---- the pages of a run
 
--- the first page with the neighbours that follow it
-abbrev first : ℕ → List ℕ → List ℕ
-first p ps = take (suc (neighbours p ps)) (p ∷ ps)
-
-run-pages : (p : ℕ) (ps : List ℕ) (q : ℕ) → among (first p ps) q ≡ between p (p + suc (neighbours p ps)) q
-unfolding among neighbours
-run-pages p [] q = or-swap (eqb q p) false ∙ one-between p q
-run-pages p (r ∷ rs) q = go (eqb r (p + 1)) (eqb-true r (p + 1)) (run-pages r rs q)
-  where
-    go : (b : Bool) → (b ≡ true → r ≡ p + 1) → among (first r rs) q ≡ between r (r + suc (neighbours r rs)) q
-        → (eqb q p || among (take (cond b (suc (neighbours r rs)) 0) (r ∷ rs)) q) ≡ between p (p + suc (cond b (suc (neighbours r rs)) 0)) q
-    go true h e =
-        let k : ℕ = neighbours r rs in
-        let d : r ≡ p + 1 = h refl in
-        let f : r + suc k ≡ p + suc (suc k) = omega arith in
-        ap₂ (λ (x y : Bool). x || y) (one-between p q) (e ∙ ap₂ (λ (x y : ℕ). between x y q) d f)
-        ∙ or-swap (between p (p + 1) q) (between (p + 1) (p + suc (suc k)) q)
-        ∙ sym (between-join p (p + 1) (p + suc (suc k)) q (omega arith) (omega arith))
-    go false h e = or-swap (eqb q p) false ∙ one-between p q
-
 module _ (t : List ℕ) (n a : ℕ) (h : a < n) (g : n ≤ length t) where
-  -- the pages of the run at a place: those from its first on, as many as it has
-  abbrev more : ℕ
-  more = neighbours (getD t a 0) (part t n (a + 1))
-
-  run-is : runAt t n a ≡ record { first = getD t a 0; count = suc more }
-  run-is = sym (run-here t n a (getD t a 0) (suc more) h refl refl)
-
-  part-run : part t (runEnd t n a) a ≡ first (getD t a 0) (part t n (a + 1))
-  unfolding runEnd
-  part-run =
-      let m : ℕ = suc more in
-      let e : a + runAt t n a .count ≡ a + m = ap (λ (r : PageRun). a + r .count) run-is in
-      let l : a + m ≤ n = omega (arith, e, end-le t n a h) in
-      ap (λ (k : ℕ). part t k a) e
-      ∙ ap (drop a) (sym (take-take (a + m) n t l) ∙ take-add a m (take n t))
-      ∙ drop-at (take a (take n t)) (take m (drop a (take n t))) a (ap length (take-take a n t (omega arith)) ∙ length-take-le a t (omega arith))
-      ∙ ap (take m) (part-next t n a h (omega arith))
-
   put-run : (s : Bool) (m : List ℕ) → put t a (runEnd t n a) s m ≡ written 8 (between (runAt t n a .first) (runAt t n a .first + runAt t n a .count)) s m
   unfolding put
   put-run s m =
       alike 8 (among (part t (runEnd t n a) a)) (between (runAt t n a .first) (runAt t n a .first + runAt t n a .count)) s m
-      (λ j k l d. ap (λ (ps : List ℕ). among ps (j * 8 + k)) part-run ∙ run-pages (getD t a 0) (part t n (a + 1)) (j * 8 + k)
-      ∙ ap (λ (r : PageRun). between (r .first) (r .first + r .count) (j * 8 + k)) (sym run-is))
+      (λ j k l d. run-places t n a h g (j * 8 + k))
 
 -- ---- writes that leave the permissions alone
 

@@ -1,14 +1,14 @@
 -- A refusal leaves all that is lent as it was. Assumes nothing.
 use native.Mathlib.Omega.{arith}
 use mathlib.Core.Path.{_≡_, refl, sym, ap, _∙_}
-use mathlib.Core.Bool.{Bool, true, false, not, cond}
+use mathlib.Core.Bool.{Bool, true, false, cond}
 use mathlib.Core.List.{List}
 use Prim.Native.Nat.{ℕ}
 use lib.Dec.{eqb, ltb}
 use lib.ListN.{length}
 use borrow.Author.Tests.{eqb-true, eqb-false, eq-eqb, ne-eqb}
 use Rattle.laws.specs.Bools.{false≢true}
-use Rattle.laws.specs.Refusal.{passed}
+use Rattle.laws.specs.Refusal.{passed, when-passed}
 use Rattle.permissions.specs.HvError.{codeOf}
 use Rattle.permissions.specs.Flags.{vtlOf, boolOf}
 use Rattle.permissions.specs.declared.IsolationType.{IsolationType}
@@ -108,7 +108,7 @@ pub answer-takes : (s : List ℕ) (f b : Bool) → answerRefusal s f b ≡ 0 →
 unfolding answerRefusal
 answer-takes s f b z =
     let a = passed (eqb (length s) stateLen) 3 _ z in
-    let d = passed (not (eqb (statusIn s) 20)) 19 _ (a .1) in
+    let d = when-passed (eqb (statusIn s) 20) 19 _ (a .1) in
     let e = passed f 3 _ (d .1) in
     passed (takesIn s b) 20 _ (e .1) .0
 

@@ -4,20 +4,19 @@ use mathlib.Core.Path.{_≡_, refl, sym, ap, ap₂, _∙_, subst}
 use mathlib.Core.Bool.{Bool, true, false, cond, not, _&&_}
 use mathlib.Core.List.{List, [], _∷_, _++_, append-assoc}
 use Prim.Native.Nat.{ℕ, zero, suc, _+_, _<_}
-use lib.Dec.{eqb, ltb}
+use lib.Dec.{ltb}
 use lib.ListN.{length, getD, take, length-append}
 use lib.Seq.{getD-append-add}
 use borrow.Author.Tests.{ltb-true, lt-ltb}
 use Rattle.laws.specs.Bools.{same, and-true}
-use Rattle.laws.specs.Refusal.{unless}
+use Rattle.laws.specs.Refusal.{unless, when, first}
 use Rattle.bitmap.specs.Pages.{bitAt}
 use Rattle.layout.specs.Layout.{isRam}
 use Rattle.permissions.specs.declared.GuestVtl.{GuestVtl}
 use Rattle.permissions.specs.declared.GuestVtl.the-variants.{Vtl0, Vtl1}
 use Rattle.page_list.specs.Pages.{pagesOf, stepsFrom, strict}
-use Rattle.overlay_table.specs.Overlays.{isOverlay}
 use Rattle.lock_table.specs.Locks.{listsOf, held}
-use Rattle.request_pages.specs.Request.{pick, pickPlaces, over, tableOf, stopAt, isOpen, wanted}
+use Rattle.request_pages.specs.Request.{pick, pickPlaces, tableOf, stopAt, isOpen, wanted}
 use Rattle.protector_state.specs.State.{settingsOf, entriesIn}
 use Rattle.call_refusals.specs.World.{World, overlaysOf, locksOf}
 use Rattle.call_refusals.specs.Refusals.{pageRefusal, firstRefusal}
@@ -29,7 +28,7 @@ use Rattle.visibility_claims.specs.Requested.{isOverlayPage, denial, acc
 
 -- the number of one page, by what it is
 abbrev number : Bool → Bool → Bool → Bool → ℕ
-number ram o h share = unless ram 7 (unless (not (h && not o)) 10 (unless (not (share && o)) 11 0))
+number ram o h share = unless ram 7 (when (h && not o) 10 (when (share && o) 11 0))
 
 pub same-denial : (w : World) (v : GuestVtl) (share : Bool) (ps : List ℕ)
     → denial w v share ps ≡ firstRefusal (pageRefusal (entriesIn (w .state)) (overlaysOf (w .tables) v) (locksOf (w .tables) v) share) ps
@@ -39,7 +38,7 @@ same-denial w v share (p ∷ ps) =
     go (isRam (entriesIn (w .state)) p) (isOverlayPage w v p) (held (listsOf (locksOf (w .tables) v)) p) share (denial w v share ps) _ (same-denial w v share ps)
   where
     go : (ram o h share : Bool) (d f : ℕ) → d ≡ f
-        → cond (not ram) 7 (cond (cond o false h) 10 (cond (share && o) 11 d)) ≡ cond (eqb (number ram o h share) 0) f (number ram o h share)
+        → cond (not ram) 7 (cond (cond o false h) 10 (cond (share && o) 11 d)) ≡ first (number ram o h share) f
     go false o h share d f e = refl
     go true true true true d f e = refl
     go true true true false d f e = e

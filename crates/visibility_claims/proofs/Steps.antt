@@ -43,7 +43,7 @@ use Rattle.visibility_claims.specs.Runs.{Last, named, before, run, told,
 use Rattle.visibility_claims.proofs.Maps.{sets, setBy, applied-sets, set-none, applied-none, applied-default, applied-share, applied-return, set-shared, set-private}
 
 -- a count of 64 bits, once more
-once : (c x : ℕ) → x ≡ c % 2 ^ 64 → (x + 1) % 2 ^ 64 ≡ (c + 1) % 2 ^ 64
+pub once : (c x : ℕ) → x ≡ c % 2 ^ 64 → (x + 1) % 2 ^ 64 ≡ (c + 1) % 2 ^ 64
 once c x e = omega arith
 
 -- ---- an operation asked for, and the end

@@ -10,7 +10,7 @@ use Rattle.visibility_steps.specs.Steps.{startOf}
 use Rattle.protector_state.specs.State.{firstPhases, phaseOf}
 use Rattle.protector_state.specs.Reply.{askedOf, flatOf}
 use Rattle.protector.specs.Calls.{carriedOut, visibilityTaken, visibilityOf}
-use Rattle.call_refusals.specs.Refusals.{firstRefusal, visibilityRefusal}
+use Rattle.call_refusals.specs.Refusals.{ready, firstRefusal, visibilityRefusal}
 use Rattle.visibility_claims.specs.Whole.{one, inTurn, perRun, wholeShare, returned, modified, wholeReturn}
 use Rattle.visibility_claims.specs.Requested.{denial, requestedFrom, pagesIn, placesIn}
 use Rattle.visibility_claims.specs.Table.{Stops, Bars, Visibility}
@@ -36,7 +36,7 @@ stops =
     }
 
 bars : Bars
-unfolding word writtenFrom entriesOf ramByte numberOf numberAt numbersFrom among repeats runsOf overlays.placeFrom locks.listsFrom locks.held overlays.flat overlays.tableOf locks.stream locks.tableOf phaseOf firstPhases startOf askedOf flatOf carriedOut firstRefusal visibilityRefusal visibilityTaken visibilityOf denial requestedFrom pagesIn one inTurn perRun wholeShare
+unfolding word writtenFrom entriesOf ramByte numberOf numberAt numbersFrom among repeats runsOf overlays.placeFrom locks.listsFrom locks.held overlays.flat overlays.tableOf locks.stream locks.tableOf phaseOf firstPhases startOf askedOf flatOf carriedOut firstRefusal ready visibilityRefusal visibilityTaken visibilityOf denial requestedFrom pagesIn one inTurn perRun wholeShare
 bars =
     record {
       overlaid-shared = refl;
@@ -54,7 +54,7 @@ bars =
     }
 
 pub visibility : Visibility
-unfolding word writtenFrom entriesOf ramByte numberOf numberAt numbersFrom among repeats runsOf overlays.placeFrom locks.listsFrom locks.held phaseOf firstPhases firstRefusal visibilityRefusal visibilityOf denial requestedFrom pagesIn placesIn one inTurn perRun wholeShare returned modified wholeReturn
+unfolding word writtenFrom entriesOf ramByte numberOf numberAt numbersFrom among repeats runsOf overlays.placeFrom locks.listsFrom locks.held phaseOf firstPhases firstRefusal ready visibilityRefusal visibilityOf denial requestedFrom pagesIn placesIn one inTurn perRun wholeShare returned modified wholeReturn
 visibility =
     record {
       P2-asked = refl;

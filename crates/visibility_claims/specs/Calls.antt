@@ -5,7 +5,8 @@ use mathlib.Core.List.{List, [], _∷_, _++_}
 use Prim.Native.Nat.{ℕ}
 use lib.Dec.{eqb}
 use lib.ListN.{length, drop, take}
-use Rattle.laws.specs.Refusal.{unless}
+use Rattle.abi.specs.Refusals as refusal
+use Rattle.laws.specs.Refusal.{unless, when}
 use Rattle.permissions.specs.declared.GuestVtl.{GuestVtl}
 use Rattle.permissions.specs.declared.IsolationType.{IsolationType}
 use Rattle.permissions.specs.Flags.{fitVtl, vtlOf, fitBool, boolOf}
@@ -13,11 +14,11 @@ use Rattle.page_list.specs.Pages.{pagesOf, isLong, repeats, isRagged}
 use Rattle.visibility_steps.specs.declared.Operation as declared
 use Rattle.visibility_steps.specs.declared.Operation.the-variants as crossed
 use Rattle.protector_state.specs.declared.Reply.{Reply}
-use Rattle.protector_state.specs.State.{stateLen, settingsOf}
+use Rattle.protector_state.specs.State.{settingsOf}
 use Rattle.protector_state.specs.Reply.{askedOf, flatOf}
-use Rattle.call_refusals.specs.World.{World, Outcome, fits, statusIn}
+use Rattle.call_refusals.specs.World.{World, Outcome, fits}
 use Rattle.protector.specs.Calls.{refusedBy, visibilityOf, answerDone, answerFailed}
-use Rattle.call_refusals.specs.Refusals.{answerRefusal}
+use Rattle.call_refusals.specs.Refusals.{ready, answerRefusal}
 use Rattle.visibility_claims.specs.Whole.{Operation, Wait, FlushAll, Protect, Invalidate, Release, Modify, Accept, Zero, Flush, TlbWait, Given, Succeeds, Fails, Denied, Whole, stands, wholeShare, wholeReturn}
 use Rattle.visibility_claims.specs.Requested.{denial, Requested, requestedOf, pagesIn, placesIn, storedIn}
 use Rattle.visibility_claims.specs.Runs.{Last, Outstanding, Gives, Ran, whole}
@@ -27,13 +28,11 @@ use Rattle.visibility_claims.specs.Runs.{Last, Outstanding, Gives, Ran, 
 -- what refuses it before its pages are looked at (01, "Order"): 20 and 19, then its input by number; a state block of another length tells nothing
 unfoldable pub inputRefusal : World → ℕ → ℕ → List ℕ → ℕ
 inputRefusal w vtl visibility l =
-    unless (eqb (length (w .state)) stateLen) 4
-    (unless (eqb (statusIn (w .state)) 0) (statusIn (w .state))
-    (unless (fits w) 4
-    (unless (not (isLong l)) 5
-    (unless (not (repeats (pagesOf l))) 6
-    (unless (fitVtl vtl && (fitBool visibility && not (isRagged l))) 8
-    0)))))
+    ready (w .state) (fits w)
+    (when (isLong l) refusal.longList
+    (when (repeats (pagesOf l)) refusal.repeatedPage
+    (unless (fitVtl vtl && (fitBool visibility && not (isRagged l))) refusal.unfitNumber
+    0)))
 
 -- none of its pages refused: to shared or to private, of those that it asks for
 abbrev pub wholeOn : World → GuestVtl → Bool → Requested → List Given → Whole

@@ -8,7 +8,7 @@ use lib.ListN.{length}
 use Rattle.layout.specs.Layout.{entriesOf, mapLen}
 use Rattle.page_list.specs.Pages.{pagesOf}
 use Rattle.protector_state.specs.declared.Reply.{Reply}
-use Rattle.call_refusals.specs.World.{World, Outcome, fits}
+use Rattle.call_refusals.specs.World.{World, Outcome, fits, lengthsIn}
 use Rattle.call_refusals.specs.Refusals.{buildFits, buildRefusal, visibilityRefusal, answerRefusal}
 use Rattle.protector.specs.Calls.{buildOf, visibilityOf}
 use Rattle.queries.specs.Queries.{queryRefusal, ramBefore, queryOf}
@@ -43,7 +43,7 @@ give x (QueryVisibility l) =
 
 -- 0 where it is taken
 unfoldable pub refusal : Lent → Call → ℕ
-refusal x (Build ram isolation tracked release) = buildRefusal ram isolation tracked release (buildFits (mapLen (entriesOf ram)) tracked (x .world))
+refusal x (Build ram isolation tracked release) = buildRefusal ram isolation tracked release (buildFits (mapLen (entriesOf ram)) tracked (length (x .world .state)) (lengthsIn (x .world)))
 refusal x (ChangeVisibility vtl visibility l) = visibilityRefusal (x .world .state) (fits (x .world)) (x .world .tables) vtl visibility l
 refusal x (AnswerWith Succeeds) = answerRefusal (x .world .state) (fits (x .world)) false
 refusal x (AnswerWith (Fails code k)) = answerRefusal (x .world .state) (fits (x .world)) true

@@ -23,10 +23,10 @@ use Rattle.protector_state.specs.Reply.{askedOf, flatOf}
 use Rattle.protector_state.specs.Changing.{stageOf}
 use Rattle.protector.specs.Writes.{applied, entered}
 use Rattle.protector.specs.Calls.{carriedOut, carriedChange, visibilityTaken, visibilityOf, afterDone, afterFailed, answerDone, answerFailed}
-use Rattle.call_refusals.specs.Refusals.{firstRefusal, visibilityRefusal, answerRefusal}
+use Rattle.call_refusals.specs.Refusals.{ready, firstRefusal, visibilityRefusal, answerRefusal}
 use Rattle.protection_entries.specs.Calls.{protectionRefusal, protectionTaken, protectionOf, defaultRefusal, defaultStarted, defaultTaken, defaultOf}
 use Rattle.lock_entries.specs.Calls.{lockRefusal, lockOf, unlockOf}
-use Rattle.setting_entries.specs.Calls.{stateRefusal, enableRefusal, enableOf, enabledIn, defaultIn}
+use Rattle.setting_entries.specs.Calls.{enableRefusal, enableOf, enabledIn, defaultIn}
 use Rattle.overlay_refusals.specs.Refusals.{callRefusal, within, knownRefusal, guestRefusal, dmaRefusal, pageRefusal, registerRefusal, currentOf, unregisterRefusal}
 use Rattle.overlay_entries.specs.Calls.{isOverlayIn, registerTaken, registerOf, unregisterTaken, unregisterOf}
 use Rattle.queries.specs.Queries.{queryRefusal, visibilities, filledBy, queryOf, faultIn, lowerIn, accessIn}
@@ -38,7 +38,7 @@ unfolding word writtenFrom closed closedTo swapped entriesOf ramByte operandOf n
     pickPlaces tableOf stopAt runEnd put placeFrom listsFrom endFrom held total same kept lock.placeFrom without span nextOf anyOf anyIn renewedFrom
     operationOf ask end halt keep shareRun defaultRun returnRun afterFlush afterWait afterModify afterAccept failedModify doneOf failedOf cleared
     startOf protect changes.ask wait finish changes.halt changes.keep protectPages protectRam changes.doneOf changes.failedOf startNew startOld
-    firstPhases phaseOf askedOf flatOf stageOf applied entered carriedOut carriedChange firstRefusal visibilityRefusal visibilityTaken visibilityOf
+    firstPhases phaseOf askedOf flatOf stageOf applied entered carriedOut carriedChange firstRefusal ready visibilityRefusal visibilityTaken visibilityOf
     answerRefusal afterDone afterFailed answerDone answerFailed protectionRefusal protectionTaken protectionOf defaultRefusal defaultStarted
     defaultTaken defaultOf lockRefusal lockOf unlockOf callRefusal within knownRefusal guestRefusal dmaRefusal pageRefusal registerRefusal currentOf
     unregisterRefusal isOverlayIn registerTaken registerOf unregisterTaken unregisterOf follow
@@ -83,7 +83,7 @@ bars =
 
 pub locks : Locks
 unfolding closed closedTo swapped numberOf numberAt numbersFrom listsFrom endFrom held total same kept lock.placeFrom without firstPhases phaseOf
-    lockRefusal lockOf unlockOf
+    ready lockRefusal lockOf unlockOf
 locks =
     record {
       lists-made = refl;
@@ -98,7 +98,7 @@ locks =
     }
 
 pub queries : Queries
-unfolding entriesOf ramByte numberOf numberAt numbersFrom stopAt firstPhases phaseOf queryRefusal visibilities filledBy queryOf
+unfolding entriesOf ramByte numberOf numberAt numbersFrom stopAt firstPhases phaseOf ready queryRefusal visibilities filledBy queryOf
 queries =
     record {
       marks = refl;
@@ -117,8 +117,8 @@ unfolding word writtenFrom closed closedTo swapped entriesOf ramByte operandOf a
     total same kept lock.placeFrom without span nextOf anyOf anyIn renewedFrom operationOf ask end halt keep shareRun defaultRun returnRun afterFlush
     afterWait afterModify afterAccept failedModify doneOf failedOf cleared startOf protect changes.ask wait finish changes.halt changes.keep
     protectPages protectRam changes.doneOf changes.failedOf startNew startOld firstPhases phaseOf askedOf flatOf stageOf applied entered carriedOut
-    carriedChange firstRefusal visibilityRefusal visibilityTaken visibilityOf answerRefusal afterDone afterFailed answerDone answerFailed
-    protectionRefusal protectionTaken protectionOf defaultRefusal defaultStarted defaultTaken defaultOf lockRefusal lockOf unlockOf stateRefusal
+    carriedChange firstRefusal ready visibilityRefusal visibilityTaken visibilityOf answerRefusal afterDone afterFailed answerDone answerFailed
+    protectionRefusal protectionTaken protectionOf defaultRefusal defaultStarted defaultTaken defaultOf lockRefusal lockOf unlockOf
     enableRefusal enableOf enabledIn defaultIn callRefusal within knownRefusal guestRefusal dmaRefusal pageRefusal registerRefusal currentOf
     unregisterRefusal isOverlayIn registerTaken registerOf unregisterTaken unregisterOf queryRefusal visibilities filledBy queryOf faultIn lowerIn
     accessIn follow

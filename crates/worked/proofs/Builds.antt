@@ -3,13 +3,13 @@ use mathlib.Core.Path.{refl}
 use Rattle.bitmap.specs.Pages.{word, writtenFrom}
 use Rattle.layout.specs.Layout.{entriesOf, ramByte, ordered, aligned, refusalOf}
 use Rattle.protector_state.specs.State.{firstPhases, phaseOf}
-use Rattle.call_refusals.specs.Refusals.{buildRefusal}
+use Rattle.call_refusals.specs.Refusals.{ready, buildRefusal}
 use Rattle.protector.specs.Calls.{buildTaken, buildOf}
-use Rattle.setting_entries.specs.Calls.{stateRefusal, enableRefusal, enableOf, enabledIn, defaultIn}
+use Rattle.setting_entries.specs.Calls.{enableRefusal, enableOf, enabledIn, defaultIn}
 use Rattle.worked.specs.Builds.{Builds}
 
 pub builds : Builds
-unfolding word writtenFrom entriesOf ramByte ordered aligned refusalOf firstPhases phaseOf buildRefusal buildTaken buildOf stateRefusal enableRefusal
+unfolding word writtenFrom entriesOf ramByte ordered aligned refusalOf firstPhases phaseOf buildRefusal buildTaken buildOf ready enableRefusal
     enableOf enabledIn defaultIn
 builds =
     record {

@@ -20,7 +20,7 @@ use Rattle.protector_state.specs.Reply.{askedOf, flatOf}
 use Rattle.protector_state.specs.Changing.{stageOf}
 use Rattle.protector.specs.Writes.{applied, entered}
 use Rattle.protector.specs.Calls.{carriedOut, carriedChange, visibilityTaken, visibilityOf, afterDone, afterFailed, answerDone, answerFailed}
-use Rattle.call_refusals.specs.Refusals.{firstRefusal, visibilityRefusal, answerRefusal}
+use Rattle.call_refusals.specs.Refusals.{ready, firstRefusal, visibilityRefusal, answerRefusal}
 use Rattle.protection_entries.specs.Calls.{protectionRefusal, protectionTaken, protectionOf, defaultRefusal, defaultStarted, defaultTaken, defaultOf}
 use Rattle.visibility_claims.specs.Calls.{follow}
 use Rattle.worked.specs.Changes.{Protections, DefaultChanges}
@@ -29,7 +29,7 @@ pub protections : Protections
 unfolding word writtenFrom closed closedTo entriesOf ramByte operandOf numberOf numberAt numbersFrom neighbours runAt pick pickPlaces tableOf runEnd
     placeFrom listsFrom held span nextOf anyOf anyIn renewedFrom protect changes.ask wait finish changes.halt changes.keep protectPages protectRam
     changes.doneOf changes.failedOf startNew startOld firstPhases phaseOf askedOf flatOf stageOf entered carriedChange firstRefusal answerRefusal
-    afterDone afterFailed answerDone answerFailed protectionRefusal protectionTaken protectionOf defaultRefusal defaultStarted defaultTaken defaultOf
+    afterDone afterFailed answerDone answerFailed ready protectionRefusal protectionTaken protectionOf defaultRefusal defaultStarted defaultTaken defaultOf
     follow
 protections =
     record {
@@ -59,7 +59,7 @@ unfolding word writtenFrom closed closedTo entriesOf ramByte operandOf numberOf 
     tableOf stopAt runEnd put placeFrom listsFrom held span nextOf anyOf anyIn renewedFrom operationOf ask end halt keep shareRun defaultRun returnRun
     afterFlush afterWait afterModify afterAccept failedModify doneOf failedOf cleared startOf protect changes.ask wait finish changes.halt
     changes.keep protectPages protectRam changes.doneOf changes.failedOf startNew startOld firstPhases phaseOf askedOf flatOf stageOf applied entered
-    carriedOut carriedChange firstRefusal visibilityRefusal visibilityTaken visibilityOf answerRefusal afterDone afterFailed answerDone answerFailed
+    carriedOut carriedChange firstRefusal ready visibilityRefusal visibilityTaken visibilityOf answerRefusal afterDone afterFailed answerDone answerFailed
     protectionRefusal protectionTaken protectionOf defaultRefusal defaultStarted defaultTaken defaultOf follow
 default-changes =
     record {

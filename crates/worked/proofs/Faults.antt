@@ -15,7 +15,7 @@ use Rattle.protector_state.specs.State.{firstPhases, phaseOf}
 use Rattle.protector_state.specs.Reply.{askedOf, flatOf}
 use Rattle.protector.specs.Writes.{applied}
 use Rattle.protector.specs.Calls.{carriedOut, visibilityTaken, visibilityOf, answerDone, answerFailed}
-use Rattle.call_refusals.specs.Refusals.{firstRefusal, visibilityRefusal, answerRefusal}
+use Rattle.call_refusals.specs.Refusals.{ready, firstRefusal, visibilityRefusal, answerRefusal}
 use Rattle.queries.specs.Queries.{faultIn, lowerIn, accessIn}
 use Rattle.visibility_claims.specs.Whole.{one, inTurn, perRun, wholeShare}
 use Rattle.visibility_claims.specs.Requested.{denial, requestedFrom, pagesIn}
@@ -26,7 +26,7 @@ pub faults : Faults
 unfolding word writtenFrom entriesOf ramByte operandOf faultOf faultRefusal pageFault numberOf numberAt numbersFrom among repeats runsOf
     neighbours runAt pick pickPlaces tableOf stopAt runEnd put placeFrom listsFrom held operationOf ask end halt keep shareRun defaultRun returnRun
     afterFlush afterWait afterModify afterAccept failedModify doneOf failedOf cleared startOf firstPhases phaseOf askedOf flatOf applied carriedOut
-    firstRefusal visibilityRefusal visibilityTaken visibilityOf answerRefusal answerDone answerFailed faultIn
+    firstRefusal ready visibilityRefusal visibilityTaken visibilityOf answerRefusal answerDone answerFailed faultIn
     denial requestedFrom pagesIn one inTurn perRun wholeShare follow
 faults =
     record {

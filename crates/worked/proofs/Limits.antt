@@ -14,7 +14,7 @@ use Rattle.protector_state.specs.Reply.{askedOf, flatOf}
 use Rattle.protector_state.specs.Changing.{stageOf}
 use Rattle.protector.specs.Writes.{entered}
 use Rattle.protector.specs.Calls.{carriedChange, afterDone, answerDone}
-use Rattle.call_refusals.specs.Refusals.{answerRefusal}
+use Rattle.call_refusals.specs.Refusals.{ready, answerRefusal}
 use Rattle.lock_entries.specs.Calls.{lockRefusal, lockOf, unlockOf}
 use Rattle.overlay_refusals.specs.Refusals.{callRefusal, within, knownRefusal, guestRefusal, dmaRefusal, pageRefusal, registerRefusal, currentOf}
 use Rattle.overlay_entries.specs.Calls.{registerTaken, registerOf}
@@ -24,7 +24,7 @@ use Rattle.worked.specs.Limits.{blocks, dmaFrom, holdings, lockBlocks, l
 pub overlay-limit : OverlayLimit
 unfolding word writtenFrom entriesOf ramByte among placeFrom listsFrom held protect changes.ask wait finish changes.doneOf startNew firstPhases
     phaseOf
-    askedOf flatOf stageOf entered carriedChange answerRefusal afterDone answerDone callRefusal within knownRefusal guestRefusal dmaRefusal
+    askedOf flatOf stageOf entered carriedChange answerRefusal afterDone answerDone ready callRefusal within knownRefusal guestRefusal dmaRefusal
     pageRefusal registerRefusal currentOf registerTaken registerOf follow dmaFrom
 overlay-limit =
     record {
@@ -39,7 +39,7 @@ overlay-limit =
 pub first-overlays : FirstOverlays
 unfolding word writtenFrom entriesOf ramByte among placeFrom listsFrom held protect changes.ask wait finish changes.doneOf startNew firstPhases
     phaseOf
-    askedOf flatOf stageOf entered carriedChange answerRefusal afterDone answerDone callRefusal within knownRefusal guestRefusal dmaRefusal
+    askedOf flatOf stageOf entered carriedChange answerRefusal afterDone answerDone ready callRefusal within knownRefusal guestRefusal dmaRefusal
     pageRefusal registerRefusal currentOf registerTaken registerOf follow registered dmaFrom holdings
 first-overlays =
     record {
@@ -49,7 +49,7 @@ first-overlays =
 pub last-overlays : LastOverlays
 unfolding word writtenFrom entriesOf ramByte among placeFrom listsFrom held protect changes.ask wait finish changes.doneOf startNew firstPhases
     phaseOf
-    askedOf flatOf stageOf entered carriedChange answerRefusal afterDone answerDone callRefusal within knownRefusal guestRefusal dmaRefusal
+    askedOf flatOf stageOf entered carriedChange answerRefusal afterDone answerDone ready callRefusal within knownRefusal guestRefusal dmaRefusal
     pageRefusal registerRefusal currentOf registerTaken registerOf follow registered dmaFrom holdings
 last-overlays =
     record {
@@ -58,7 +58,7 @@ last-overlays =
 
 pub lock-limits : LockLimits
 unfolding closed closedTo swapped numberOf numberAt numbersFrom listsFrom endFrom held total same kept lock.placeFrom without firstPhases phaseOf
-    lockRefusal lockOf unlockOf tablesFrom lockSingles singlesFrom
+    ready lockRefusal lockOf unlockOf tablesFrom lockSingles singlesFrom
 lock-limits =
     record {
       none = refl;
@@ -70,7 +70,7 @@ lock-limits =
 
 pub page-limits : PageLimits
 unfolding closed closedTo swapped numberOf numberAt numbersFrom listsFrom endFrom held total same kept lock.placeFrom without firstPhases phaseOf
-    lockRefusal lockOf unlockOf lockBlocks tablesFrom blocks
+    ready lockRefusal lockOf unlockOf lockBlocks tablesFrom blocks
 page-limits =
     record {
       pages-1024 = refl;

@@ -26,7 +26,7 @@ use Rattle.permissions.specs.declared.GuestVtl.the-variants.{Vtl0}
 use Rattle.call_refusals.specs.World.{fits}
 use Rattle.protector.specs.Writes.{applied, entered}
 use Rattle.protector.specs.Calls.{decided, carriedOut, carriedChange, visibilityTaken, visibilityOf, afterDone, afterFailed, answerDone, answerFailed}
-use Rattle.call_refusals.specs.Refusals.{firstRefusal, visibilityRefusal, answerRefusal}
+use Rattle.call_refusals.specs.Refusals.{ready, firstRefusal, visibilityRefusal, answerRefusal}
 use Rattle.protection_entries.specs.Calls.{protectionRefusal, protectionTaken, protectionOf, defaultRefusal, defaultStarted, defaultTaken, defaultOf}
 use Rattle.lock_entries.specs.Calls.{lockRefusal, lockOf, unlockOf}
 use Rattle.queries.specs.Queries.{queryRefusal, visibilities, filledBy, queryOf}
@@ -63,7 +63,7 @@ unfolding word writtenFrom closed closedTo swapped entriesOf ramByte operandOf n
     pickPlaces tableOf stopAt runEnd put placeFrom listsFrom endFrom held total same kept lock.placeFrom without span nextOf anyOf anyIn renewedFrom
     operationOf ask end halt keep shareRun defaultRun returnRun afterFlush afterWait afterModify afterAccept failedModify doneOf failedOf cleared
     startOf protect changes.ask wait finish changes.halt changes.keep protectPages protectRam changes.doneOf changes.failedOf startNew startOld
-    firstPhases phaseOf askedOf flatOf stageOf applied entered carriedOut carriedChange firstRefusal visibilityRefusal visibilityTaken visibilityOf
+    firstPhases phaseOf askedOf flatOf stageOf applied entered carriedOut carriedChange firstRefusal ready visibilityRefusal visibilityTaken visibilityOf
     answerRefusal afterDone afterFailed answerDone answerFailed protectionRefusal protectionTaken protectionOf defaultRefusal defaultStarted
     defaultTaken defaultOf lockRefusal lockOf unlockOf queryRefusal visibilities filledBy queryOf follow listed
 lists =

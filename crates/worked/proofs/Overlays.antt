@@ -19,7 +19,7 @@ use Rattle.protector_state.specs.Reply.{askedOf, flatOf}
 use Rattle.protector_state.specs.Changing.{stageOf}
 use Rattle.protector.specs.Writes.{entered}
 use Rattle.protector.specs.Calls.{carriedChange, afterDone, afterFailed, answerDone, answerFailed}
-use Rattle.call_refusals.specs.Refusals.{firstRefusal, answerRefusal}
+use Rattle.call_refusals.specs.Refusals.{ready, firstRefusal, answerRefusal}
 use Rattle.protection_entries.specs.Calls.{protectionRefusal, protectionTaken, protectionOf, defaultRefusal, defaultStarted, defaultTaken, defaultOf}
 use Rattle.overlay_refusals.specs.Refusals.{callRefusal, within, knownRefusal, guestRefusal, dmaRefusal, pageRefusal, registerRefusal, currentOf, unregisterRefusal}
 use Rattle.overlay_entries.specs.Calls.{isOverlayIn, registerTaken, registerOf, unregisterTaken, unregisterOf}
@@ -31,7 +31,7 @@ unfolding word writtenFrom closed closedTo entriesOf ramByte operandOf numberOf 
     runEnd
     placeFrom listsFrom held span nextOf anyOf anyIn renewedFrom protect changes.ask wait finish changes.halt changes.keep protectPages protectRam
     changes.doneOf changes.failedOf startNew startOld firstPhases phaseOf askedOf flatOf stageOf entered carriedChange firstRefusal answerRefusal
-    afterDone afterFailed answerDone answerFailed protectionRefusal protectionTaken protectionOf defaultRefusal defaultStarted defaultTaken defaultOf
+    afterDone afterFailed answerDone answerFailed ready protectionRefusal protectionTaken protectionOf defaultRefusal defaultStarted defaultTaken defaultOf
     callRefusal within knownRefusal guestRefusal dmaRefusal pageRefusal registerRefusal currentOf unregisterRefusal isOverlayIn registerTaken
     registerOf unregisterTaken unregisterOf follow
 new-overlays =
@@ -83,7 +83,7 @@ pub known-overlays : KnownOverlays
 unfolding word writtenFrom closed closedTo entriesOf ramByte operandOf numberOf numberAt numbersFrom neighbours runAt pick pickPlaces tableOf runEnd
     placeFrom listsFrom held span nextOf anyOf anyIn renewedFrom protect changes.ask wait finish changes.halt changes.keep protectPages protectRam
     changes.doneOf changes.failedOf startNew startOld firstPhases phaseOf askedOf flatOf stageOf entered carriedChange firstRefusal answerRefusal
-    afterDone afterFailed answerDone answerFailed protectionRefusal protectionTaken protectionOf defaultRefusal defaultStarted defaultTaken defaultOf
+    afterDone afterFailed answerDone answerFailed ready protectionRefusal protectionTaken protectionOf defaultRefusal defaultStarted defaultTaken defaultOf
     callRefusal within knownRefusal guestRefusal dmaRefusal pageRefusal registerRefusal currentOf unregisterRefusal isOverlayIn registerTaken
     registerOf unregisterTaken unregisterOf follow
 known-overlays =

@@ -20,7 +20,7 @@ use Rattle.protector_state.specs.Reply.{askedOf, flatOf}
 use Rattle.protector_state.specs.Changing.{stageOf}
 use Rattle.protector.specs.Writes.{applied, entered}
 use Rattle.protector.specs.Calls.{carriedOut, carriedChange, visibilityTaken, visibilityOf, afterDone, afterFailed, answerDone, answerFailed}
-use Rattle.call_refusals.specs.Refusals.{firstRefusal, visibilityRefusal, answerRefusal}
+use Rattle.call_refusals.specs.Refusals.{ready, firstRefusal, visibilityRefusal, answerRefusal}
 use Rattle.protection_entries.specs.Calls.{protectionRefusal, protectionTaken, protectionOf, defaultRefusal, defaultStarted, defaultTaken, defaultOf}
 use Rattle.visibility_claims.specs.Calls.{follow}
 use Rattle.worked.specs.Shares.{Operations, Moves, Stops, Calls, Failures}
@@ -28,7 +28,7 @@ use Rattle.worked.specs.Shares.{Operations, Moves, Stops, Calls, Failure
 pub operations : Operations
 unfolding word writtenFrom entriesOf ramByte operandOf numberOf numberAt numbersFrom among repeats neighbours runAt pick pickPlaces tableOf stopAt
     runEnd put placeFrom listsFrom held operationOf ask end halt keep shareRun defaultRun returnRun afterFlush afterWait afterModify afterAccept
-    failedModify doneOf failedOf cleared startOf firstPhases phaseOf askedOf flatOf applied carriedOut firstRefusal visibilityRefusal visibilityTaken
+    failedModify doneOf failedOf cleared startOf firstPhases phaseOf askedOf flatOf applied carriedOut firstRefusal ready visibilityRefusal visibilityTaken
     visibilityOf answerRefusal answerDone answerFailed follow
 operations =
     record {
@@ -52,7 +52,7 @@ operations =
 pub moves : Moves
 unfolding word writtenFrom entriesOf ramByte operandOf numberOf numberAt numbersFrom among repeats neighbours runAt pick pickPlaces tableOf stopAt
     runEnd put placeFrom listsFrom held operationOf ask end halt keep shareRun defaultRun returnRun afterFlush afterWait afterModify afterAccept
-    failedModify doneOf failedOf cleared startOf firstPhases phaseOf askedOf flatOf applied carriedOut firstRefusal visibilityRefusal visibilityTaken
+    failedModify doneOf failedOf cleared startOf firstPhases phaseOf askedOf flatOf applied carriedOut firstRefusal ready visibilityRefusal visibilityTaken
     visibilityOf answerRefusal answerDone answerFailed follow
 moves =
     record {
@@ -77,7 +77,7 @@ unfolding word writtenFrom closed closedTo entriesOf ramByte operandOf numberOf 
     tableOf stopAt runEnd put placeFrom listsFrom held span nextOf anyOf anyIn renewedFrom operationOf ask end halt keep shareRun defaultRun returnRun
     afterFlush afterWait afterModify afterAccept failedModify doneOf failedOf cleared startOf protect changes.ask wait finish changes.halt
     changes.keep protectPages protectRam changes.doneOf changes.failedOf startNew startOld firstPhases phaseOf askedOf flatOf stageOf applied entered
-    carriedOut carriedChange firstRefusal visibilityRefusal visibilityTaken visibilityOf answerRefusal afterDone afterFailed answerDone answerFailed
+    carriedOut carriedChange firstRefusal ready visibilityRefusal visibilityTaken visibilityOf answerRefusal afterDone afterFailed answerDone answerFailed
     protectionRefusal protectionTaken protectionOf defaultRefusal defaultStarted defaultTaken defaultOf follow
 stops =
     record {
@@ -104,7 +104,7 @@ stops =
 pub calls : Calls
 unfolding word writtenFrom entriesOf ramByte operandOf numberOf numberAt numbersFrom among repeats neighbours runAt pick pickPlaces tableOf stopAt
     runEnd put placeFrom listsFrom held operationOf ask end halt keep shareRun defaultRun returnRun afterFlush afterWait afterModify afterAccept
-    failedModify doneOf failedOf cleared startOf firstPhases phaseOf askedOf flatOf applied carriedOut firstRefusal visibilityRefusal visibilityTaken
+    failedModify doneOf failedOf cleared startOf firstPhases phaseOf askedOf flatOf applied carriedOut firstRefusal ready visibilityRefusal visibilityTaken
     visibilityOf answerRefusal answerDone answerFailed follow
 calls =
     record {
@@ -124,7 +124,7 @@ calls =
 pub failures : Failures
 unfolding word writtenFrom entriesOf ramByte operandOf numberOf numberAt numbersFrom among repeats neighbours runAt pick pickPlaces tableOf stopAt
     runEnd put placeFrom listsFrom held operationOf ask end halt keep shareRun defaultRun returnRun afterFlush afterWait afterModify afterAccept
-    failedModify doneOf failedOf cleared startOf firstPhases phaseOf askedOf flatOf applied carriedOut firstRefusal visibilityRefusal visibilityTaken
+    failedModify doneOf failedOf cleared startOf firstPhases phaseOf askedOf flatOf applied carriedOut firstRefusal ready visibilityRefusal visibilityTaken
     visibilityOf answerRefusal answerDone answerFailed follow
 failures =
     record {
