@@ -4,6 +4,7 @@ use mathlib.Core.Bool.{Bool, true, false, not, cond, _||_, _&&_}
 use mathlib.Core.List.{List, [], _∷_}
 use Prim.Native.Nat.{ℕ, zero, suc, _+_, _-_, _*_, _/_, _%_, _^_, _≤_, _<_, min, max}
 use lib.Dec.{eqb, leb, ltb}
+use Rattle.abi.specs.Lengths.{pageSize, wordBits}
 use Rattle.bitmap.specs.Pages.{bitAt}
 use Rattle.layout.specs.declared.MemoryRange.{MemoryRange}
 use Rattle.layout.specs.declared.MemoryRangeWithNode.{MemoryRangeWithNode}
@@ -18,14 +19,14 @@ abbrev pub chunkCount : ℕ → List MemoryRangeWithNode → ℕ
 chunkCount g es = up (lastEnd es) g
 
 abbrev pub mapWords : ℕ → List MemoryRangeWithNode → ℕ
-mapWords g es = up (chunkCount g es) 64
+mapWords g es = up (chunkCount g es) wordBits
 
 -- the chunks of a request, by way of its pages: the first, and the one after the last
 abbrev pub firstChunk : ℕ → ℕ → ℕ
-firstChunk g address = address / 4096 / (g / 4096)
+firstChunk g address = address / pageSize / (g / pageSize)
 
 abbrev pub endChunk : ℕ → ℕ → ℕ → ℕ
-endChunk g address len = up (up (address + len) 4096) (g / 4096)
+endChunk g address len = up (up (address + len) pageSize) (g / pageSize)
 
 -- a power of two that 64 bits hold
 unfoldable pub powerFrom : ℕ → ℕ → ℕ → Bool
@@ -33,7 +34,7 @@ powerFrom n k zero = false
 powerFrom n k (suc m) = eqb n (2 ^ k) || powerFrom n (suc k) m
 
 abbrev pub isPower : ℕ → Bool
-isPower n = powerFrom n 0 64
+isPower n = powerFrom n 0 wordBits
 
 abbrev pub empty : MemoryRange → Bool
 empty r = leb (r .end) (r .start)
@@ -67,7 +68,7 @@ pub record Ahead (P : ℕ → Bool) (c e n : ℕ) : Type 0 where
 
 -- a chunk that has not failed, and is registered or not
 abbrev pub alike : List ℕ → List ℕ → Bool → ℕ → Bool
-alike registered failed b c = not (bitAt 64 failed c) && cond b (bitAt 64 registered c) (not (bitAt 64 registered c))
+alike registered failed b c = not (bitAt wordBits failed c) && cond b (bitAt wordBits registered c) (not (bitAt wordBits registered c))
 
 -- the aligned part of a span, empty where there is none
 abbrev pub alignedPart : ℕ → MemoryRange → MemoryRange

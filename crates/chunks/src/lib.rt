@@ -4,13 +4,20 @@ ghost use Prim.Native.Nat.{ℕ, _+_, _-_, _*_, _/_, _<_, _≤_, _^_, min, max};
 ghost use mathlib.Core.Bool.{true, cond, _&&_};
 ghost use lib.Dec.{eqb, ltb};
 ghost use lib.ListN.{getD};
+ghost use Rattle.abi.specs.Lengths.{pageSize, wordBits};
 ghost use Rattle.laws.specs.Bools.{digit};
 ghost use Rattle.laws.specs.Ranges.{between};
 ghost use Rattle.bitmap.specs.Pages.{bitAt, written, words};
 ghost use Rattle.layout.specs.Layout.{entriesOf, spans};
 ghost use Rattle.chunks.specs.Chunks.{up, chunkCount, firstChunk, endChunk, isPower, pieces, firstOf, alike, firstNot, Ahead, alignedPart, edgeOf, entryWith};
+use abi::FULL_WORD;
+use abi::PAGE_SIZE;
+use abi::WORD_BITS;
 use layout::MemoryRange;
 use layout::MemoryRangeWithNode;
+
+// A shift of a word is below it: WORD_BITS as the type that a shift is counted in.
+const SHIFT_END: u32 = 64;
 
 // A shift where g is a power of two.
 pub fn div(n: u64, g: u64) -> u64
@@ -20,7 +27,7 @@ pub fn div(n: u64, g: u64) -> u64
         return 0;
     }
     let k = u64::trailing_zeros(g);
-    if k < 64 {
+    if k < SHIFT_END {
         if g == 1u64 << k {
             return n >> k;
         }
@@ -43,35 +50,35 @@ pub fn chunk_count(ram: &[u64], g: u64) -> u64
 
 // How many words a bitmap of n chunks has.
 pub fn map_words(n: u64) -> u64
-    ensures { λ r. ⌜ r ≡ up n 64 ⌝ }
+    ensures { λ r. ⌜ r ≡ up n wordBits ⌝ }
 {
-    div_ceil(n, 64)
+    div_ceil(n, WORD_BITS)
 }
 
 // The page after a request's last.
 fn page_end(address: u64, len: u64) -> u64
-    ensures { λ r. ⌜ r ≡ up (address + len) 4096 ⌝ }
+    ensures { λ r. ⌜ r ≡ up (address + len) pageSize ⌝ }
 {
-    address / 4096 + len / 4096 + div_ceil(address % 4096 + len % 4096, 4096)
+    address / PAGE_SIZE + len / PAGE_SIZE + div_ceil(address % PAGE_SIZE + len % PAGE_SIZE, PAGE_SIZE)
 }
 
 pub fn first_chunk(g: u64, address: u64) -> u64
     ensures { λ r. ⌜ r ≡ firstChunk g address ⌝ }
 {
-    div(address / 4096, g / 4096)
+    div(address / PAGE_SIZE, g / PAGE_SIZE)
 }
 
 pub fn end_chunk(g: u64, address: u64, len: u64) -> u64
     ensures { λ r. ⌜ r ≡ endChunk g address len ⌝ }
 {
-    div_ceil(page_end(address, len), g / 4096)
+    div_ceil(page_end(address, len), g / PAGE_SIZE)
 }
 
 pub fn is_power_of_two(n: u64) -> bool
     ensures { λ r. ⌜ r ≡ isPower n ⌝ }
 {
     let mut k: u64 = 0;
-    while k < 64 {
+    while k < WORD_BITS {
         if n == 1u64 << k {
             return true;
         }
@@ -121,15 +128,15 @@ pub fn next_ram(ram: &[u64], g: u64, c: u64, x: u64) -> MemoryRange
     if c < div(x, g) {
         return MemoryRange { start: 0, end: 0 };
     }
-    ram_before(ram, x, chunk_end(c, g, 0xffff_ffff_ffff_ffff))
+    ram_before(ram, x, chunk_end(c, g, FULL_WORD))
 }
 
 // The address g bytes after `start`, or the last 64-bit number if that comes first.
 fn end_from(start: u64, g: u64) -> u64
     ensures { λ r. ⌜ r ≡ min (start + g) (2 ^ 64 - 1) ⌝ }
 {
-    if 0xffff_ffff_ffff_ffff - start < g {
-        0xffff_ffff_ffff_ffff
+    if FULL_WORD - start < g {
+        FULL_WORD
     } else {
         start + g
     }
@@ -145,7 +152,7 @@ pub fn chunk_ram(ram: &[u64], g: u64, start: u64) -> MemoryRange
 fn full(set: bool) -> u64
     ensures { λ r. ⌜ r ≡ digit set * (2 ^ 64 - 1) ⌝ }
 {
-    if set { 0xffff_ffff_ffff_ffff } else { 0 }
+    if set { FULL_WORD } else { 0 }
 }
 
 // Whether a chunk has not failed, and is registered or not.
@@ -177,10 +184,10 @@ fn alike_here(registered: &[u64], failed: &[u64], set: bool, c: u64, to: u64) ->
     requires { ⌜ c < to ⌝ }
     ensures { λ r. ⌜ Ahead (alike (now (registered .entry)) (now (failed .entry)) set) c to r ⌝ }
 {
-    if c % 64 == 0 {
-        if 64 <= to - c {
-            if is_alike_word(registered, failed, set, c / 64) {
-                return 64;
+    if c % WORD_BITS == 0 {
+        if WORD_BITS <= to - c {
+            if is_alike_word(registered, failed, set, c / WORD_BITS) {
+                return WORD_BITS;
             }
         }
     }
@@ -218,12 +225,12 @@ pub fn run_end(registered: &[u64], failed: &[u64], set: bool, from: u64, to: u64
 // How many chunks from c on are set, of those before `to`: a whole word, one, or none.
 fn set_here(map: &[u64], c: u64, to: u64) -> u64
     requires { ⌜ c < to ⌝ }
-    ensures { λ r. ⌜ Ahead (bitAt 64 (now (map .entry))) c to r ⌝ }
+    ensures { λ r. ⌜ Ahead (bitAt wordBits (now (map .entry))) c to r ⌝ }
 {
-    if c % 64 == 0 {
-        if 64 <= to - c {
-            if numbers::word_at(map, c / 64) == 0xffff_ffff_ffff_ffff {
-                return 64;
+    if c % WORD_BITS == 0 {
+        if WORD_BITS <= to - c {
+            if numbers::word_at(map, c / WORD_BITS) == FULL_WORD {
+                return WORD_BITS;
             }
         }
     }
@@ -232,7 +239,7 @@ fn set_here(map: &[u64], c: u64, to: u64) -> u64
 
 // The first chunk from `from` to before `to` that is not set.
 pub fn first_clear(map: &[u64], from: u64, to: u64) -> u64
-    ensures { λ r. ⌜ r ≡ firstNot (bitAt 64 (now (map .entry))) from to ⌝ }
+    ensures { λ r. ⌜ r ≡ firstNot (bitAt wordBits (now (map .entry))) from to ⌝ }
 {
     let mut c = from;
     while c < to {
@@ -315,7 +322,7 @@ pub fn entry_with(ram: &[u64], r: MemoryRange) -> MemoryRangeWithNode
 
 // A whole word of chunks; nothing past the end.
 fn fill_word(map: &mut [u64], i: u64)
-    ensures { λ _. ⌜ now (map .exit) ≡ written 64 (words 64 i (i + 1)) true (now (map .entry)) ⌝ }
+    ensures { λ _. ⌜ now (map .exit) ≡ written wordBits (words wordBits i (i + 1)) true (now (map .entry)) ⌝ }
 {
     let k = i as usize;
     if k < map.len() {
@@ -326,12 +333,12 @@ fn fill_word(map: &mut [u64], i: u64)
 // Some chunks from c on, a whole word or one, and the chunk after them.
 fn set_some(map: &mut [u64], c: u64, to: u64) -> u64
     requires { ⌜ c < to ⌝ }
-    ensures { λ r. ⌜ (c < r) × (r ≤ to) × (now (map .exit) ≡ written 64 (between c r) true (now (map .entry))) ⌝ }
+    ensures { λ r. ⌜ (c < r) × (r ≤ to) × (now (map .exit) ≡ written wordBits (between c r) true (now (map .entry))) ⌝ }
 {
-    if c % 64 == 0 {
-        if 64 <= to - c {
-            fill_word(map, c / 64);
-            return c + 64;
+    if c % WORD_BITS == 0 {
+        if WORD_BITS <= to - c {
+            fill_word(map, c / WORD_BITS);
+            return c + WORD_BITS;
         }
     }
     bitmap::set(map, c, true);
@@ -340,14 +347,14 @@ fn set_some(map: &mut [u64], c: u64, to: u64) -> u64
 
 // The chunk after the last that is before `to` and of a map of `len` words.
 fn stop_at(len: u64, to: u64) -> u64
-    ensures { λ r. ⌜ r ≡ min to (len * 64) ⌝ }
+    ensures { λ r. ⌜ r ≡ min to (len * wordBits) ⌝ }
 {
-    if to / 64 < len { to } else { len * 64 }
+    if to / WORD_BITS < len { to } else { len * WORD_BITS }
 }
 
 // The chunks from `from` to before `to`, set; nothing past the end.
 pub fn set_chunks(map: &mut [u64], from: u64, to: u64)
-    ensures { λ _. ⌜ now (map .exit) ≡ written 64 (between from to) true (now (map .entry)) ⌝ }
+    ensures { λ _. ⌜ now (map .exit) ≡ written wordBits (between from to) true (now (map .entry)) ⌝ }
 {
     let stop = stop_at(map.len() as u64, to);
     let mut c = from;

@@ -9,6 +9,7 @@ use lib.Dec.{eqb, leb, ltb}
 use lib.ListN.{length, getD, drop, take, set, replicate, length-drop}
 use lib.Seq.{getD-drop, set-at, take-suc, take-length, length-take-le}
 use borrow.Author.Tests.{eqb-true, eq-eqb, ne-eqb, lt-ltb, le-ltb, le-leb, lt-leb}
+use Rattle.abi.specs.Lengths.{ramLen, registrarLen, wordBits}
 use Rattle.laws.specs.Ranges.{between, between-false}
 use Rattle.laws.specs.Refusal.{unless, passed, refused, answered}
 use Rattle.bitmap.specs.Pages.{bitAt}
@@ -57,7 +58,7 @@ module _ (w : World) (address len g f e : ℕ) (hg : g ≡ granularityOf (w .sta
   touched-plan = ap₂ (registerFrom (seenIn w) (offsetOf (w .state)) 0) first-is end-is
 
 -- a request that finds its chunks registered
-pub call-known : (w : World) (n address len : ℕ) (r : Reply) → n ≡ registerRefusal w address len → n ≡ 0 → length (w .state) ≡ 108
+pub call-known : (w : World) (n address len : ℕ) (r : Reply) → n ≡ registerRefusal w address len → n ≡ 0 → length (w .state) ≡ registrarLen
     → isKnown (w .state) (w .registered) (firstChunk (granularityOf (w .state)) address) (endChunk (granularityOf (w .state)) address len) ≡ true → r ≡ flatOf (Done 0)
     → outcome (w .state) (w .registered) (w .failed) r ≡ decided w (registerRefusal w address len) (carriedOut w (registerPlan w address len))
 call-known w n address len r e z h k hr =
@@ -66,22 +67,22 @@ call-known w n address len r e z h k hr =
 -- ---- the state block of a call that is not refused has its length
 
 module _ (w : World) (n : ℕ) (z : n ≡ 0) where
-  pub register-long : (address len : ℕ) → n ≡ registerRefusal w address len → length (w .state) ≡ 108
+  pub register-long : (address len : ℕ) → n ≡ registerRefusal w address len → length (w .state) ≡ registrarLen
   unfolding registerRefusal
-  register-long address len e = eqb-true _ _ (passed (eqb (length (w .state)) 108) 3 _ (sym e ∙ z) .0)
+  register-long address len e = eqb-true _ _ (passed (eqb (length (w .state)) registrarLen) 3 _ (sym e ∙ z) .0)
 
-  pub all-long : (al ignore : ℕ) → n ≡ allRefusal w al ignore → length (w .state) ≡ 108
+  pub all-long : (al ignore : ℕ) → n ≡ allRefusal w al ignore → length (w .state) ≡ registrarLen
   unfolding allRefusal
-  all-long al ignore e = eqb-true _ _ (passed (eqb (length (w .state)) 108) 3 _ (sym e ∙ z) .0)
+  all-long al ignore e = eqb-true _ _ (passed (eqb (length (w .state)) registrarLen) 3 _ (sym e ∙ z) .0)
 
-  pub answer-long : n ≡ answerRefusal w → length (w .state) ≡ 108
+  pub answer-long : n ≡ answerRefusal w → length (w .state) ≡ registrarLen
   unfolding answerRefusal
-  answer-long e = eqb-true _ _ (passed (eqb (length (w .state)) 108) 3 _ (sym e ∙ z) .0)
+  answer-long e = eqb-true _ _ (passed (eqb (length (w .state)) registrarLen) 3 _ (sym e ∙ z) .0)
 
 -- ---- a build
 
 -- a layout that is taken has 96 words at most, and the state block its length
-pub build-lengths : (w : World) (ram : List ℕ) (o g n : ℕ) → n ≡ 0 → n ≡ buildRefusal w ram o g → (length (w .state) ≡ 108) × (length ram ≤ 96)
+pub build-lengths : (w : World) (ram : List ℕ) (o g n : ℕ) → n ≡ 0 → n ≡ buildRefusal w ram o g → (length (w .state) ≡ registrarLen) × (length ram ≤ ramLen)
 build-lengths w ram o g n z e =
     let t = build-fits w ram o g (sym e ∙ z) in
     let k = fit ram (t .layout) in
@@ -90,20 +91,20 @@ build-lengths w ram o g n z e =
 -- the block while it is filled
 abbrev pub filledTo : List ℕ → ℕ → ℕ → ℕ → List ℕ
 filledTo ram o g i =
-    0 ∷ 0 ∷ 0 ∷ 0 ∷ 0 ∷ 0 ∷ 0 ∷ 0 ∷ 0 ∷ o ∷ g ∷ length (entriesOf ram) ∷ (take i ram ++ replicate (96 - i) 0)
+    0 ∷ 0 ∷ 0 ∷ 0 ∷ 0 ∷ 0 ∷ 0 ∷ 0 ∷ 0 ∷ o ∷ g ∷ length (entriesOf ram) ∷ (take i ram ++ replicate (ramLen - i) 0)
 
-pub filled-none : (s ram : List ℕ) (o g n : ℕ) → length s ≡ 108 → n ≡ length (entriesOf ram) → set (set (set (replicate (length s) 0) 9 o) 10 g) 11 n ≡ filledTo ram o g 0
+pub filled-none : (s ram : List ℕ) (o g n : ℕ) → length s ≡ registrarLen → n ≡ length (entriesOf ram) → set (set (set (replicate (length s) 0) 9 o) 10 g) 11 n ≡ filledTo ram o g 0
 filled-none s ram o g n h e =
     ap₂ (λ (k m : ℕ). set (set (set (replicate k 0) 9 o) 10 g) 11 m) h e
 
-filled-next : (ram : List ℕ) (i : ℕ) → i < length ram → i < 96 → set (take i ram ++ replicate (96 - i) 0) i (getD ram i 0) ≡ take (i + 1) ram ++ replicate (96 - (i + 1)) 0
+filled-next : (ram : List ℕ) (i : ℕ) → i < length ram → i < ramLen → set (take i ram ++ replicate (ramLen - i) 0) i (getD ram i 0) ≡ take (i + 1) ram ++ replicate (ramLen - (i + 1)) 0
 filled-next ram i h k =
-    let d : 96 - i ≡ suc (96 - (i + 1)) = omega arith in
+    let d : ramLen - i ≡ suc (ramLen - (i + 1)) = omega arith in
     ap (λ (m : ℕ). set (take i ram ++ replicate m 0) i (getD ram i 0)) d
-    ∙ set-at (take i ram) 0 (replicate (96 - (i + 1)) 0) (getD ram i 0) i (length-take-le i ram (omega arith))
-    ∙ sym (ap (λ (l : List ℕ). l ++ replicate (96 - (i + 1)) 0) (ap (λ (m : ℕ). take m ram) (add-one i) ∙ take-suc ram i 0 h) ∙ append-assoc (take i ram) (getD ram i 0 ∷ []) (replicate (96 - (i + 1)) 0))
+    ∙ set-at (take i ram) 0 (replicate (ramLen - (i + 1)) 0) (getD ram i 0) i (length-take-le i ram (omega arith))
+    ∙ sym (ap (λ (l : List ℕ). l ++ replicate (ramLen - (i + 1)) 0) (ap (λ (m : ℕ). take m ram) (add-one i) ∙ take-suc ram i 0 h) ∙ append-assoc (take i ram) (getD ram i 0 ∷ []) (replicate (ramLen - (i + 1)) 0))
 
-pub filled-more : (ram : List ℕ) (o g i : ℕ) → i < length ram → i < 96 → set (filledTo ram o g i) (12 + i) (getD ram i 0) ≡ filledTo ram o g (i + 1)
+pub filled-more : (ram : List ℕ) (o g i : ℕ) → i < length ram → i < ramLen → set (filledTo ram o g i) (12 + i) (getD ram i 0) ≡ filledTo ram o g (i + 1)
 filled-more ram o g i h k =
     let d : 12 + i ≡ suc (suc (suc (suc (suc (suc (suc (suc (suc (suc (suc (suc i))))))))))) = omega arith in
     ap (λ (m : ℕ). set (filledTo ram o g i) m (getD ram i 0)) d
@@ -112,7 +113,7 @@ filled-more ram o g i h k =
 pub filled-all : (ram : List ℕ) (o g i : ℕ) → length ram ≤ i → i ≤ length ram → filledTo ram o g i ≡ builtState ram o g
 filled-all ram o g i h k =
     let d : i ≡ length ram = omega arith in
-    ap (filledTo ram o g) d ∙ ap (λ (l : List ℕ). 0 ∷ 0 ∷ 0 ∷ 0 ∷ 0 ∷ 0 ∷ 0 ∷ 0 ∷ 0 ∷ o ∷ g ∷ length (entriesOf ram) ∷ (l ++ replicate (96 - length ram) 0)) (take-length ram)
+    ap (filledTo ram o g) d ∙ ap (λ (l : List ℕ). 0 ∷ 0 ∷ 0 ∷ 0 ∷ 0 ∷ 0 ∷ 0 ∷ 0 ∷ 0 ∷ o ∷ g ∷ length (entriesOf ram) ∷ (l ++ replicate (ramLen - length ram) 0)) (take-length ram)
 
 -- ---- a plan carried out
 
@@ -183,7 +184,7 @@ module _ (w : World) (n count from until : ℕ) (hn : n ≡ chunkCount (granular
 
   answer-is : answered-of plan ≡ flatOf (plan .answer)
   unfolding registerFrom answered-of
-  answer-is = go (ltb t e) (bitAt 64 (w .failed) t) refl
+  answer-is = go (ltb t e) (bitAt wordBits (w .failed) t) refl
     where
       e : ℕ
       e = min until (chunkCount (granularityOf (w .state)) (entriesIn (w .state)))
@@ -206,8 +207,8 @@ module _ (w : World) (n count from until : ℕ) (hn : n ≡ chunkCount (granular
       go false y h = rw (hn, h)
 
   -- the state block keeps its length and its granularity
-  pub go-kept : (s m : List ℕ) (c : ℕ) → Stored w plan s m c → length (w .state) ≡ 108 → (c < min until n → c * granularityOf (w .state) < 2 ^ 64)
-      → (length s ≡ 108) × (c < min until n → c * granularityOf s < 2 ^ 64)
+  pub go-kept : (s m : List ℕ) (c : ℕ) → Stored w plan s m c → length (w .state) ≡ registrarLen → (c < min until n → c * granularityOf (w .state) < 2 ^ 64)
+      → (length s ≡ registrarLen) × (c < min until n → c * granularityOf s < 2 ^ 64)
   go-kept s m c h k f =
       let same : granularityOf s ≡ granularityOf (w .state) = ap granularityOf (h .0) ∙ kept-at (w .state) 1 in
       (ap length (h .0) ∙ omega (arith, length-drop 9 (w .state)), λ l. omega (arith, ap (λ (g : ℕ). c * g) same, f l))
@@ -220,7 +221,7 @@ module _ (w : World) (n count from until : ℕ) (hn : n ≡ chunkCount (granular
 -- ---- an operation done
 
 none-marked : (a : ℕ) (m : List ℕ) → m ≡ marked a a m
-none-marked a m = none 64 (between a a) true m (λ j k l d. between-false a a (j * 64 + k) (λ x y. omega arith))
+none-marked a m = none wordBits (between a a) true m (λ j k l d. between-false a a (j * wordBits + k) (λ x y. omega arith))
 
 module _ (w : World) (q : Request) (e : q ≡ requestOf (w .state)) where
   -- RAM of the chunk is left: it is asked for

@@ -5,21 +5,28 @@ ghost use mathlib.Core.List.{List};
 ghost use Prim.Native.Nat.{ℕ, _+_, _*_, _%_, _≤_, _<_, _^_, min};
 ghost use lib.Dec.{eqb, ltb};
 ghost use lib.ListN.{length, getD};
+ghost use Rattle.abi.specs.Kinds as kind;
+ghost use Rattle.abi.specs.Refusals as refusal;
+ghost use Rattle.abi.specs.RegistrarPlaces as place;
+ghost use Rattle.abi.specs.Lengths.{ramLen, registrarLen};
 ghost use Rattle.layout.specs.Layout.{spans};
 ghost use Rattle.chunks.specs.Chunks.{chunkCount};
 ghost use Rattle.registrar_steps.specs.declared.Plan.{Plan};
 ghost use Rattle.registrar_steps.specs.Steps.{askedOf, pieceOf, registerFrom, allFrom};
 ghost use Rattle.registrar_state.specs.World.{World, world, outcome, withRequest, offsetOf, granularityOf, entriesIn, seenIn, simple, flatOf, builtState, marked, carriedOut, buildOf, registerOf, allOf, failedOf, donePlan, afterTaken, doneOf};
+use abi::kind;
+use abi::refusal;
+use abi::registrar_place as place;
 use layout::MemoryRange;
 use registrar_state::Reply;
 use registrar_steps::Answer;
 
 // A piece of RAM of the chunks from `from` to before `to` is asked for.
 fn ask(state: &mut [u64], count: u64, from: u64, to: u64, until: u64, r: MemoryRange) -> Reply
-    requires { ⌜ length (now state) ≡ 108 ⌝ }
+    requires { ⌜ length (now state) ≡ registrarLen ⌝ }
     ensures { λ a. ⌜ (now (state .exit) ≡ withRequest (pieceOf count from to until r) (now (state .entry))) × (a ≡ flatOf (askedOf (offsetOf (now (state .entry))) (pieceOf count from to until r))) ⌝ }
 {
-    let offset = state[9];
+    let offset = state[place::OFFSET];
     registrar_state::save(state, registrar_steps::piece(count, from, to, until, r));
     let start = std::num::wrapping_add_u64(offset, r.start);
     let end = std::num::wrapping_add_u64(offset, r.end);
@@ -27,17 +34,17 @@ fn ask(state: &mut [u64], count: u64, from: u64, to: u64, until: u64, r: MemoryR
 }
 
 fn build_state(state: &mut [u64], ram: &[u64], offset: u64, granularity: u64)
-    requires { ⌜ (length (now state) ≡ 108) × (length (now ram) ≤ 96) ⌝ }
+    requires { ⌜ (length (now state) ≡ registrarLen) × (length (now ram) ≤ ramLen) ⌝ }
     ensures { λ _. ⌜ now (state .exit) ≡ builtState (now (ram .entry)) offset granularity ⌝ }
 {
     let n = layout::entry_count(ram);
     words::clear(state);
-    state[9] = offset;
-    state[10] = granularity;
-    state[11] = n;
+    state[place::OFFSET] = offset;
+    state[place::GRANULARITY] = granularity;
+    state[place::ENTRIES] = n;
     let mut i: usize = 0;
     while i < ram.len() {
-        state[12 + i] = ram[i];
+        state[place::RAM + i] = ram[i];
         i += 1;
     }
 }
@@ -76,7 +83,7 @@ fn go_on(
     from: u64,
     until: u64,
 ) -> u64
-    requires { ⌜ (length (now state) ≡ 108) × (n ≡ chunkCount (granularityOf (now state)) (entriesIn (now state))) ⌝ }
+    requires { ⌜ (length (now state) ≡ registrarLen) × (n ≡ chunkCount (granularityOf (now state)) (entriesIn (now state))) ⌝ }
     ensures { λ c. ⌜ (let w : World = world (now (state .entry)) (now (registered .entry)) (now (failed .entry)) in let p : Plan = registerFrom (seenIn w) (offsetOf (w .state)) count from until in (now (state .exit) ≡ withRequest (p .request) (w .state)) × (now (registered .exit) ≡ marked (p .from) (p .to) (w .registered)) × (c ≡ p .to)) ⌝ }
     ensures { λ c. ⌜ (c < min until n → c * granularityOf (now (state .entry)) < 2 ^ 64) ⌝ }
 {
@@ -97,16 +104,16 @@ fn go_on(
 
 // What is answered then, of a request that stops at chunk c of n.
 fn answer(state: &[u64], n: u64, count: u64, until: u64, c: u64) -> Reply
-    requires { ⌜ (length (now state) ≡ 108) × (c < min until n → c * granularityOf (now state) < 2 ^ 64) ⌝ }
-    ensures { λ r. ⌜ (let s : List ℕ = now (state .entry) in r ≡ cond (eqb (getD s 0 0) 1) (simple 0 1 0 ((offsetOf s + getD s 4 0) % 2 ^ 64) ((offsetOf s + getD s 5 0) % 2 ^ 64) 0) (cond (ltb c (min until n)) (simple 23 0 count 0 0 (c * granularityOf s)) (simple 0 0 count 0 0 0))) ⌝ }
+    requires { ⌜ (length (now state) ≡ registrarLen) × (c < min until n → c * granularityOf (now state) < 2 ^ 64) ⌝ }
+    ensures { λ r. ⌜ (let s : List ℕ = now (state .entry) in r ≡ cond (eqb (getD s place.kind 0) kind.register) (simple 0 1 0 ((offsetOf s + getD s place.start 0) % 2 ^ 64) ((offsetOf s + getD s place.end 0) % 2 ^ 64) 0) (cond (ltb c (min until n)) (simple refusal.registrationFailed 0 count 0 0 (c * granularityOf s)) (simple 0 0 count 0 0 0))) ⌝ }
 {
-    if state[0] == 1 {
-        let start = std::num::wrapping_add_u64(state[9], state[4]);
-        let end = std::num::wrapping_add_u64(state[9], state[5]);
+    if state[place::KIND] == kind::REGISTER {
+        let start = std::num::wrapping_add_u64(state[place::OFFSET], state[place::START]);
+        let end = std::num::wrapping_add_u64(state[place::OFFSET], state[place::END]);
         return registrar_state::simple(0, 1, 0, start, end, 0);
     }
     if c < numbers::least(until, n) {
-        return registrar_state::simple(23, 0, count, 0, 0, c * state[10]);
+        return registrar_state::simple(refusal::REGISTRATION_FAILED, 0, count, 0, 0, c * state[place::GRANULARITY]);
     }
     registrar_state::simple(0, 0, count, 0, 0, 0)
 }
@@ -148,7 +155,7 @@ fn all_on(
     ignore: u64,
     c: u64,
 ) -> Reply
-    requires { ⌜ length (now state) ≡ 108 ⌝ }
+    requires { ⌜ length (now state) ≡ registrarLen ⌝ }
     ensures { λ r. ⌜ outcome (now (state .exit)) (now (registered .exit)) (now (failed .entry)) r ≡ carriedOut (world (now (state .entry)) (now (registered .entry)) (now (failed .entry))) (allFrom (seenIn (world (now (state .entry)) (now (registered .entry)) (now (failed .entry)))) (offsetOf (now (state .entry))) count alignment ignore c (spans (entriesIn (now (state .entry))))) ⌝ }
 {
     let p = registrar_state::all_plan(state, registered, failed, count, alignment, ignore, c);
@@ -181,7 +188,7 @@ pub extern "C" fn registrar_register_all_aligned(
 
 // The chunk under way becomes registered, unless some of its RAM is left.
 fn register_done(state: &mut [u64], registered: &mut [u64], failed: &[u64], n: u64) -> Reply
-    requires { ⌜ (length (now state) ≡ 108) × (n ≡ chunkCount (granularityOf (now state)) (entriesIn (now state))) × (getD (now state) 0 0 ≡ 1) ⌝ }
+    requires { ⌜ (length (now state) ≡ registrarLen) × (n ≡ chunkCount (granularityOf (now state)) (entriesIn (now state))) × (getD (now state) place.kind 0 ≡ kind.register) ⌝ }
     ensures { λ r. ⌜ outcome (now (state .exit)) (now (registered .exit)) (now (failed .entry)) r ≡ carriedOut (afterTaken (world (now (state .entry)) (now (registered .entry)) (now (failed .entry)))) (donePlan (afterTaken (world (now (state .entry)) (now (registered .entry)) (now (failed .entry))))) ⌝ }
 {
     let q = registrar_state::load(state);
@@ -195,7 +202,7 @@ fn register_done(state: &mut [u64], registered: &mut [u64], failed: &[u64], n: u
 }
 
 fn all_done(state: &mut [u64], registered: &mut [u64], failed: &[u64]) -> Reply
-    requires { ⌜ (length (now state) ≡ 108) × (getD (now state) 0 0 ≡ 1 → ⊥) ⌝ }
+    requires { ⌜ (length (now state) ≡ registrarLen) × (getD (now state) place.kind 0 ≡ kind.register → ⊥) ⌝ }
     ensures { λ r. ⌜ outcome (now (state .exit)) (now (registered .exit)) (now (failed .entry)) r ≡ carriedOut (afterTaken (world (now (state .entry)) (now (registered .entry)) (now (failed .entry)))) (donePlan (afterTaken (world (now (state .entry)) (now (registered .entry)) (now (failed .entry))))) ⌝ }
 {
     let q = registrar_state::load(state);
@@ -219,7 +226,7 @@ pub extern "C" fn registrar_answer_done(
     if k != 0 {
         return registrar_state::simple(k, 0, 0, 0, 0, 0);
     }
-    if state[0] == 1 {
+    if state[place::KIND] == kind::REGISTER {
         return register_done(state, registered, failed, n);
     }
     all_done(state, registered, failed)

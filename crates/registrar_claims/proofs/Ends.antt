@@ -9,6 +9,7 @@ use native.Mathlib.Nat.{mul-le-mul-right, suc-mul}
 use lib.Dec.{eqb, leb, ltb}
 use lib.ListN.{length, replicate}
 use borrow.Author.Tests.{eqb-false, eq-eqb, ne-eqb, ltb-true, leb-false, not-true, not-false}
+use Rattle.abi.specs.Lengths.{registrarLen, wordBits}
 use Rattle.laws.specs.Bools.{digit, and-right, both-true, false≢true}
 use Rattle.laws.specs.Refusal.{unless, passed}
 use Rattle.bitmap.specs.Pages.{bitAt}
@@ -52,7 +53,7 @@ unfolding registerFrom
 register-past s o n c last =
     let e : ℕ = min last (chunkCount (s .granularity) (s .entries)) in
     let t : ℕ = firstNot (passes s) c e in
-    go t (first-from (passes s) c e) (ltb t e) (bitAt 64 (s .failed) t)
+    go t (first-from (passes s) c e) (ltb t e) (bitAt wordBits (s .failed) t)
   where
     go : (t : ℕ) → c ≤ t → (x y : Bool)
         → Past c (cond x (cond y (ends c t (RegistrationFailed (t * s .granularity) n)) (asks o c t (pieceOf n t (t + 1) last (ramFrom (s .granularity) (s .entries) t (t * s .granularity))))) (ends c t (Done n)) .request)
@@ -70,11 +71,11 @@ module _ (registered failed : List ℕ) where
       go false true e h = false≢true (sym h)
       go false false e h = refl
 
-  stretch-past : (c e : ℕ) → let a : ℕ = firstNot (alike registered failed true) c e in a < e → bitAt 64 failed a ≡ false → c < firstNot (alike registered failed false) a e
+  stretch-past : (c e : ℕ) → let a : ℕ = firstNot (alike registered failed true) c e in a < e → bitAt wordBits failed a ≡ false → c < firstNot (alike registered failed false) a e
   stretch-past c e h f =
       let a : ℕ = firstNot (alike registered failed true) c e in
       let n : alike registered failed true a ≡ false = first-not (alike registered failed true) c e h in
-      let y : alike registered failed false a ≡ true = not-alike (bitAt 64 failed a) (bitAt 64 registered a) n f in
+      let y : alike registered failed false a ≡ true = not-alike (bitAt wordBits failed a) (bitAt wordBits registered a) n f in
       let q = first-step (alike registered failed false) a e h y in
       omega (arith, q, first-from (alike registered failed false) (a + 1) e, first-from (alike registered failed true) c e)
 
@@ -93,9 +94,9 @@ module _ (g : ℕ) (registered failed : List ℕ) (c d e : ℕ) (l : d ≤ c) wh
   b = firstNot (alike registered failed false) a e
 
   in-past : StretchPast d (stretchIn g registered failed c e)
-  in-past = go (ltb a e) refl (bitAt 64 failed a) refl (ltb b e && bitAt 64 failed b)
+  in-past = go (ltb a e) refl (bitAt wordBits failed a) refl (ltb b e && bitAt wordBits failed b)
     where
-      go : (x : Bool) → ltb a e ≡ x → (y : Bool) → bitAt 64 failed a ≡ y → (z : Bool)
+      go : (x : Bool) → ltb a e ≡ x → (y : Bool) → bitAt wordBits failed a ≡ y → (z : Bool)
           → StretchPast d (cond x (cond y (FailedBefore (a * g)) (cond z (FailedBefore (b * g)) (Stretch a b (a * g) (b * g)))) Nothing)
       go false hx y hy z = tt
       go true hx true hy z = tt
@@ -157,7 +158,7 @@ less-past q r b k h =
 asked-kind : (w : World) → answerRefusal w ≡ 0 → requestOf (w .state) .kind ≡ 0 → ⊥
 unfolding answerRefusal
 asked-kind w h =
-    let a = passed (eqb (length (w .state)) 108) 3 _ h in
+    let a = passed (eqb (length (w .state)) registrarLen) 3 _ h in
     let b = passed (lengthsFit (granularityOf (w .state)) (entriesIn (w .state)) (w .registered) (w .failed)) 3 _ (a .1) in
     let d = passed (not (eqb (requestOf (w .state) .kind) 0)) 20 _ (b .1) in
     eqb-false _ _ (not-true _ (d .0))
@@ -229,7 +230,7 @@ answer-answered w AnswerFailed s i = go (underWay w) refl
 
 -- meanwhile register and register_all_aligned are refused
 busy-refused : (w : World) (rest : ℕ) (o : Outcome) → underWay w ≡ true → isTaken (decided w (callRefusal w rest) o) ≡ false
-busy-refused w rest o k = rw (not-true (eqb (requestOf (w .state) .kind) 0) k) (go (eqb (length (w .state)) 108))
+busy-refused w rest o k = rw (not-true (eqb (requestOf (w .state) .kind) 0) k) (go (eqb (length (w .state)) registrarLen))
   where
     go : (t : Bool) → isTaken (decided w (unless t 4 19) o) ≡ false
     go true = refl

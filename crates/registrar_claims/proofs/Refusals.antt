@@ -6,6 +6,7 @@ use mathlib.Core.List.{List, [], _∷_}
 use Prim.Native.Nat.{ℕ, _+_, _*_, _/_, _%_, _^_, _≤_, _<_, min}
 use lib.Dec.{eqb, leb, ltb}
 use lib.ListN.{length}
+use Rattle.abi.specs.Lengths.{pageSize, registrarLen, wordBits}
 use Rattle.laws.specs.Bools.{false≢true}
 use Rattle.laws.specs.Refusal.{unless}
 use Rattle.laws.specs.Ranges.{between}
@@ -48,7 +49,7 @@ unfolding registerFrom plain
 register-plain s o n c last =
     let e : ℕ = min last (chunkCount (s .granularity) (s .entries)) in
     let t : ℕ = firstNot (passes s) c e in
-    go t (ltb t e) (bitAt 64 (s .failed) t)
+    go t (ltb t e) (bitAt wordBits (s .failed) t)
   where
     go : (t : ℕ) (x y : Bool)
         → plain (cond x (cond y (ends c t (RegistrationFailed (t * s .granularity) n)) (asks o c t (pieceOf n t (t + 1) last (ramFrom (s .granularity) (s .entries) t (t * s .granularity))))) (ends c t (Done n)) .answer) ≡ true
@@ -97,7 +98,7 @@ unfolding registerFrom
 register-ending s o n c last =
     let e : ℕ = min last (chunkCount (s .granularity) (s .entries)) in
     let t : ℕ = firstNot (passes s) c e in
-    go t (λ q a b. first-holds (passes s) c e q a b) (ltb t e) (bitAt 64 (s .failed) t)
+    go t (λ q a b. first-holds (passes s) c e q a b) (ltb t e) (bitAt wordBits (s .failed) t)
   where
     go : (t : ℕ) → ((q : ℕ) → c ≤ q → q < t → passes s q ≡ true) → (x y : Bool)
         → Ending s (cond x (cond y (ends c t (RegistrationFailed (t * s .granularity) n)) (asks o c t (pieceOf n t (t + 1) last (ramFrom (s .granularity) (s .entries) t (t * s .granularity))))) (ends c t (Done n)))
@@ -133,7 +134,7 @@ done-ending w =
 pub build-taken : (w : World) (ram : List ℕ) (o g : ℕ) → notRefused (buildRefusal w ram o g) ≡ true → buildRefusal w ram o g ≡ 0
 unfolding buildRefusal
 build-taken w ram o g =
-    go (not (eqb (refusalOf ram) 1)) (eqb (o % 4096) 0) (ltb (o + lastEnd (entriesOf ram)) (2 ^ 64)) (eqb (refusalOf ram) 0) (eqb (length (w .state)) 108) (leb 4096 g && isPower g)
+    go (not (eqb (refusalOf ram) 1)) (eqb (o % pageSize) 0) (ltb (o + lastEnd (entriesOf ram)) (2 ^ 64)) (eqb (refusalOf ram) 0) (eqb (length (w .state)) registrarLen) (leb pageSize g && isPower g)
     (lengthsFit g (entriesOf ram) (w .registered) (w .failed))
   where
     go : (a b c d e f i : Bool) → notRefused (unless a 1 (unless b 1 (unless c 1 (unless d 2 (unless e 4 (unless f 9 (unless i 4 0))))))) ≡ true → unless a 1 (unless b 1 (unless c 1 (unless d 2 (unless e 4 (unless f 9 (unless i 4 0)))))) ≡ 0
@@ -148,7 +149,7 @@ build-taken w ram o g =
 
 call-taken : (w : World) (rest : ℕ) → (notRefused rest ≡ true → rest ≡ 0) → notRefused (callRefusal w rest) ≡ true → callRefusal w rest ≡ 0
 call-taken w rest z =
-    go (eqb (length (w .state)) 108) (eqb (requestOf (w .state) .kind) 0) (lengthsFit (granularityOf (w .state)) (entriesIn (w .state)) (w .registered) (w .failed))
+    go (eqb (length (w .state)) registrarLen) (eqb (requestOf (w .state) .kind) 0) (lengthsFit (granularityOf (w .state)) (entriesIn (w .state)) (w .registered) (w .failed))
   where
     go : (a b c : Bool) → notRefused (unless a 4 (unless b 19 (unless c 4 rest))) ≡ true → unless a 4 (unless b 19 (unless c 4 rest)) ≡ 0
     go false b c h = false≢true h
@@ -177,7 +178,7 @@ all-taken w al ignore =
 pub answer-taken : (w : World) → notRefused (answerRefusal w) ≡ true → answerRefusal w ≡ 0
 unfolding answerRefusal
 answer-taken w =
-    go (eqb (length (w .state)) 108) (lengthsFit (granularityOf (w .state)) (entriesIn (w .state)) (w .registered) (w .failed)) (not (eqb (requestOf (w .state) .kind) 0))
+    go (eqb (length (w .state)) registrarLen) (lengthsFit (granularityOf (w .state)) (entriesIn (w .state)) (w .registered) (w .failed)) (not (eqb (requestOf (w .state) .kind) 0))
   where
     go : (a b c : Bool) → notRefused (unless a 4 (unless b 4 (unless c 21 0))) ≡ true → unless a 4 (unless b 4 (unless c 21 0)) ≡ 0
     go false b c h = false≢true h
@@ -248,10 +249,10 @@ refused-keeps w x = refusals-keep w x .refused
 
 -- ---- what is marked stays marked, until a build
 
-marked-stays : (a b : ℕ) (m : List ℕ) (c : ℕ) → bitAt 64 m c ≡ true → bitAt 64 (marked a b m) c ≡ true
-marked-stays a b m c h = page-law 64 (between a b) true m c (omega arith) ∙ go (between a b c && ltb (c / 64) (length m))
+marked-stays : (a b : ℕ) (m : List ℕ) (c : ℕ) → bitAt wordBits m c ≡ true → bitAt wordBits (marked a b m) c ≡ true
+marked-stays a b m c h = page-law wordBits (between a b) true m c (omega arith) ∙ go (between a b c && ltb (c / wordBits) (length m))
   where
-    go : (t : Bool) → cond t true (bitAt 64 m c) ≡ true
+    go : (t : Bool) → cond t true (bitAt wordBits m c) ≡ true
     go true = refl
     go false = h
 

@@ -9,6 +9,7 @@ use native.Mathlib.Nat.{mul-le-mul-right, div-le-self, div-mul-le-self}
 use lib.Dec.{eqb, ltb}
 use lib.ListN.{length, List·getD-eq-default}
 use borrow.Author.Tests.{ltb-true, leb-false}
+use Rattle.abi.specs.Lengths.{wordBits}
 use Rattle.bitmap.specs.Pages.{bitAt}
 use Rattle.layout.specs.declared.MemoryRange.{MemoryRange}
 use Rattle.layout.specs.declared.MemoryRangeWithNode.{MemoryRangeWithNode}
@@ -109,7 +110,7 @@ unfolding registerFrom
 register-fits s o n c last ord =
     let e : ℕ = min last (chunkCount (s .granularity) (s .entries)) in
     let t : ℕ = firstNot (passes s) c e in
-    go t (ltb t e) refl (bitAt 64 (s .failed) t)
+    go t (ltb t e) refl (bitAt wordBits (s .failed) t)
   where
     go : (t : ℕ) (x : Bool) → ltb t (min last (chunkCount (s .granularity) (s .entries))) ≡ x → (y : Bool)
         → Fits (lastEnd (s .entries)) (cond x (cond y (ends c t (RegistrationFailed (t * s .granularity) n)) (asks o c t (pieceOf n t (t + 1) last (ramFrom (s .granularity) (s .entries) t (t * s .granularity))))) (ends c t (Done n)) .request)
@@ -136,7 +137,7 @@ in-within : (g : ℕ) (registered failed : List ℕ) (c e m : ℕ) → e ≤ m �
 in-within g registered failed c e m h k =
     let a : ℕ = firstNot (alike registered failed true) c e in
     let b : ℕ = firstNot (alike registered failed false) a e in
-    go a (ltb a e) refl (bitAt 64 failed a) (ltb b e && bitAt 64 failed b)
+    go a (ltb a e) refl (bitAt wordBits failed a) (ltb b e && bitAt wordBits failed b)
   where
     go : (a : ℕ) (x : Bool) → ltb a e ≡ x → (y z : Bool) → let b : ℕ = firstNot (alike registered failed false) a e in
         Within m (cond x (cond y (FailedBefore (a * g)) (cond z (FailedBefore (b * g)) (Stretch a b (a * g) (b * g)))) Nothing)

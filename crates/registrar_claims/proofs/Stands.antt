@@ -6,6 +6,7 @@ use Prim.Native.Nat.{ℕ}
 use lib.Dec.{eqb, leb}
 use lib.ListN.{length, drop}
 use borrow.Author.Tests.{eqb-true, eqb-false, eq-eqb, not-true, not-false}
+use Rattle.abi.specs.Lengths.{registrarLen}
 use Rattle.laws.specs.Bools.{both-true, false≢true}
 use Rattle.laws.specs.Refusal.{unless}
 use Rattle.layout.specs.Layout.{entriesOf, spans}
@@ -131,7 +132,7 @@ awaits-after (x ∷ xs) w b h =
 module _ (w : World) (s : Sound w) where
   pub answer-passes : underWay w ≡ true → answerRefusal w ≡ 0
   unfolding answerRefusal
-  answer-passes h = rw (eq-eqb (length (w .state)) 108 (s .block), s .lengths, h)
+  answer-passes h = rw (eq-eqb (length (w .state)) registrarLen (s .block), s .lengths, h)
 
   pub done-taken : underWay w ≡ true → isTaken (doneOf w) ≡ true
   unfolding doneOf
@@ -143,7 +144,7 @@ module _ (w : World) (s : Sound w) where
 
   answer-none : underWay w ≡ false → answerRefusal w ≡ 21
   unfolding answerRefusal
-  answer-none h = rw (eq-eqb (length (w .state)) 108 (s .block), s .lengths, h)
+  answer-none h = rw (eq-eqb (length (w .state)) registrarLen (s .block), s .lengths, h)
 
   pub done-refused : underWay w ≡ false → doneOf w ≡ record { world = w; reply = flatOf (Refused 21) }
   unfolding doneOf
@@ -154,7 +155,7 @@ module _ (w : World) (s : Sound w) where
   failed-refused h = rw (answer-none h)
 
   call-passes : (rest : ℕ) → underWay w ≡ false → rest ≡ 0 → callRefusal w rest ≡ 0
-  call-passes rest h z = rw (eq-eqb (length (w .state)) 108 (s .block), not-false (eqb (requestOf (w .state) .kind) 0) h, s .lengths, z)
+  call-passes rest h z = rw (eq-eqb (length (w .state)) registrarLen (s .block), not-false (eqb (requestOf (w .state) .kind) 0) h, s .lengths, z)
 
   register-passes : (address len : ℕ) → let g : ℕ = granularityOf (w .state) in
       underWay w ≡ false → chunksFit (w .state) (firstChunk g address) (endChunk g address len) ≡ true → isTaken (registerOf w address len) ≡ true

@@ -3,6 +3,7 @@ use mathlib.Core.Path.{_≡_}
 use mathlib.Core.Bool.{true, false}
 use mathlib.Core.List.{List}
 use Prim.Native.Nat.{ℕ, _≤_, _<_}
+use Rattle.abi.specs.Lengths.{wordBits}
 use Rattle.bitmap.specs.Pages.{bitAt}
 use Rattle.registrar_steps.specs.Steps.{seen, idle, passes}
 use Rattle.registrar_state.specs.World.{World, Outcome, requestOf, withRequest, granularityOf, entriesIn, marked, takenTo}
@@ -47,4 +48,4 @@ pub record Kept (w : World) (r f : List ℕ) (o : Outcome) : Type 0 where
 -- a chunk that is marked registered or failed stays so
 abbrev pub Stays : World → ℕ → Outcome → Type 0
 Stays w c o =
-    (bitAt 64 (w .registered) c ≡ true → bitAt 64 (o .world .registered) c ≡ true) × (bitAt 64 (w .failed) c ≡ true → bitAt 64 (o .world .failed) c ≡ true)
+    (bitAt wordBits (w .registered) c ≡ true → bitAt wordBits (o .world .registered) c ≡ true) × (bitAt wordBits (w .failed) c ≡ true → bitAt wordBits (o .world .failed) c ≡ true)

@@ -5,6 +5,7 @@ use mathlib.Core.List.{List}
 use Prim.Native.Nat.{ℕ, _+_, _/_, _%_, _^_, _≤_, _<_}
 use lib.Dec.{leb}
 use lib.ListN.{length}
+use Rattle.abi.specs.Lengths.{registrarLen, wordBits}
 use Rattle.bitmap.specs.Pages.{bitAt}
 use Rattle.layout.specs.Layout.{range, entriesOf}
 use Rattle.chunks.specs.Chunks.{up, chunkCount, mapWords, firstChunk, endChunk, isPower}
@@ -37,7 +38,7 @@ pub record Stands (v : World) (b : Settings) (awaits : Bool) : Type 0 where
   pub same-granularity : granularityOf (v .state) ≡ b .granularity
   pub same-ram : ramOf (v .state) ≡ b .ram
   -- all that is lent has the length that the build asked for
-  pub state-length : length (v .state) ≡ 108
+  pub state-length : length (v .state) ≡ registrarLen
   pub registered-length : length (v .registered) ≡ mapWords (b .granularity) (entriesOf (b .ram))
   pub failed-length : length (v .failed) ≡ mapWords (b .granularity) (entriesOf (b .ram))
   -- an answer that is awaited is taken, done or failed; any other is refused by 21
@@ -60,7 +61,7 @@ AllWhole v = (al ignore : ℕ) (bs : List Bool) → allRefusal v al ignore ≡ 0
 abbrev pub RegisteredKept : World → Type 0
 RegisteredKept v =
     (address len : ℕ) → registerRefusal v address len ≡ 0
-    → ((c : ℕ) → firstChunk (granularityOf (v .state)) address ≤ c → c < endChunk (granularityOf (v .state)) address len → bitAt 64 (v .registered) c ≡ true)
+    → ((c : ℕ) → firstChunk (granularityOf (v .state)) address ≤ c → c < endChunk (granularityOf (v .state)) address len → bitAt wordBits (v .registered) c ≡ true)
     → registerOf v address len ≡ record { world = v; reply = flatOf (Done 0) }
 
 -- the chunks that a request touches, widened to pages or not, are those of its bytes

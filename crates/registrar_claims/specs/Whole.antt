@@ -5,6 +5,7 @@ use mathlib.Core.List.{List, [], _∷_}
 use Prim.Native.Nat.{ℕ, zero, suc, _+_, _-_, _*_, _/_, _%_, _^_, _<_}
 use lib.Dec.{eqb, ltb}
 use lib.ListN.{length, getD}
+use Rattle.abi.specs.Lengths.{wordBits}
 use Rattle.bitmap.specs.Pages.{bitAt}
 use Rattle.layout.specs.declared.MemoryRange.{MemoryRange}
 use Rattle.layout.specs.declared.MemoryRangeWithNode.{MemoryRangeWithNode}
@@ -52,8 +53,8 @@ offer o c (p ∷ ps) (false ∷ bs) r f next = asking o p (ended r (marked c (c 
 unfoldable pub wholeChunks : ℕ → ℕ → List MemoryRange → ℕ → ℕ → List ℕ → List ℕ → List Bool → Whole
 wholeChunks o g rs zero c r f bs = ended r f Ok
 wholeChunks o g rs (suc n) c r f bs =
-    cond (bitAt 64 r c) (wholeChunks o g rs n (c + 1) r f bs)
-    (cond (bitAt 64 f c) (ended r f (FailedAt (c * g)))
+    cond (bitAt wordBits r c) (wholeChunks o g rs n (c + 1) r f bs)
+    (cond (bitAt wordBits f c) (ended r f (FailedAt (c * g)))
     (offer o c (pieces (c * g) ((c + 1) * g) rs) bs r f (λ bs. wholeChunks o g rs n (c + 1) (marked c (c + 1) r) f bs)))
 
 unfoldable pub wholeRegister : World → ℕ → ℕ → List Bool → Whole
@@ -74,8 +75,8 @@ offerStretch o g a b (false ∷ bs) r f next = asking o (range (a * g) (b * g)) 
 unfoldable pub wholeSpan : ℕ → ℕ → ℕ → ℕ → ℕ → List Bool → List ℕ → List ℕ → (List Bool → List ℕ → Whole) → Whole
 wholeSpan o g zero a c bs r f next = cond (ltb a c) (offerStretch o g a c bs r f next) (next bs r)
 wholeSpan o g (suc n) a c bs r f next =
-    cond (bitAt 64 f c) (ended r f (FailedAt (c * g)))
-    (cond (bitAt 64 r c)
+    cond (bitAt wordBits f c) (ended r f (FailedAt (c * g)))
+    (cond (bitAt wordBits r c)
     (cond (ltb a c) (offerStretch o g a c bs r f (λ bs r. wholeSpan o g n (c + 1) (c + 1) bs r f next)) (wholeSpan o g n (c + 1) (c + 1) bs r f next))
     (wholeSpan o g n a (c + 1) bs r f next))
 

@@ -4,6 +4,10 @@ use mathlib.Core.List.{List, [], _∷_, _++_}
 use Prim.Native.Nat.{ℕ, _+_, _-_, _*_, _%_, _^_}
 use lib.Dec.{eqb, leb, ltb}
 use lib.ListN.{length, getD, drop, take, replicate}
+use Rattle.abi.specs.Kinds as kind
+use Rattle.abi.specs.Refusals as refusal
+use Rattle.abi.specs.RegistrarPlaces as place
+use Rattle.abi.specs.Lengths.{pageSize, ramEntryWords, ramLen, registrarLen, wordBits}
 use Rattle.laws.specs.Refusal.{unless}
 use Rattle.laws.specs.Ranges.{between}
 use Rattle.bitmap.specs.Pages.{bitAt, written}
@@ -40,23 +44,23 @@ outcome s r f a = record { world = world s r f; reply = a }
 
 abbrev pub requestOf : List ℕ → Request
 requestOf s =
-    record { kind = getD s 0 0; count = getD s 1 0; from = getD s 2 0; to = getD s 3 0; start = getD s 4 0; end = getD s 5 0; until = getD s 6 0; alignment = getD s 7 0; ignore = getD s 8 0 }
+    record { kind = getD s place.kind 0; count = getD s place.count 0; from = getD s place.from 0; to = getD s place.to 0; start = getD s place.start 0; end = getD s place.end 0; until = getD s place.until 0; alignment = getD s place.alignment 0; ignore = getD s place.ignore 0 }
 
 abbrev pub requestWords : Request → List ℕ
 requestWords q =
     q .kind ∷ q .count ∷ q .from ∷ q .to ∷ q .start ∷ q .end ∷ q .until ∷ q .alignment ∷ q .ignore ∷ []
 
 abbrev pub withRequest : Request → List ℕ → List ℕ
-withRequest q s = requestWords q ++ drop 9 s
+withRequest q s = requestWords q ++ drop place.afterRequest s
 
 abbrev pub offsetOf : List ℕ → ℕ
-offsetOf s = getD s 9 0
+offsetOf s = getD s place.offset 0
 
 abbrev pub granularityOf : List ℕ → ℕ
-granularityOf s = getD s 10 0
+granularityOf s = getD s place.granularity 0
 
 abbrev pub ramOf : List ℕ → List ℕ
-ramOf s = take (3 * getD s 11 0) (drop 12 s)
+ramOf s = take (ramEntryWords * getD s place.entries 0) (drop place.ram s)
 
 abbrev pub entriesIn : List ℕ → List MemoryRangeWithNode
 entriesIn s = entriesOf (ramOf s)
@@ -64,7 +68,7 @@ entriesIn s = entriesOf (ramOf s)
 -- what a build leaves in it
 abbrev pub builtState : List ℕ → ℕ → ℕ → List ℕ
 builtState ram offset g =
-    requestWords idle ++ (offset ∷ g ∷ length (entriesOf ram) ∷ ram) ++ replicate (96 - length ram) 0
+    requestWords idle ++ (offset ∷ g ∷ length (entriesOf ram) ∷ ram) ++ replicate (ramLen - length ram) 0
 
 abbrev pub seenIn : World → Seen
 seenIn w = seen (granularityOf (w .state)) (entriesIn (w .state)) (w .registered) (w .failed)
@@ -74,7 +78,7 @@ seenIn w = seen (granularityOf (w .state)) (entriesIn (w .state)) (w .registered
 abbrev pub flatUnaligned : Unaligned → ℕ → Reply
 flatUnaligned u n =
     record {
-      number = 22;
+      number = refusal.unalignedMemory;
       asked = 0;
       count = n;
       start = 0;
@@ -97,7 +101,7 @@ simple number asked count start end address =
 abbrev pub flatOf : Answer → Reply
 flatOf (Done n) = simple 0 0 n 0 0 0
 flatOf (Register r) = simple 0 1 0 (r .start) (r .end) 0
-flatOf (RegistrationFailed x n) = simple 23 0 n 0 0 x
+flatOf (RegistrationFailed x n) = simple refusal.registrationFailed 0 n 0 0 x
 flatOf (UnalignedMemory u n) = flatUnaligned u n
 flatOf (Refused k) = simple k 0 0 0 0 0
 
@@ -113,13 +117,13 @@ lengthsFit g es registered failed = eqb (length registered) (mapWords g es) && e
 -- 1 for the layout and the offset, 2, then by number: 4 for the state block, 9 for the granularity; 4 for the bitmaps after it, since their length hangs on it
 unfoldable pub buildRefusal : World → List ℕ → ℕ → ℕ → ℕ
 buildRefusal w ram offset g =
-    unless (not (eqb (refusalOf ram) 1)) 1
-    (unless (eqb (offset % 4096) 0) 1
-    (unless (ltb (offset + lastEnd (entriesOf ram)) (2 ^ 64)) 1
-    (unless (eqb (refusalOf ram) 0) 2
-    (unless (eqb (length (w .state)) 108) 4
-    (unless (leb 4096 g && isPower g) 9
-    (unless (lengthsFit g (entriesOf ram) (w .registered) (w .failed)) 4
+    unless (not (eqb (refusalOf ram) refusal.unfitLayout)) refusal.unfitLayout
+    (unless (eqb (offset % pageSize) 0) refusal.unfitLayout
+    (unless (ltb (offset + lastEnd (entriesOf ram)) (2 ^ 64)) refusal.unfitLayout
+    (unless (eqb (refusalOf ram) 0) refusal.badAlignment
+    (unless (eqb (length (w .state)) registrarLen) refusal.wrongLength
+    (unless (leb pageSize g && isPower g) refusal.unfitChunk
+    (unless (lengthsFit g (entriesOf ram) (w .registered) (w .failed)) refusal.wrongLength
     0))))))
 
 unfoldable pub buildOf : World → List ℕ → ℕ → ℕ → Outcome
@@ -132,14 +136,14 @@ buildOf w ram offset g =
 -- 4 for the state block, 19, 4 for the bitmaps
 abbrev pub callRefusal : World → ℕ → ℕ
 callRefusal w rest =
-    unless (eqb (length (w .state)) 108) 4
-    (unless (eqb (requestOf (w .state) .kind) 0) 19
-    (unless (lengthsFit (granularityOf (w .state)) (entriesIn (w .state)) (w .registered) (w .failed)) 4
+    unless (eqb (length (w .state)) registrarLen) refusal.wrongLength
+    (unless (eqb (requestOf (w .state) .kind) kind.none) refusal.busy
+    (unless (lengthsFit (granularityOf (w .state)) (entriesIn (w .state)) (w .registered) (w .failed)) refusal.wrongLength
     rest))
 
 -- how many chunks there are, by the state block; a block of another length has none
 abbrev pub countIn : List ℕ → ℕ
-countIn s = cond (eqb (length s) 108) (chunkCount (granularityOf s) (entriesIn s)) 0
+countIn s = cond (eqb (length s) registrarLen) (chunkCount (granularityOf s) (entriesIn s)) 0
 
 -- of the chunks from first to before end: there are none, or none past the last
 abbrev pub chunksFit : List ℕ → ℕ → ℕ → Bool
@@ -148,15 +152,15 @@ chunksFit s first end = leb end first || leb end (chunkCount (granularityOf s) (
 unfoldable pub registerRefusal : World → ℕ → ℕ → ℕ
 registerRefusal w address len =
     let g : ℕ = granularityOf (w .state) in
-    callRefusal w (unless (chunksFit (w .state) (firstChunk g address) (endChunk g address len)) 9 0)
+    callRefusal w (unless (chunksFit (w .state) (firstChunk g address) (endChunk g address len)) refusal.unfitChunk 0)
 
 unfoldable pub allRefusal : World → ℕ → ℕ → ℕ
 allRefusal w al ignore =
-    callRefusal w (unless (leb ignore 1) 8 (unless (leb (granularityOf (w .state)) al && isPower al) 9 0))
+    callRefusal w (unless (leb ignore 1) refusal.unfitNumber (unless (leb (granularityOf (w .state)) al && isPower al) refusal.unfitChunk 0))
 
 -- a plan carried out
 abbrev pub marked : ℕ → ℕ → List ℕ → List ℕ
-marked a b m = written 64 (between a b) true m
+marked a b m = written wordBits (between a b) true m
 
 abbrev pub carriedOut : World → Plan → Outcome
 carriedOut w p =
@@ -172,7 +176,7 @@ allPlan w al ignore = allFrom (seenIn w) (offsetOf (w .state)) 0 al ignore 0 (sp
 
 -- nothing is left of an earlier request, and the chunks from first to before end are registered
 abbrev pub isKnown : List ℕ → List ℕ → ℕ → ℕ → Bool
-isKnown s registered first end = isIdle (requestOf s) && leb end (firstNot (bitAt 64 registered) first end)
+isKnown s registered first end = isIdle (requestOf s) && leb end (firstNot (bitAt wordBits registered) first end)
 
 unfoldable pub registerOf : World → ℕ → ℕ → Outcome
 registerOf w address len = decided w (registerRefusal w address len) (carriedOut w (registerPlan w address len))
@@ -184,9 +188,9 @@ allOf w al ignore = decided w (allRefusal w al ignore) (carriedOut w (allPlan w 
 
 unfoldable pub answerRefusal : World → ℕ
 answerRefusal w =
-    unless (eqb (length (w .state)) 108) 4
-    (unless (lengthsFit (granularityOf (w .state)) (entriesIn (w .state)) (w .registered) (w .failed)) 4
-    (unless (not (eqb (requestOf (w .state) .kind) 0)) 21
+    unless (eqb (length (w .state)) registrarLen) refusal.wrongLength
+    (unless (lengthsFit (granularityOf (w .state)) (entriesIn (w .state)) (w .registered) (w .failed)) refusal.wrongLength
+    (unless (not (eqb (requestOf (w .state) .kind) kind.none)) refusal.nothingAsked
     0))
 
 -- failed: the chunks under way are marked failed, and 23 tells where the range starts
@@ -201,7 +205,7 @@ abbrev pub restOf : List ℕ → MemoryRange
 restOf s = ramFrom (granularityOf s) (entriesIn s) (requestOf s .from) (requestOf s .end)
 
 abbrev pub hasRest : List ℕ → Bool
-hasRest s = eqb (requestOf s .kind) 1 && not (empty (restOf s))
+hasRest s = eqb (requestOf s .kind) kind.register && not (empty (restOf s))
 
 -- the chunks under way become registered, unless some of that RAM is left
 abbrev pub takenTo : List ℕ → ℕ
@@ -212,7 +216,7 @@ abbrev pub donePlan : World → Plan
 donePlan w =
     let q : Request = requestOf (w .state) in
     cond (hasRest (w .state)) (asks (offsetOf (w .state)) 0 0 (pieceOf (q .count) (q .from) (q .to) (q .until) (restOf (w .state))))
-    (cond (eqb (q .kind) 1) (registerFrom (seenIn w) (offsetOf (w .state)) (q .count) (q .to) (q .until))
+    (cond (eqb (q .kind) kind.register) (registerFrom (seenIn w) (offsetOf (w .state)) (q .count) (q .to) (q .until))
     (allFrom (seenIn w) (offsetOf (w .state)) (q .count) (q .alignment) (q .ignore) (q .to) (spans (entriesIn (w .state)))))
 
 abbrev pub afterTaken : World → World

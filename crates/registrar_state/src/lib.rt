@@ -4,11 +4,21 @@ ghost use Prim.Native.Nat.{_*_, _<_, _^_, min};
 ghost use mathlib.Core.Bool.{_||_, _&&_};
 ghost use lib.Dec.{eqb, leb};
 ghost use lib.ListN.{length};
+ghost use Rattle.abi.specs.Refusals as refusal;
+ghost use Rattle.abi.specs.Lengths.{registrarLen, wordBits};
 ghost use Rattle.layout.specs.Layout.{spans};
 ghost use Rattle.chunks.specs.Chunks.{up, chunkCount, isPower};
 ghost use Rattle.registrar_state.specs.World.{world, simple, flatUnaligned, requestOf, withRequest, offsetOf, granularityOf, ramOf, entriesIn, seenIn, flatOf, buildRefusal, callRefusal, countIn, chunksFit, allRefusal, isKnown, answerRefusal, restOf};
 ghost use Rattle.registrar_steps.specs.Steps.{stopAt, allFrom};
 ghost use Rattle.laws.specs.Refusal.{unless};
+use abi::FULL_WORD;
+use abi::PAGE_SIZE;
+use abi::RAM_ENTRY_WORDS;
+use abi::REGISTRAR_WORDS;
+use abi::kind;
+use abi::limit;
+use abi::refusal;
+use abi::registrar_place as place;
 use layout::MemoryRange;
 use registrar_steps::Answer;
 use registrar_steps::Plan;
@@ -64,7 +74,7 @@ fn unaligned_reply(u: Unaligned, count: u64) -> Reply
     let edge = u.edge;
     let node = u.node_range;
     Reply {
-        number: 22,
+        number: refusal::UNALIGNED_MEMORY,
         asked: 0,
         count: count,
         start: 0,
@@ -87,7 +97,7 @@ pub fn flatten(a: Answer) -> Reply
     match a {
         Answer::Done(count) => simple(0, 0, count, 0, 0, 0),
         Answer::Register(r) => simple(0, 1, 0, r.start, r.end, 0),
-        Answer::RegistrationFailed { address, count } => simple(23, 0, count, 0, 0, address),
+        Answer::RegistrationFailed { address, count } => simple(refusal::REGISTRATION_FAILED, 0, count, 0, 0, address),
         Answer::UnalignedMemory(u, count) => unaligned_reply(u, count),
         Answer::Refused(number) => simple(number, 0, 0, 0, 0, 0),
     }
@@ -95,50 +105,50 @@ pub fn flatten(a: Answer) -> Reply
 
 // The request under way.
 pub fn load(state: &[u64]) -> Request
-    requires { ⌜ length (now state) ≡ 108 ⌝ }
+    requires { ⌜ length (now state) ≡ registrarLen ⌝ }
     ensures { λ r. ⌜ r ≡ requestOf (now (state .entry)) ⌝ }
 {
     Request {
-        kind: state[0],
-        count: state[1],
-        from: state[2],
-        to: state[3],
-        start: state[4],
-        end: state[5],
-        until: state[6],
-        alignment: state[7],
-        ignore: state[8],
+        kind: state[place::KIND],
+        count: state[place::COUNT],
+        from: state[place::FROM],
+        to: state[place::TO],
+        start: state[place::START],
+        end: state[place::END],
+        until: state[place::UNTIL],
+        alignment: state[place::ALIGNMENT],
+        ignore: state[place::IGNORE],
     }
 }
 
 pub fn save(state: &mut [u64], q: Request)
-    requires { ⌜ length (now state) ≡ 108 ⌝ }
+    requires { ⌜ length (now state) ≡ registrarLen ⌝ }
     ensures { λ _. ⌜ now (state .exit) ≡ withRequest q (now (state .entry)) ⌝ }
 {
-    state[0] = q.kind;
-    state[1] = q.count;
-    state[2] = q.from;
-    state[3] = q.to;
-    state[4] = q.start;
-    state[5] = q.end;
-    state[6] = q.until;
-    state[7] = q.alignment;
-    state[8] = q.ignore;
+    state[place::KIND] = q.kind;
+    state[place::COUNT] = q.count;
+    state[place::FROM] = q.from;
+    state[place::TO] = q.to;
+    state[place::START] = q.start;
+    state[place::END] = q.end;
+    state[place::UNTIL] = q.until;
+    state[place::ALIGNMENT] = q.alignment;
+    state[place::IGNORE] = q.ignore;
 }
 
 // The words of the layout.
 fn ram_of(state: &[u64]) -> &[u64]
-    requires { ⌜ length (now state) ≡ 108 ⌝ }
+    requires { ⌜ length (now state) ≡ registrarLen ⌝ }
     ensures { λ r. ⌜ now r ≡ ramOf (now (state .entry)) ⌝ }
 {
-    let n = numbers::least(state[11], 32) as usize;
-    let end = 12 + 3 * n;
-    &state[12..end]
+    let n = numbers::least(state[place::ENTRIES], limit::RAM_ENTRIES) as usize;
+    let end = place::RAM + RAM_ENTRY_WORDS * n;
+    &state[place::RAM..end]
 }
 
 // Whether the bitmaps are of n chunks.
 fn lengths_fit(n: u64, registered: &[u64], failed: &[u64]) -> bool
-    ensures { λ r. ⌜ r ≡ (eqb (length (now (registered .entry))) (up n 64) && eqb (length (now (failed .entry))) (up n 64)) ⌝ }
+    ensures { λ r. ⌜ r ≡ (eqb (length (now (registered .entry))) (up n wordBits) && eqb (length (now (failed .entry))) (up n wordBits)) ⌝ }
 {
     let words = chunks::map_words(n);
     if registered.len() as u64 == words {
@@ -152,10 +162,10 @@ fn lengths_fit(n: u64, registered: &[u64], failed: &[u64]) -> bool
 pub fn chunk_count(state: &[u64]) -> u64
     ensures { λ r. ⌜ r ≡ countIn (now (state .entry)) ⌝ }
 {
-    if state.len() != 108 {
+    if state.len() != REGISTRAR_WORDS {
         return 0;
     }
-    chunks::chunk_count(ram_of(state), state[10])
+    chunks::chunk_count(ram_of(state), state[place::GRANULARITY])
 }
 
 // 4, 19, 4 for a call, else 0.
@@ -163,14 +173,14 @@ fn call_refusal(state: &[u64], registered: &[u64], failed: &[u64], n: u64) -> u6
     requires { ⌜ n ≡ countIn (now state) ⌝ }
     ensures { λ r. ⌜ r ≡ callRefusal (world (now (state .entry)) (now (registered .entry)) (now (failed .entry))) 0 ⌝ }
 {
-    if state.len() != 108 {
-        return 4;
+    if state.len() != REGISTRAR_WORDS {
+        return refusal::WRONG_LENGTH;
     }
-    if state[0] != 0 {
-        return 19;
+    if state[place::KIND] != kind::NONE {
+        return refusal::BUSY;
     }
     if !lengths_fit(n, registered, failed) {
-        return 4;
+        return refusal::WRONG_LENGTH;
     }
     0
 }
@@ -189,7 +199,7 @@ fn chunks_fit(n: u64, first: u64, end: u64) -> bool
 pub fn granularity(state: &[u64]) -> u64
     ensures { λ r. ⌜ r ≡ granularityOf (now (state .entry)) ⌝ }
 {
-    numbers::word_at(state, 10)
+    numbers::word_at(state, place::GRANULARITY as u64)
 }
 
 // For a request that touches the chunks from `first` to before `end`.
@@ -202,13 +212,17 @@ pub fn register_refusal(
     end: u64,
 ) -> u64
     requires { ⌜ n ≡ countIn (now state) ⌝ }
-    ensures { λ r. ⌜ r ≡ callRefusal (world (now (state .entry)) (now (registered .entry)) (now (failed .entry))) (unless (chunksFit (now (state .entry)) first end) 9 0) ⌝ }
+    ensures { λ r. ⌜ r ≡ callRefusal (world (now (state .entry)) (now (registered .entry)) (now (failed .entry))) (unless (chunksFit (now (state .entry)) first end) refusal.unfitChunk 0) ⌝ }
 {
     let k = call_refusal(state, registered, failed, n);
     if k != 0 {
         return k;
     }
-    if chunks_fit(n, first, end) { 0 } else { 9 }
+    if chunks_fit(n, first, end) {
+        0
+    } else {
+        refusal::UNFIT_CHUNK
+    }
 }
 
 fn is_power_from(least: u64, n: u64) -> bool
@@ -237,12 +251,12 @@ pub fn all_refusal(
         return k;
     }
     if 1 < ignore {
-        return 8;
+        return refusal::UNFIT_NUMBER;
     }
-    if is_power_from(state[10], alignment) {
+    if is_power_from(state[place::GRANULARITY], alignment) {
         0
     } else {
-        9
+        refusal::UNFIT_CHUNK
     }
 }
 
@@ -250,14 +264,14 @@ pub fn answer_refusal(state: &[u64], registered: &[u64], failed: &[u64], n: u64)
     requires { ⌜ n ≡ countIn (now state) ⌝ }
     ensures { λ r. ⌜ r ≡ answerRefusal (world (now (state .entry)) (now (registered .entry)) (now (failed .entry))) ⌝ }
 {
-    if state.len() != 108 {
-        return 4;
+    if state.len() != REGISTRAR_WORDS {
+        return refusal::WRONG_LENGTH;
     }
     if !lengths_fit(n, registered, failed) {
-        return 4;
+        return refusal::WRONG_LENGTH;
     }
-    if state[0] == 0 {
-        return 21;
+    if state[place::KIND] == kind::NONE {
+        return refusal::NOTHING_ASKED;
     }
     0
 }
@@ -273,34 +287,34 @@ pub fn build_refusal(
     ensures { λ r. ⌜ r ≡ buildRefusal (world (now (state .entry)) (now (registered .entry)) (now (failed .entry))) (now (ram .entry)) offset g ⌝ }
 {
     let unfit = layout::refusal(ram);
-    if unfit == 1 {
-        return 1;
+    if unfit == refusal::UNFIT_LAYOUT {
+        return refusal::UNFIT_LAYOUT;
     }
-    if offset % 4096 != 0 {
-        return 1;
+    if offset % PAGE_SIZE != 0 {
+        return refusal::UNFIT_LAYOUT;
     }
-    if 0xffff_ffff_ffff_ffff - offset < layout::last_end(ram) {
-        return 1;
+    if FULL_WORD - offset < layout::last_end(ram) {
+        return refusal::UNFIT_LAYOUT;
     }
     if unfit != 0 {
-        return 2;
+        return refusal::BAD_ALIGNMENT;
     }
-    if state.len() != 108 {
-        return 4;
+    if state.len() != REGISTRAR_WORDS {
+        return refusal::WRONG_LENGTH;
     }
-    if !is_power_from(4096, g) {
-        return 9;
+    if !is_power_from(PAGE_SIZE, g) {
+        return refusal::UNFIT_CHUNK;
     }
     if lengths_fit(chunks::chunk_count(ram, g), registered, failed) {
         0
     } else {
-        4
+        refusal::WRONG_LENGTH
     }
 }
 
 // Whether a request finds its chunks registered, and the state as a finished call leaves it.
 pub fn is_known(state: &[u64], registered: &[u64], first: u64, end: u64) -> bool
-    requires { ⌜ length (now state) ≡ 108 ⌝ }
+    requires { ⌜ length (now state) ≡ registrarLen ⌝ }
     ensures { λ r. ⌜ r ≡ isKnown (now (state .entry)) (now (registered .entry)) first end ⌝ }
 {
     if !registrar_steps::is_idle(load(state)) {
@@ -318,10 +332,10 @@ pub fn register_stop(
     from: u64,
     until: u64,
 ) -> Stop
-    requires { ⌜ (length (now state) ≡ 108) × (n ≡ chunkCount (granularityOf (now state)) (entriesIn (now state))) ⌝ }
+    requires { ⌜ (length (now state) ≡ registrarLen) × (n ≡ chunkCount (granularityOf (now state)) (entriesIn (now state))) ⌝ }
     ensures { λ r. ⌜ (r ≡ stopAt (seenIn (world (now (state .entry)) (now (registered .entry)) (now (failed .entry)))) from (min until n)) × (r .chunk < min until n → r .chunk * granularityOf (now (state .entry)) < 2 ^ 64) ⌝ }
 {
-    registrar_steps::stop_from(ram_of(state), state[10], registered, failed, n, from, until)
+    registrar_steps::stop_from(ram_of(state), state[place::GRANULARITY], registered, failed, n, from, until)
 }
 
 // From chunk c on, of a call that has asked `count` times.
@@ -334,13 +348,13 @@ pub fn all_plan(
     ignore: u64,
     c: u64,
 ) -> Plan
-    requires { ⌜ length (now state) ≡ 108 ⌝ }
+    requires { ⌜ length (now state) ≡ registrarLen ⌝ }
     ensures { λ r. ⌜ r ≡ allFrom (seenIn (world (now (state .entry)) (now (registered .entry)) (now (failed .entry)))) (offsetOf (now (state .entry))) count alignment ignore c (spans (entriesIn (now (state .entry)))) ⌝ }
 {
     registrar_steps::all_from(
         ram_of(state),
-        state[9],
-        state[10],
+        state[place::OFFSET],
+        state[place::GRANULARITY],
         registered,
         failed,
         count,
@@ -352,8 +366,8 @@ pub fn all_plan(
 
 // Of a chunk of `register`, its RAM after what was taken.
 pub fn rest_of(state: &[u64], n: u64) -> MemoryRange
-    requires { ⌜ (length (now state) ≡ 108) × (n ≡ chunkCount (granularityOf (now state)) (entriesIn (now state))) ⌝ }
+    requires { ⌜ (length (now state) ≡ registrarLen) × (n ≡ chunkCount (granularityOf (now state)) (entriesIn (now state))) ⌝ }
     ensures { λ r. ⌜ r ≡ restOf (now (state .entry)) ⌝ }
 {
-    registrar_steps::rest_of(ram_of(state), state[10], n, state[2], state[5])
+    registrar_steps::rest_of(ram_of(state), state[place::GRANULARITY], n, state[place::FROM], state[place::END])
 }

@@ -9,6 +9,7 @@ use native.Mathlib.Nat.{add-mul, mul-le-mul-right}
 use lib.Dec.{eqb, ltb}
 use lib.ListN.{length, getD, drop}
 use borrow.Author.Tests.{eq-eqb, ne-eqb, lt-ltb, le-ltb, le-leb, lt-leb}
+use Rattle.abi.specs.Lengths.{wordBits}
 use Rattle.bitmap.specs.Pages.{bitAt}
 use Rattle.layout.specs.declared.MemoryRange.{MemoryRange}
 use Rattle.layout.specs.declared.MemoryRangeWithNode.{MemoryRangeWithNode}
@@ -51,7 +52,7 @@ module _ (s : Seen) (o n c until e t : ℕ) (he : e ≡ min until (chunkCount (s
   stopped : ℕ → ℕ → Plan
   stopped e t =
       cond (ltb t e)
-      (cond (bitAt 64 (s .failed) t) (ends c t (RegistrationFailed (t * s .granularity) n))
+      (cond (bitAt wordBits (s .failed) t) (ends c t (RegistrationFailed (t * s .granularity) n))
       (asks o c t (pieceOf n t (t + 1) until (ramFrom (s .granularity) (s .entries) t (t * s .granularity)))))
       (ends c t (Done n))
 
@@ -66,11 +67,11 @@ module _ (s : Seen) (o n c until e t : ℕ) (he : e ≡ min until (chunkCount (s
   pub register-stopped : (a : Stop) → a ≡ stopAt s c e → stopPlan o n c until a ≡ registerFrom s o n c until
   unfolding stopAt stopped
   register-stopped a h =
-      ap (stopPlan o n c until) (h ∙ ap numbers (sym ht)) ∙ go (ltb t e) (bitAt 64 (s .failed) t) ∙ from-stopped
+      ap (stopPlan o n c until) (h ∙ ap numbers (sym ht)) ∙ go (ltb t e) (bitAt wordBits (s .failed) t) ∙ from-stopped
     where
       numbers : ℕ → Stop
       numbers t =
-          cond (ltb t e) (cond (bitAt 64 (s .failed) t) (stop 2 t (t * s .granularity) 0) (stop 1 t (ramFrom (s .granularity) (s .entries) t (t * s .granularity) .start) (ramFrom (s .granularity) (s .entries) t (t * s .granularity) .end)))
+          cond (ltb t e) (cond (bitAt wordBits (s .failed) t) (stop 2 t (t * s .granularity) 0) (stop 1 t (ramFrom (s .granularity) (s .entries) t (t * s .granularity) .start) (ramFrom (s .granularity) (s .entries) t (t * s .granularity) .end)))
           (stop 0 t 0 0)
 
       go : (a b : Bool)
@@ -82,14 +83,14 @@ module _ (s : Seen) (o n c until e t : ℕ) (he : e ≡ min until (chunkCount (s
 
 -- what a chunk asks for, one law for each case of it
 module _ (s : Seen) (c : ℕ) (a : Stop) where
-  pub offer-registered : bitAt 64 (s .registered) c ≡ true → a ≡ stop 0 c 0 0 → a ≡ offerOf s c
+  pub offer-registered : bitAt wordBits (s .registered) c ≡ true → a ≡ stop 0 c 0 0 → a ≡ offerOf s c
   offer-registered t q = q ∙ sym (rw t)
 
-  module _ (t : bitAt 64 (s .registered) c ≡ false) where
-    pub offer-failed : bitAt 64 (s .failed) c ≡ true → a ≡ stop 2 c (c * s .granularity) 0 → a ≡ offerOf s c
+  module _ (t : bitAt wordBits (s .registered) c ≡ false) where
+    pub offer-failed : bitAt wordBits (s .failed) c ≡ true → a ≡ stop 2 c (c * s .granularity) 0 → a ≡ offerOf s c
     offer-failed f q = q ∙ sym (rw (t, f))
 
-    module _ (f : bitAt 64 (s .failed) c ≡ false) (r : MemoryRange)
+    module _ (f : bitAt wordBits (s .failed) c ≡ false) (r : MemoryRange)
         (e : r ≡ firstOf (pieces (c * s .granularity) (c * s .granularity + s .granularity) (spans (s .entries)))) where
       asks-for : MemoryRange → Stop
       asks-for r = cond (empty r) (stop 0 c 0 0) (stop 1 c (r .start) (r .end))
@@ -111,7 +112,7 @@ module _ (s : Seen) (c : ℕ) (a : Stop) where
 
 -- a chunk that asks for nothing
 offer-passes : (s : Seen) (c : ℕ) → eqb (offerOf s c .what) 0 ≡ passes s c
-offer-passes s c = go (bitAt 64 (s .registered) c) (bitAt 64 (s .failed) c) (empty (ramFrom (s .granularity) (s .entries) c (c * s .granularity)))
+offer-passes s c = go (bitAt wordBits (s .registered) c) (bitAt wordBits (s .failed) c) (empty (ramFrom (s .granularity) (s .entries) c (c * s .granularity)))
   where
     go : (a b d : Bool)
         → eqb (cond a (stop 0 c 0 0) (cond b (stop 2 c (c * s .granularity) 0) (cond d (stop 0 c 0 0) (stop 1 c (ramFrom (s .granularity) (s .entries) c (c * s .granularity) .start) (ramFrom (s .granularity) (s .entries) c (c * s .granularity) .end)))) .what) 0
@@ -125,7 +126,7 @@ module _ (s : Seen) (c e : ℕ) where
   module _ (a : Stop) (q : a ≡ offerOf s c) (l : c < e) where
     pub stop-hit : (a .what ≡ 0 → ⊥) → a ≡ stopAt s c e
     unfolding stopAt
-    stop-hit h = q ∙ asked (bitAt 64 (s .registered) c) (bitAt 64 (s .failed) c) (empty (ramFrom (s .granularity) (s .entries) c (c * s .granularity))) (λ z. h (ap (λ (k : Stop). k .what) q ∙ z)) ∙ sym (rw (first-stop (passes s) c e l fails, lt-ltb c e l))
+    stop-hit h = q ∙ asked (bitAt wordBits (s .registered) c) (bitAt wordBits (s .failed) c) (empty (ramFrom (s .granularity) (s .entries) c (c * s .granularity))) (λ z. h (ap (λ (k : Stop). k .what) q ∙ z)) ∙ sym (rw (first-stop (passes s) c e l fails, lt-ltb c e l))
       where
         fails : passes s c ≡ false
         fails = sym (offer-passes s c) ∙ ne-eqb (offerOf s c .what) 0 (λ z. h (ap (λ (k : Stop). k .what) q ∙ z))
@@ -158,7 +159,7 @@ stop-below s c e a q h = elim (decLt (firstNot (passes s) c e) e) [
   | yes d ↦
       let t : ℕ = firstNot (passes s) c e in
       let r : MemoryRange = ramFrom (s .granularity) (s .entries) t (t * s .granularity) in
-      omega (arith, below (bitAt 64 (s .failed) t) (stop 2 t (t * s .granularity) 0) (stop 1 t (r .start) (r .end)) refl refl (q ∙ rw (lt-ltb t e d)), d)
+      omega (arith, below (bitAt wordBits (s .failed) t) (stop 2 t (t * s .granularity) 0) (stop 1 t (r .start) (r .end)) refl refl (q ∙ rw (lt-ltb t e d)), d)
   | no d ↦
       let ended : a ≡ stop 0 (firstNot (passes s) c e) 0 0 = q ∙ rw (le-ltb (firstNot (passes s) c e) e (omega arith)) in
       absurd (omega (arith, ap (λ (k : Stop). k .what) ended))
@@ -174,7 +175,7 @@ module _ (g : ℕ) (registered failed : List ℕ) (c e a : ℕ) (ha : a ≡ firs
   met : ℕ → ℕ → Look
   met a b =
       cond (ltb a e)
-      (cond (bitAt 64 failed a) (FailedBefore (a * g)) (cond (ltb b e && bitAt 64 failed b) (FailedBefore (b * g)) (Stretch a b (a * g) (b * g))))
+      (cond (bitAt wordBits failed a) (FailedBefore (a * g)) (cond (ltb b e && bitAt wordBits failed b) (FailedBefore (b * g)) (Stretch a b (a * g) (b * g))))
       Nothing
 
   from-met : met a (firstNot (alike registered failed false) a e) ≡ stretchIn g registered failed c e
@@ -186,19 +187,19 @@ module _ (g : ℕ) (registered failed : List ℕ) (c e a : ℕ) (ha : a ≡ firs
   stretch-nothing h = sym (rw (le-ltb a e h)) ∙ from-met
 
   module _ (h : a < e) where
-    pub stretch-failed : bitAt 64 failed a ≡ true → FailedBefore (a * g) ≡ stretchIn g registered failed c e
+    pub stretch-failed : bitAt wordBits failed a ≡ true → FailedBefore (a * g) ≡ stretchIn g registered failed c e
     unfolding met
     stretch-failed f = sym (rw (lt-ltb a e h, f)) ∙ from-met
 
-    module _ (f : bitAt 64 failed a ≡ false) (b : ℕ) (hb : b ≡ firstNot (alike registered failed false) a e) where
+    module _ (f : bitAt wordBits failed a ≡ false) (b : ℕ) (hb : b ≡ firstNot (alike registered failed false) a e) where
       from-both : met a b ≡ stretchIn g registered failed c e
       from-both = ap (met a) hb ∙ from-met
 
-      pub stretch-ended : (ltb b e && bitAt 64 failed b) ≡ true → FailedBefore (b * g) ≡ stretchIn g registered failed c e
+      pub stretch-ended : (ltb b e && bitAt wordBits failed b) ≡ true → FailedBefore (b * g) ≡ stretchIn g registered failed c e
       unfolding met
       stretch-ended k = sym (rw (lt-ltb a e h, f, k)) ∙ from-both
 
-      pub stretch-found : (ltb b e && bitAt 64 failed b) ≡ false → Stretch a b (a * g) (b * g) ≡ stretchIn g registered failed c e
+      pub stretch-found : (ltb b e && bitAt wordBits failed b) ≡ false → Stretch a b (a * g) (b * g) ≡ stretchIn g registered failed c e
       unfolding met
       stretch-found k = sym (rw (lt-ltb a e h, f, k)) ∙ from-both
 

@@ -3,6 +3,8 @@ use mathlib.Core.Bool.{Bool, true, false, not, cond, _||_, _&&_}
 use mathlib.Core.List.{List, [], _∷_}
 use Prim.Native.Nat.{ℕ, _+_, _*_, _/_, _%_, _^_, min, max}
 use lib.Dec.{eqb, ltb}
+use Rattle.abi.specs.Kinds as kind
+use Rattle.abi.specs.Lengths.{wordBits}
 use Rattle.bitmap.specs.Pages.{bitAt}
 use Rattle.layout.specs.declared.MemoryRange.{MemoryRange}
 use Rattle.layout.specs.declared.MemoryRangeWithNode.{MemoryRangeWithNode}
@@ -29,11 +31,11 @@ seen g es r f = record { granularity = g; entries = es; registered = r; failed =
 
 -- nothing asked
 abbrev pub idle : Request
-idle = record { kind = 0; count = 0; from = 0; to = 0; start = 0; end = 0; until = 0; alignment = 0; ignore = 0 }
+idle = record { kind = kind.none; count = 0; from = 0; to = 0; start = 0; end = 0; until = 0; alignment = 0; ignore = 0 }
 
 abbrev pub isIdle : Request → Bool
 isIdle q =
-    eqb (q .kind) 0 && (eqb (q .count) 0 && (eqb (q .from) 0 && (eqb (q .to) 0 && (eqb (q .start) 0 && (eqb (q .end) 0 && (eqb (q .until) 0 && (eqb (q .alignment) 0 && eqb (q .ignore) 0)))))))
+    eqb (q .kind) kind.none && (eqb (q .count) 0 && (eqb (q .from) 0 && (eqb (q .to) 0 && (eqb (q .start) 0 && (eqb (q .end) 0 && (eqb (q .until) 0 && (eqb (q .alignment) 0 && eqb (q .ignore) 0)))))))
 
 -- the operation that a request asks for, at offset + address in 64 bits
 abbrev pub askedOf : ℕ → Request → Answer
@@ -59,12 +61,12 @@ ramFrom g es c x = firstOf (pieces x ((c + 1) * g) (spans es))
 -- a chunk that asks for nothing: it is registered, or has not failed and has no RAM
 abbrev pub passes : Seen → ℕ → Bool
 passes s c =
-    bitAt 64 (s .registered) c || (not (bitAt 64 (s .failed) c) && empty (ramFrom (s .granularity) (s .entries) c (c * s .granularity)))
+    bitAt wordBits (s .registered) c || (not (bitAt wordBits (s .failed) c) && empty (ramFrom (s .granularity) (s .entries) c (c * s .granularity)))
 
 -- a piece of RAM of the chunks from a to before b, for a request that ends before chunk `until` and has asked n times
 abbrev pub pieceOf : ℕ → ℕ → ℕ → ℕ → MemoryRange → Request
 pieceOf n a b until r =
-    record { kind = 1; count = more n; from = a; to = b; start = r .start; end = r .end; until = until; alignment = 0; ignore = 0 }
+    record { kind = kind.register; count = more n; from = a; to = b; start = r .start; end = r .end; until = until; alignment = 0; ignore = 0 }
 
 -- from chunk c on: chunks that ask for nothing become registered; one that failed before ends it with 23; else its RAM is offered
 unfoldable pub registerFrom : Seen → ℕ → ℕ → ℕ → ℕ → Plan
@@ -72,7 +74,7 @@ registerFrom s offset n c until =
     let e : ℕ = min until (chunkCount (s .granularity) (s .entries)) in
     let t : ℕ = firstNot (passes s) c e in
     cond (ltb t e)
-    (cond (bitAt 64 (s .failed) t) (ends c t (RegistrationFailed (t * s .granularity) n))
+    (cond (bitAt wordBits (s .failed) t) (ends c t (RegistrationFailed (t * s .granularity) n))
     (asks offset c t (pieceOf n t (t + 1) until (ramFrom (s .granularity) (s .entries) t (t * s .granularity)))))
     (ends c t (Done n))
 
@@ -85,8 +87,8 @@ stop what c x y = record { what = what; chunk = c; start = x; end = y }
 abbrev pub offerOf : Seen → ℕ → Stop
 offerOf s c =
     let r : MemoryRange = ramFrom (s .granularity) (s .entries) c (c * s .granularity) in
-    cond (bitAt 64 (s .registered) c) (stop 0 c 0 0)
-    (cond (bitAt 64 (s .failed) c) (stop 2 c (c * s .granularity) 0)
+    cond (bitAt wordBits (s .registered) c) (stop 0 c 0 0)
+    (cond (bitAt wordBits (s .failed) c) (stop 2 c (c * s .granularity) 0)
     (cond (empty r) (stop 0 c 0 0) (stop 1 c (r .start) (r .end))))
 
 -- where a walk from chunk c to before e stops
@@ -94,7 +96,7 @@ unfoldable pub stopAt : Seen → ℕ → ℕ → Stop
 stopAt s c e =
     let t : ℕ = firstNot (passes s) c e in
     let r : MemoryRange = ramFrom (s .granularity) (s .entries) t (t * s .granularity) in
-    cond (ltb t e) (cond (bitAt 64 (s .failed) t) (stop 2 t (t * s .granularity) 0) (stop 1 t (r .start) (r .end))) (stop 0 t 0 0)
+    cond (ltb t e) (cond (bitAt wordBits (s .failed) t) (stop 2 t (t * s .granularity) 0) (stop 1 t (r .start) (r .end))) (stop 0 t 0 0)
 
 -- the plan of such a stop
 abbrev pub stopPlan : ℕ → ℕ → ℕ → ℕ → Stop → Plan
@@ -110,7 +112,7 @@ stretchIn g registered failed c e =
     let a : ℕ = firstNot (alike registered failed true) c e in
     let b : ℕ = firstNot (alike registered failed false) a e in
     cond (ltb a e)
-    (cond (bitAt 64 failed a) (FailedBefore (a * g)) (cond (ltb b e && bitAt 64 failed b) (FailedBefore (b * g)) (Stretch a b (a * g) (b * g))))
+    (cond (bitAt wordBits failed a) (FailedBefore (a * g)) (cond (ltb b e && bitAt wordBits failed b) (FailedBefore (b * g)) (Stretch a b (a * g) (b * g))))
     Nothing
 
 -- a span: its edge unless edges are ignored, else what its aligned part has from chunk c on
@@ -130,7 +132,7 @@ unalignedAt es al r edge =
 -- the chunks from a to before b, bytes x to before y, for a call that has asked n times
 abbrev pub stretchOf : ℕ → ℕ → ℕ → ℕ → ℕ → ℕ → ℕ → Request
 stretchOf n al ignore a b x y =
-    record { kind = 2; count = more n; from = a; to = b; start = x; end = y; until = 0; alignment = al; ignore = ignore }
+    record { kind = kind.registerAll; count = more n; from = a; to = b; start = x; end = y; until = 0; alignment = al; ignore = ignore }
 
 -- what is found in a span ends the step, save nothing
 abbrev pub found : List MemoryRangeWithNode → ℕ → ℕ → ℕ → ℕ → MemoryRange → Look → Plan → Plan

@@ -3,10 +3,12 @@ ghost use mathlib.Core.Path.{_≡_};
 ghost use Prim.Native.Nat.{ℕ, _+_, _*_, _≤_, _<_, _^_, min};
 ghost use mathlib.Core.Bool.{true, not, _&&_};
 ghost use lib.Dec.{eqb, ltb};
+ghost use Rattle.abi.specs.Lengths.{wordBits};
 ghost use Rattle.bitmap.specs.Pages.{bitAt};
 ghost use Rattle.layout.specs.Layout.{entriesOf, spans};
 ghost use Rattle.chunks.specs.Chunks.{chunkCount, empty};
 ghost use Rattle.registrar_steps.specs.Steps.{seen, ramFrom, idle, isIdle, askedOf, asks, ends, pieceOf, stop, offerOf, stopAt, stretchIn, lookAt, unalignedAt, stretchOf, isNothing, found, allFrom};
+use abi::kind;
 use layout::MemoryRange;
 
 // The request under way. kind: 0 nothing asked, 1 register, else register_all_aligned. The chunks from `from` to before
@@ -186,7 +188,7 @@ pub fn idle() -> Request
     ensures { λ q. ⌜ q ≡ idle ⌝ }
 {
     Request {
-        kind: 0,
+        kind: kind::NONE,
         count: 0,
         from: 0,
         to: 0,
@@ -201,7 +203,7 @@ pub fn idle() -> Request
 pub fn is_idle(q: Request) -> bool
     ensures { λ r. ⌜ r ≡ isIdle q ⌝ }
 {
-    if q.kind != 0 {
+    if q.kind != kind::NONE {
         return false;
     }
     if q.count != 0 {
@@ -244,7 +246,7 @@ pub fn piece(count: u64, from: u64, to: u64, until: u64, r: MemoryRange) -> Requ
     ensures { λ q. ⌜ q ≡ pieceOf count from to until r ⌝ }
 {
     Request {
-        kind: 1,
+        kind: kind::REGISTER,
         count: std::num::wrapping_add_u64(count, 1),
         from: from,
         to: to,
@@ -257,7 +259,7 @@ pub fn piece(count: u64, from: u64, to: u64, until: u64, r: MemoryRange) -> Requ
 }
 
 fn is_failed_before(failed: &[u64], c: u64, to: u64) -> bool
-    ensures { λ r. ⌜ r ≡ (ltb c to && bitAt 64 (now (failed .entry)) c) ⌝ }
+    ensures { λ r. ⌜ r ≡ (ltb c to && bitAt wordBits (now (failed .entry)) c) ⌝ }
 {
     if c < to {
         bitmap::get(failed, c)
@@ -374,7 +376,7 @@ fn stretch_request(
     ensures { λ q. ⌜ q ≡ stretchOf count alignment ignore from to start end ⌝ }
 {
     Request {
-        kind: 2,
+        kind: kind::REGISTER_ALL,
         count: std::num::wrapping_add_u64(count, 1),
         from: from,
         to: to,

@@ -5,13 +5,14 @@ use mathlib.Core.Path.{_≡_, ap, _∙_}
 use Prim.Native.Nat.{ℕ, _+_, _-_, _≤_}
 use mathlib.Core.List.{List}
 use lib.ListN.{length, getD, set, length-set}
+use Rattle.abi.specs.Lengths.{ramLen, registrarLen}
 use Rattle.registrar.proofs.Laws.{filledTo}
 use Rattle.registrar.proofs.Laws as laws
 use Rattle.registrar.proofs.build_state.Statement.{statement}
 use Rattle.registrar.proofs.build_state.Tie as tie
 
 abbrev Inv-loop : tie.InvT-loop
-Inv-loop state₀ ram offset granularity n i₀ state i = (i ≤ length ram) × (length state ≡ 108) × (length ram ≤ 96) × (state ≡ filledTo ram offset granularity i)
+Inv-loop state₀ ram offset granularity n i₀ state i = (i ≤ length ram) × (length state ≡ registrarLen) × (length ram ≤ ramLen) × (state ≡ filledTo ram offset granularity i)
 
 abbrev μ-loop : tie.MeasureT-loop
 μ-loop state₀ ram offset granularity n i₀ state i = length ram - i
