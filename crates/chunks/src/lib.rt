@@ -59,7 +59,9 @@ pub fn map_words(n: u64) -> u64
 fn page_end(address: u64, len: u64) -> u64
     ensures { λ r. ⌜ r ≡ up (address + len) pageSize ⌝ }
 {
-    address / PAGE_SIZE + len / PAGE_SIZE + div_ceil(address % PAGE_SIZE + len % PAGE_SIZE, PAGE_SIZE)
+    address / PAGE_SIZE
+        + len / PAGE_SIZE
+        + div_ceil(address % PAGE_SIZE + len % PAGE_SIZE, PAGE_SIZE)
 }
 
 pub fn first_chunk(g: u64, address: u64) -> u64
@@ -349,7 +351,11 @@ fn set_some(map: &mut [u64], c: u64, to: u64) -> u64
 fn stop_at(len: u64, to: u64) -> u64
     ensures { λ r. ⌜ r ≡ min to (len * wordBits) ⌝ }
 {
-    if to / WORD_BITS < len { to } else { len * WORD_BITS }
+    if to / WORD_BITS < len {
+        to
+    } else {
+        len * WORD_BITS
+    }
 }
 
 // The chunks from `from` to before `to`, set; nothing past the end.

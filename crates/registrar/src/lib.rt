@@ -113,7 +113,14 @@ fn answer(state: &[u64], n: u64, count: u64, until: u64, c: u64) -> Reply
         return registrar_state::simple(0, 1, 0, start, end, 0);
     }
     if c < numbers::least(until, n) {
-        return registrar_state::simple(refusal::REGISTRATION_FAILED, 0, count, 0, 0, c * state[place::GRANULARITY]);
+        return registrar_state::simple(
+            refusal::REGISTRATION_FAILED,
+            0,
+            count,
+            0,
+            0,
+            c * state[place::GRANULARITY],
+        );
     }
     registrar_state::simple(0, 0, count, 0, 0, 0)
 }

@@ -9,6 +9,8 @@ use lib.Dec.{eqb}
 use lib.ListN.{length, getD, drop, take, replicate, length-append, length-drop, length-replicate, getD-replicate, List·getD-eq-default}
 use lib.Seq.{drop-drop, take-at, getD-drop}
 use borrow.Author.Tests.{eqb-true, eq-eqb, le-leb}
+use Rattle.abi.specs.Kinds as kind
+use Rattle.abi.specs.RegistrarPlaces as place
 use Rattle.abi.specs.Lengths.{ramLen, registrarLen, wordBits}
 use Rattle.laws.specs.Bools.{and-true, lt-or-le}
 use Rattle.laws.specs.Refusal.{passed}
@@ -47,11 +49,11 @@ pub record Sound (w : World) : Type 0 where
 ram-in : List ℕ → List ℕ
 ram-in tail = take (3 * getD tail 2 0) (drop 3 tail)
 
-ram-tail : (s : List ℕ) → ramOf s ≡ ram-in (drop 9 s)
+ram-tail : (s : List ℕ) → ramOf s ≡ ram-in (drop place.afterRequest s)
 unfolding ram-in
-ram-tail s = ap₂ (λ (n : ℕ) (l : List ℕ). take (3 * n) l) (sym (getD-drop 9 s 2 0)) (sym (drop-drop 3 9 s))
+ram-tail s = ap₂ (λ (n : ℕ) (l : List ℕ). take (3 * n) l) (sym (getD-drop place.afterRequest s 2 0)) (sym (drop-drop 3 place.afterRequest s))
 
-module _ (s t : List ℕ) (e : drop 9 t ≡ drop 9 s) where
+module _ (s t : List ℕ) (e : drop place.afterRequest t ≡ drop place.afterRequest s) where
   pub kept-ram : ramOf t ≡ ramOf s
   kept-ram = ram-tail t ∙ ap ram-in e ∙ sym (ram-tail s)
 
@@ -59,10 +61,10 @@ module _ (s t : List ℕ) (e : drop 9 t ≡ drop 9 s) where
   kept-entries = ap entriesOf kept-ram
 
   pub kept-offset : offsetOf t ≡ offsetOf s
-  kept-offset = sym (getD-drop 9 t 0 0) ∙ ap (λ (l : List ℕ). getD l 0 0) e ∙ getD-drop 9 s 0 0
+  kept-offset = sym (getD-drop place.afterRequest t 0 0) ∙ ap (λ (l : List ℕ). getD l 0 0) e ∙ getD-drop place.afterRequest s 0 0
 
   pub kept-granularity : granularityOf t ≡ granularityOf s
-  kept-granularity = sym (getD-drop 9 t 1 0) ∙ ap (λ (l : List ℕ). getD l 1 0) e ∙ getD-drop 9 s 1 0
+  kept-granularity = sym (getD-drop place.afterRequest t 1 0) ∙ ap (λ (l : List ℕ). getD l 1 0) e ∙ getD-drop place.afterRequest s 1 0
 
 -- bitmaps of the same lengths fit alike
 lengths-same : (g h : ℕ) (es fs : List MemoryRangeWithNode) (r m f n : List ℕ) → g ≡ h → es ≡ fs → length r ≡ length m → length f ≡ length n → lengthsFit g es r f ≡ lengthsFit h fs m n
@@ -141,7 +143,7 @@ sound-with w q r f h k words er ef =
       request = fits-at _ _ q (sym (ap lastEnd es)) k;
       pages = record { pages = h .pages .pages; some = h .pages .some; whole = eg ∙ h .pages .whole };
       room = omega (arith, h .room, kept-offset (w .state) t refl, ap lastEnd es);
-      block = omega (arith, h .block, length-drop 9 (w .state));
+      block = omega (arith, h .block, length-drop place.afterRequest (w .state));
       lengths = lengths-same (granularityOf t) (granularityOf (w .state)) (entriesIn t) (entriesIn (w .state)) r (w .registered) f (w .failed) eg es er ef ∙ h .lengths;
     }
 
@@ -210,7 +212,7 @@ module _ (w : World) (ram : List ℕ) (o g : ℕ) (z : buildRefusal w ram o g �
   registered-always-kept address len z h =
       let g : ℕ = granularityOf (v .state) in
       let a = passed (eqb (length (v .state)) registrarLen) 3 _ z in
-      let b = passed (eqb (requestOf (v .state) .kind) 0) 18 _ (a .1) in
+      let b = passed (eqb (requestOf (v .state) .kind) kind.none) 18 _ (a .1) in
       let i : isIdle (requestOf (v .state)) ≡ true = ap isIdle (sound-from .request .rests (eqb-true _ _ (b .0))) in
       let f : firstNot (bitAt wordBits (v .registered)) (firstChunk g address) (endChunk g address len) ≡ max (firstChunk g address) (endChunk g address len) =
       first-all (bitAt wordBits (v .registered)) (firstChunk g address) (endChunk g address len) h in

@@ -7,6 +7,7 @@ use Prim.Native.Nat.{ℕ, _+_, _*_, _%_, _^_, min}
 use lib.Dec.{eqb, ltb}
 use lib.ListN.{length}
 use borrow.Author.Tests.{eqb-true, eqb-false}
+use Rattle.abi.specs.Kinds as kind
 use Rattle.abi.specs.Lengths.{wordBits}
 use Rattle.bitmap.specs.Pages.{bitAt}
 use Rattle.layout.specs.declared.MemoryRange.{MemoryRange}
@@ -27,7 +28,7 @@ use Rattle.registrar_claims.specs.Claims.{Counts}
 -- a plan of a call that has asked n times: asking once more, or reporting n; and it asks where its request is of a kind
 abbrev pub PlanCounts : ℕ → Plan → Type 0
 PlanCounts n p =
-    (flatOf (p .answer) .asked ≡ 1 → p .request .count ≡ more n) × (flatOf (p .answer) .asked ≡ 0 → flatOf (p .answer) .count ≡ n) × (eqb (flatOf (p .answer) .asked) 1 ≡ not (eqb (p .request .kind) 0))
+    (flatOf (p .answer) .asked ≡ 1 → p .request .count ≡ more n) × (flatOf (p .answer) .asked ≡ 0 → flatOf (p .answer) .count ≡ n) × (eqb (flatOf (p .answer) .asked) 1 ≡ not (eqb (p .request .kind) kind.none))
 
 no-one : {X : Type 0} → _≡_ {A = ℕ} 0 1 → X
 no-one e = absurd (omega arith)
@@ -62,7 +63,7 @@ all-counts s o n al ignore c (r ∷ rs) = go (lookAt (s .granularity) (s .regist
 pub done-counts : (w : World) → PlanCounts (requestOf (w .state) .count) (donePlan w)
 done-counts w =
     let q : Request = requestOf (w .state) in
-    go (hasRest (w .state)) (eqb (q .kind) 1) _ _ (register-counts (seenIn w) (offsetOf (w .state)) (q .count) (q .to) (q .until))
+    go (hasRest (w .state)) (eqb (q .kind) kind.register) _ _ (register-counts (seenIn w) (offsetOf (w .state)) (q .count) (q .to) (q .until))
     (all-counts (seenIn w) (offsetOf (w .state)) (q .count) (q .alignment) (q .ignore) (q .to) (spans (entriesIn (w .state))))
   where
     go : (x y : Bool) (a b : Plan) → PlanCounts (requestOf (w .state) .count) a → PlanCounts (requestOf (w .state) .count) b

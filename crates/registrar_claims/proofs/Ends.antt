@@ -9,9 +9,11 @@ use native.Mathlib.Nat.{mul-le-mul-right, suc-mul}
 use lib.Dec.{eqb, leb, ltb}
 use lib.ListN.{length, replicate}
 use borrow.Author.Tests.{eqb-false, eq-eqb, ne-eqb, ltb-true, leb-false, not-true, not-false}
+use Rattle.abi.specs.Kinds as kind
+use Rattle.abi.specs.Refusals as refusal
 use Rattle.abi.specs.Lengths.{registrarLen, wordBits}
 use Rattle.laws.specs.Bools.{digit, and-right, both-true, false≢true}
-use Rattle.laws.specs.Refusal.{unless, passed}
+use Rattle.laws.specs.Refusal.{unless, passed, when-passed}
 use Rattle.bitmap.specs.Pages.{bitAt}
 use Rattle.layout.specs.declared.MemoryRange.{MemoryRange}
 use Rattle.layout.specs.Layout.{spans}
@@ -46,7 +48,7 @@ module _ (P : ℕ → Bool) where
 
 -- a plan that asks goes past chunk c
 abbrev Past : ℕ → Request → Type 0
-Past c q = (q .kind ≡ 0) ⊎ (c < q .to)
+Past c q = (q .kind ≡ kind.none) ⊎ (c < q .to)
 
 register-past : (s : Seen) (o n c last : ℕ) → Past c (registerFrom s o n c last .request)
 unfolding registerFrom
@@ -145,29 +147,29 @@ pieces-past x y (r ∷ rs) h = go (empty (part x y r)) refl h (pieces-past x y r
 lex : (k a a′ b b′ : ℕ) → a′ < a → b′ < k → suc (a′ * k + b′) < suc (a * k + b)
 lex k a a′ b b′ h l = omega (arith, mul-le-mul-right {m = suc a′} {n = a} k h, suc-mul a′ k)
 
-less-past : (q r : Request) → q .to < 2 ^ 64 → (q .kind ≡ 0 → ⊥) → Past (q .to) r → leftOf r < leftOf q
+less-past : (q r : Request) → q .to < 2 ^ 64 → (q .kind ≡ kind.none → ⊥) → Past (q .to) r → leftOf r < leftOf q
 less-past q r b k h =
-    rw (ne-eqb (q .kind) 0 k)
-    (⊎-elim (λ z. rw (eq-eqb (r .kind) 0 z) (omega arith)) (λ l. bounded (eqb (r .kind) 0) l) h)
+    rw (ne-eqb (q .kind) kind.none k)
+    (⊎-elim (λ z. rw (eq-eqb (r .kind) kind.none z) (omega arith)) (λ l. bounded (eqb (r .kind) kind.none) l) h)
   where
     bounded : (t : Bool) → q .to < r .to → cond t 0 (suc ((2 ^ 64 - r .to) * 2 ^ 65 + (2 ^ 64 - r .end))) < suc ((2 ^ 64 - q .to) * 2 ^ 65 + (2 ^ 64 - q .end))
     bounded true l = omega arith
     bounded false l = lex (2 ^ 65) (2 ^ 64 - q .to) (2 ^ 64 - r .to) (2 ^ 64 - q .end) (2 ^ 64 - r .end) (omega arith) (omega arith)
 
 -- something is asked where an answer is taken
-asked-kind : (w : World) → answerRefusal w ≡ 0 → requestOf (w .state) .kind ≡ 0 → ⊥
+asked-kind : (w : World) → answerRefusal w ≡ 0 → requestOf (w .state) .kind ≡ kind.none → ⊥
 unfolding answerRefusal
 asked-kind w h =
     let a = passed (eqb (length (w .state)) registrarLen) 3 _ h in
     let b = passed (lengthsFit (granularityOf (w .state)) (entriesIn (w .state)) (w .registered) (w .failed)) 3 _ (a .1) in
-    let d = passed (not (eqb (requestOf (w .state) .kind) 0)) 20 _ (b .1) in
-    eqb-false _ _ (not-true _ (d .0))
+    let d = when-passed (eqb (requestOf (w .state) .kind) kind.none) 20 _ (b .1) in
+    eqb-false _ _ (d .0)
 
-plan-lowers : (w : World) → (requestOf (w .state) .kind ≡ 0 → ⊥) → requestOf (w .state) .to < 2 ^ 64 → requestOf (w .state) .end < 2 ^ 64
+plan-lowers : (w : World) → (requestOf (w .state) .kind ≡ kind.none → ⊥) → requestOf (w .state) .to < 2 ^ 64 → requestOf (w .state) .end < 2 ^ 64
     → leftOf (donePlan w .request) < left w
 plan-lowers w k bt be =
     let q : Request = requestOf (w .state) in
-    go (hasRest (w .state)) refl (eqb (q .kind) 1)
+    go (hasRest (w .state)) refl (eqb (q .kind) kind.register)
     (less-past q (registerFrom (seenIn w) (offsetOf (w .state)) (q .count) (q .to) (q .until) .request) bt k (register-past (seenIn w) (offsetOf (w .state)) (q .count) (q .to) (q .until)))
     (less-past q (allFrom (seenIn w) (offsetOf (w .state)) (q .count) (q .alignment) (q .ignore) (q .to) (spans (entriesIn (w .state))) .request) bt k
     (all-past (seenIn w) (offsetOf (w .state)) (q .count) (q .alignment) (q .ignore) (q .to) (spans (entriesIn (w .state)))))
@@ -179,15 +181,15 @@ plan-lowers w k bt be =
         (cond y (registerFrom (seenIn w) (offsetOf (w .state)) (requestOf (w .state) .count) (requestOf (w .state) .to) (requestOf (w .state) .until))
         (allFrom (seenIn w) (offsetOf (w .state)) (requestOf (w .state) .count) (requestOf (w .state) .alignment) (requestOf (w .state) .ignore) (requestOf (w .state) .to) (spans (entriesIn (w .state))))) .request) < left w
     go true e y h g =
-        let p = pieces-past (requestOf (w .state) .end) ((requestOf (w .state) .from + 1) * granularityOf (w .state)) (spans (entriesIn (w .state))) (not-true _ (and-right (eqb (requestOf (w .state) .kind) 1) _ e)) in
-        rw (ne-eqb (requestOf (w .state) .kind) 0 k) (omega arith)
+        let p = pieces-past (requestOf (w .state) .end) ((requestOf (w .state) .from + 1) * granularityOf (w .state)) (spans (entriesIn (w .state))) (not-true _ (and-right (eqb (requestOf (w .state) .kind) kind.register) _ e)) in
+        rw (ne-eqb (requestOf (w .state) .kind) kind.none k) (omega arith)
     go false e true h g = h
     go false e false h g = g
 
 -- THE CLAIM: an answer that is not refused lowers the number
 pub failed-lowers : (w : World) → answerRefusal w ≡ 0 → left (failedOf w .world) < left w
 unfolding failedOf
-failed-lowers w h = rw (eq-eqb (answerRefusal w) 0 h) (rw (ne-eqb (requestOf (w .state) .kind) 0 (asked-kind w h)) (omega arith))
+failed-lowers w h = rw (eq-eqb (answerRefusal w) 0 h) (rw (ne-eqb (requestOf (w .state) .kind) kind.none (asked-kind w h)) (omega arith))
 
 pub done-lowers : (w : World) → answerRefusal w ≡ 0 → requestOf (w .state) .to < 2 ^ 64 → requestOf (w .state) .end < 2 ^ 64 → left (doneOf w .world) < left w
 unfolding doneOf
@@ -230,9 +232,9 @@ answer-answered w AnswerFailed s i = go (underWay w) refl
 
 -- meanwhile register and register_all_aligned are refused
 busy-refused : (w : World) (rest : ℕ) (o : Outcome) → underWay w ≡ true → isTaken (decided w (callRefusal w rest) o) ≡ false
-busy-refused w rest o k = rw (not-true (eqb (requestOf (w .state) .kind) 0) k) (go (eqb (length (w .state)) registrarLen))
+busy-refused w rest o k = rw (not-true (eqb (requestOf (w .state) .kind) kind.none) k) (go (eqb (length (w .state)) registrarLen))
   where
-    go : (t : Bool) → isTaken (decided w (unless t 4 19) o) ≡ false
+    go : (t : Bool) → isTaken (decided w (unless t refusal.wrongLength refusal.busy) o) ≡ false
     go true = refl
     go false = refl
 
@@ -241,9 +243,9 @@ unfolding give registerOf registerRefusal allOf allRefusal
 call-busy w (Build ram o g) k a b = false≢true (sym b)
 call-busy w (RegisterRange address len) k a b =
     let g : ℕ = granularityOf (w .state) in
-    busy-refused w (unless (chunksFit (w .state) (firstChunk g address) (endChunk g address len)) 9 0) (carriedOut w (registerPlan w address len)) k
+    busy-refused w (unless (chunksFit (w .state) (firstChunk g address) (endChunk g address len)) refusal.unfitChunk 0) (carriedOut w (registerPlan w address len)) k
 call-busy w (RegisterAll al ig) k a b =
-    busy-refused w (unless (leb ig 1) 8 (unless (leb (granularityOf (w .state)) al && isPower al) 9 0)) (carriedOut w (allPlan w al ig)) k
+    busy-refused w (unless (leb ig 1) refusal.unfitNumber (unless (leb (granularityOf (w .state)) al && isPower al) refusal.unfitChunk 0)) (carriedOut w (allPlan w al ig)) k
 call-busy w AnswerDone k a b = false≢true (sym a)
 call-busy w AnswerFailed k a b = false≢true (sym a)
 
@@ -266,17 +268,17 @@ answers-lower (x ∷ xs) w s o =
 
 -- the number is 0 where nothing is under way, and nowhere else
 none-left : (w : World) → left w ≤ 0 → underWay w ≡ false
-none-left w = go (eqb (requestOf (w .state) .kind) 0)
+none-left w = go (eqb (requestOf (w .state) .kind) kind.none)
   where
     go : (t : Bool) → cond t 0 (suc ((2 ^ 64 - requestOf (w .state) .to) * 2 ^ 65 + (2 ^ 64 - requestOf (w .state) .end))) ≤ 0 → not t ≡ false
     go true h = refl
     go false h = absurd (omega arith)
 
 some-left : (w : World) → underWay w ≡ true → 0 < left w
-some-left w h = rw (not-true (eqb (requestOf (w .state) .kind) 0) h) (omega arith)
+some-left w h = rw (not-true (eqb (requestOf (w .state) .kind) kind.none) h) (omega arith)
 
 idle-left : (w : World) → underWay w ≡ false → left w ≡ 0
-idle-left w h = rw (not-false (eqb (requestOf (w .state) .kind) 0) h)
+idle-left w h = rw (not-false (eqb (requestOf (w .state) .kind) kind.none) h)
 
 -- THE CLAIM: as many answers as the number says end the request, with any refused calls between them
 pub answers-end : (xs : List Call) (w : World) → Sound w → onlyAnswers w xs ≡ true → left w ≤ answersIn xs → underWay (after w xs) ≡ false

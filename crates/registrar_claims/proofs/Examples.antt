@@ -3,7 +3,6 @@ use mathlib.Core.Path.{_≡_, refl}
 use mathlib.Core.Bool.{true, false}
 use mathlib.Core.List.{List, [], _∷_}
 use Prim.Native.Nat.{ℕ, _+_, _-_, _^_}
-use Rattle.abi.specs.Lengths.{pageSize}
 use Rattle.bitmap.specs.Pages.{word, writtenFrom}
 use Rattle.layout.specs.Layout.{entriesOf, ordered, aligned, refusalOf, spans, spansFrom}
 use Rattle.chunks.specs.Chunks.{powerFrom, pieces, firstNotOf, entryWith}
@@ -32,7 +31,7 @@ unfit-granularity : buildRefusal (world (builtState worked 0 1) [] []) worked 0 
 unfolding buildRefusal entriesOf ordered aligned refusalOf powerFrom
 unfit-granularity = refl
 
-no-bitmaps : buildRefusal (world (builtState worked 0 pageSize) [] []) worked 0 pageSize ≡ 4
+no-bitmaps : buildRefusal (world (builtState worked 0 4096) [] []) worked 0 4096 ≡ 4
 unfolding buildRefusal entriesOf ordered aligned refusalOf powerFrom
 no-bitmaps = refl
 

@@ -9,6 +9,7 @@ use native.Mathlib.Nat.{mul-le-mul-right, div-le-self, div-mul-le-self}
 use lib.Dec.{eqb, ltb}
 use lib.ListN.{length, List·getD-eq-default}
 use borrow.Author.Tests.{ltb-true, leb-false}
+use Rattle.abi.specs.Kinds as kind
 use Rattle.abi.specs.Lengths.{wordBits}
 use Rattle.bitmap.specs.Pages.{bitAt}
 use Rattle.layout.specs.declared.MemoryRange.{MemoryRange}
@@ -28,7 +29,7 @@ use Rattle.registrar_claims.proofs.Stretches.{part-end}
 
 -- a request of memory that ends at m
 pub record Fits (m : ℕ) (q : Request) : Type 0 where
-  pub rests : q .kind ≡ 0 → q ≡ idle
+  pub rests : q .kind ≡ kind.none → q ≡ idle
   pub to-fits : q .to < 2 ^ 64
   pub end-fits : q .end < 2 ^ 64
   pub upward : q .start ≤ q .end
@@ -195,7 +196,7 @@ module _ (w : World) (ord : ordered 0 (entriesIn (w .state)) ≡ true) where
   pub done-asks : Fits last (requestOf (w .state)) → Fits last (donePlan w .request)
   done-asks f =
       let q : Request = requestOf (w .state) in
-      go (hasRest (w .state)) (eqb (q .kind) 1) _ _ (register-asks (q .count) (q .to) (q .until)) (all-asks (q .count) (q .alignment) (q .ignore) (q .to))
+      go (hasRest (w .state)) (eqb (q .kind) kind.register) _ _ (register-asks (q .count) (q .to) (q .until)) (all-asks (q .count) (q .alignment) (q .ignore) (q .to))
     where
       go : (x y : Bool) (a b : Plan) → Fits last (a .request) → Fits last (b .request)
           → Fits last (cond x (asks (offsetOf (w .state)) 0 0 (pieceOf (requestOf (w .state) .count) (requestOf (w .state) .from) (requestOf (w .state) .to) (requestOf (w .state) .until) (restOf (w .state)))) (cond y a b) .request)

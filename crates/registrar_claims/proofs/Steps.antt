@@ -8,6 +8,8 @@ use Prim.Native.Nat.{ℕ, zero, suc, _+_, _-_, _*_, _/_, _%_, _^_, _≤_, _<_, m
 use lib.Dec.{eqb, leb, ltb}
 use lib.ListN.{length, getD, drop, take, List·getD-eq-default}
 use borrow.Author.Tests.{eqb-true, eq-eqb, lt-ltb, le-ltb, leb-true}
+use Rattle.abi.specs.Kinds as kind
+use Rattle.abi.specs.RegistrarPlaces as place
 use Rattle.abi.specs.Lengths.{registrarLen, wordBits}
 use Rattle.laws.specs.Bools.{and-left, and-right, or-true, lt-or-le}
 use Rattle.laws.specs.Refusal.{passed}
@@ -135,7 +137,7 @@ module _ (tail f : List ℕ) (last : ℕ) where
 
   module _ (long : length tail ≡ 99) (f-long : length f ≡ mapWords g es) (asc : Ascend 0 rs) (low : last ≤ chunkCount g es) where
     -- no answer is refused
-    not-refused : (q : Request) (r : List ℕ) → q .kind ≡ 1 → length r ≡ mapWords g es → answerRefusal (at q r) ≡ 0
+    not-refused : (q : Request) (r : List ℕ) → q .kind ≡ kind.register → length r ≡ mapWords g es → answerRefusal (at q r) ≡ 0
     unfolding answerRefusal
     not-refused q r h l =
         rw (eq-eqb (length (requestWords q ++ tail)) registrarLen (omega arith), eq-eqb (length r) (mapWords g es) l, eq-eqb (length f) (mapWords g es) f-long, h)
@@ -294,7 +296,7 @@ register-at tail f r q address len bs z ord wr =
     let first : ℕ = firstChunk g address in
     let last : ℕ = endChunk g address len in
     let a = passed (eqb (length (requestWords q ++ tail)) registrarLen) 3 _ z in
-    let b = passed (eqb (q .kind) 0) 18 _ (a .1) in
+    let b = passed (eqb (q .kind) kind.none) 18 _ (a .1) in
     let d = passed (lengthsFit g (entriesIn (w .state)) r f) 3 _ (b .1) in
     let e = passed (chunksFit (w .state) (firstChunk (granularityOf (w .state)) address) (endChunk (granularityOf (w .state)) address len)) 8 _ (d .1) in
     let l : length (requestWords q ++ tail) ≡ registrarLen = eqb-true _ _ (a .0) in
@@ -317,13 +319,13 @@ pub register-is-whole : (w : World) (address len : ℕ) (bs : List Bool) → reg
     → Words (w .registered) → Match 0 (follow (registerOf w address len) bs) (wholeRegister w address len bs)
 register-is-whole w address len bs z ord h =
     let l : length (w .state) ≡ registrarLen = register-long w (registerRefusal w address len) z address len refl in
-    let e : w .state ≡ requestWords (requestOf (w .state)) ++ drop 9 (w .state) = split-state (w .state) (omega arith) in
+    let e : w .state ≡ requestWords (requestOf (w .state)) ++ drop place.afterRequest (w .state) = split-state (w .state) (omega arith) in
     go (w .state) e z ord
   where
-    go : (s : List ℕ) → s ≡ requestWords (requestOf s) ++ drop 9 s → registerRefusal (world s (w .registered) (w .failed)) address len ≡ 0 → ordered 0 (entriesIn s) ≡ true
+    go : (s : List ℕ) → s ≡ requestWords (requestOf s) ++ drop place.afterRequest s → registerRefusal (world s (w .registered) (w .failed)) address len ≡ 0 → ordered 0 (entriesIn s) ≡ true
         → Match 0 (follow (registerOf (world s (w .registered) (w .failed)) address len) bs) (wholeRegister (world s (w .registered) (w .failed)) address len bs)
     go s e z ord =
         subst
         (λ (t : List ℕ). Match 0 (follow (registerOf (world t (w .registered) (w .failed)) address len) bs) (wholeRegister (world t (w .registered) (w .failed)) address len bs)) (sym e)
-        (register-at (drop 9 s) (w .failed) (w .registered) (requestOf s) address len bs
+        (register-at (drop place.afterRequest s) (w .failed) (w .registered) (requestOf s) address len bs
         (subst (λ (t : List ℕ). registerRefusal (world t (w .registered) (w .failed)) address len ≡ 0) e z) (subst (λ (t : List ℕ). ordered 0 (entriesIn t) ≡ true) e ord) h)

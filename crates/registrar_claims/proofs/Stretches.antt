@@ -9,6 +9,8 @@ use native.Mathlib.Nat.{div-zero, div-add-mod', div-mul-le-self, le-div-iff-mul-
 use lib.Dec.{eqb, ltb}
 use lib.ListN.{length, getD, drop, take}
 use borrow.Author.Tests.{eqb-true, eq-eqb, lt-ltb, le-ltb, ltb-true, ltb-false, leb-false}
+use Rattle.abi.specs.Kinds as kind
+use Rattle.abi.specs.RegistrarPlaces as place
 use Rattle.abi.specs.Lengths.{registrarLen, wordBits}
 use Rattle.laws.specs.Bools.{and-left, and-right, and-true, false≢true, lt-or-le}
 use Rattle.laws.specs.Refusal.{passed}
@@ -220,7 +222,7 @@ module _ (tail f : List ℕ) (al ig : ℕ) where
   asks-stretch r k a b = outcome (requestWords (stretch k a b) ++ tail) r f (flatOf (askedOf o (stretch k a b)))
 
   module _ (long : length tail ≡ 99) (f-long : length f ≡ mapWords g es) where
-    not-refused : (q : Request) (r : List ℕ) → q .kind ≡ 2 → length r ≡ mapWords g es → answerRefusal (at q r) ≡ 0
+    not-refused : (q : Request) (r : List ℕ) → q .kind ≡ kind.registerAll → length r ≡ mapWords g es → answerRefusal (at q r) ≡ 0
     unfolding answerRefusal
     not-refused q r h l =
         rw (eq-eqb (length (requestWords q ++ tail)) registrarLen (omega arith), eq-eqb (length r) (mapWords g es) l, eq-eqb (length f) (mapWords g es) f-long, h)
@@ -406,7 +408,7 @@ all-at tail f r q al ig bs z ord =
     let w : World = world (requestWords q ++ tail) r f in
     let g : ℕ = getD tail 1 0 in
     let a = passed (eqb (length (requestWords q ++ tail)) registrarLen) 3 _ z in
-    let b = passed (eqb (q .kind) 0) 18 _ (a .1) in
+    let b = passed (eqb (q .kind) kind.none) 18 _ (a .1) in
     let d = passed (lengthsFit g (entriesIn (w .state)) r f) 3 _ (b .1) in
     let l : length (requestWords q ++ tail) ≡ registrarLen = eqb-true _ _ (a .0) in
     let rl : length r ≡ mapWords g (entriesIn (w .state)) = eqb-true _ _ (and-left _ _ (d .0)) in
@@ -421,9 +423,9 @@ all-is-whole w al ig bs z ord =
     let l : length (w .state) ≡ registrarLen = all-long w (allRefusal w al ig) z al ig refl in
     go (w .state) (split-state (w .state) (omega arith)) z ord
   where
-    go : (s : List ℕ) → s ≡ requestWords (requestOf s) ++ drop 9 s → allRefusal (world s (w .registered) (w .failed)) al ig ≡ 0 → ordered 0 (entriesIn s) ≡ true
+    go : (s : List ℕ) → s ≡ requestWords (requestOf s) ++ drop place.afterRequest s → allRefusal (world s (w .registered) (w .failed)) al ig ≡ 0 → ordered 0 (entriesIn s) ≡ true
         → Match 0 (follow (allOf (world s (w .registered) (w .failed)) al ig) bs) (wholeAll (world s (w .registered) (w .failed)) al ig bs)
     go s e z ord =
         subst (λ (t : List ℕ). Match 0 (follow (allOf (world t (w .registered) (w .failed)) al ig) bs) (wholeAll (world t (w .registered) (w .failed)) al ig bs)) (sym e)
-        (all-at (drop 9 s) (w .failed) (w .registered) (requestOf s) al ig bs (subst (λ (t : List ℕ). allRefusal (world t (w .registered) (w .failed)) al ig ≡ 0) e z)
+        (all-at (drop place.afterRequest s) (w .failed) (w .registered) (requestOf s) al ig bs (subst (λ (t : List ℕ). allRefusal (world t (w .registered) (w .failed)) al ig ≡ 0) e z)
         (subst (λ (t : List ℕ). ordered 0 (entriesIn t) ≡ true) e ord))

@@ -3,6 +3,7 @@ use mathlib.Core.Path.{_≡_}
 use mathlib.Core.Bool.{true, false}
 use mathlib.Core.List.{List}
 use Prim.Native.Nat.{ℕ, _≤_, _<_}
+use Rattle.abi.specs.Refusals as refusal
 use Rattle.abi.specs.Lengths.{wordBits}
 use Rattle.bitmap.specs.Pages.{bitAt}
 use Rattle.registrar_steps.specs.Steps.{seen, idle, passes}
@@ -42,8 +43,8 @@ pub record Failed23 (w : World) (r f : List ℕ) (o : Outcome) : Type 0 where
 -- every other refusal changes nothing
 pub record Kept (w : World) (r f : List ℕ) (o : Outcome) : Type 0 where
   pub refused : notRefused (o .reply .number) ≡ false → o .world ≡ w
-  pub unaligned : o .reply .number ≡ 22 → Unaligned22 w r o
-  pub failed : o .reply .number ≡ 23 → Failed23 w r f o
+  pub unaligned : o .reply .number ≡ refusal.unalignedMemory → Unaligned22 w r o
+  pub failed : o .reply .number ≡ refusal.registrationFailed → Failed23 w r f o
 
 -- a chunk that is marked registered or failed stays so
 abbrev pub Stays : World → ℕ → Outcome → Type 0

@@ -5,6 +5,7 @@ use mathlib.Core.List.{List}
 use Prim.Native.Nat.{ℕ, _+_, _/_, _%_, _^_, _≤_, _<_}
 use lib.Dec.{leb}
 use lib.ListN.{length}
+use Rattle.abi.specs.Refusals as refusal
 use Rattle.abi.specs.Lengths.{registrarLen, wordBits}
 use Rattle.bitmap.specs.Pages.{bitAt}
 use Rattle.layout.specs.Layout.{range, entriesOf}
@@ -44,7 +45,7 @@ pub record Stands (v : World) (b : Settings) (awaits : Bool) : Type 0 where
   -- an answer that is awaited is taken, done or failed; any other is refused by 21
   pub told : underWay v ≡ awaits
   pub answer-taken : awaits ≡ true → (isTaken (doneOf v) ≡ true) × (isTaken (failedOf v) ≡ true)
-  pub answer-refused : awaits ≡ false → (doneOf v ≡ record { world = v; reply = flatOf (Refused 21) }) × (failedOf v ≡ record { world = v; reply = flatOf (Refused 21) })
+  pub answer-refused : awaits ≡ false → (doneOf v ≡ record { world = v; reply = flatOf (Refused refusal.nothingAsked) }) × (failedOf v ≡ record { world = v; reply = flatOf (Refused refusal.nothingAsked) })
   -- where none is awaited a request within the limits is taken
   pub register-taken : awaits ≡ false → (address len : ℕ) → isWithin b address len ≡ true → isTaken (registerOf v address len) ≡ true
   pub all-taken : awaits ≡ false → (al ignore : ℕ) → isAligned b al ignore ≡ true → isTaken (allOf v al ignore) ≡ true

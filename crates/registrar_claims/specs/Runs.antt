@@ -3,6 +3,8 @@ use mathlib.Core.Bool.{Bool, true, false, not, cond, _||_, _&&_}
 use mathlib.Core.List.{List, [], _∷_}
 use Prim.Native.Nat.{ℕ, suc, _+_, _-_, _*_, _^_}
 use lib.Dec.{eqb}
+use Rattle.abi.specs.Refusals as refusal
+use Rattle.abi.specs.Kinds as kind
 use Rattle.laws.specs.Bools.{digit}
 use Rattle.layout.specs.declared.MemoryRange.{MemoryRange}
 use Rattle.layout.specs.Layout.{range}
@@ -33,18 +35,18 @@ isBuild AnswerFailed = false
 
 -- Ok or an operation asked for, 22, 23: every other number is a refusal that changes nothing
 abbrev pub notRefused : ℕ → Bool
-notRefused n = eqb n 0 || (eqb n 22 || eqb n 23)
+notRefused n = eqb n 0 || (eqb n refusal.unalignedMemory || eqb n refusal.registrationFailed)
 
 abbrev pub isTaken : Outcome → Bool
 isTaken o = notRefused (o .reply .number)
 
 -- something is asked for
 abbrev pub underWay : World → Bool
-underWay w = not (eqb (requestOf (w .state) .kind) 0)
+underWay w = not (eqb (requestOf (w .state) .kind) kind.none)
 
 -- the number that every taken answer lowers: 0 where nothing is asked
 abbrev pub leftOf : Request → ℕ
-leftOf q = cond (eqb (q .kind) 0) 0 (suc ((2 ^ 64 - q .to) * 2 ^ 65 + (2 ^ 64 - q .end)))
+leftOf q = cond (eqb (q .kind) kind.none) 0 (suc ((2 ^ 64 - q .to) * 2 ^ 65 + (2 ^ 64 - q .end)))
 
 abbrev pub left : World → ℕ
 left w = leftOf (requestOf (w .state))

@@ -9,10 +9,14 @@ use lib.Dec.{eqb, leb, ltb}
 use lib.ListN.{length, getD, drop, take, set, length-drop}
 use lib.Seq.{take-all}
 use borrow.Author.Tests.{eqb-true, eq-eqb, ne-eqb, lt-ltb, le-ltb, le-leb, lt-leb, leb-true, ltb-true}
-use Rattle.abi.specs.Lengths.{pageSize, registrarLen, wordBits}
+use Rattle.abi.specs.Kinds as kind
+use Rattle.abi.specs.Refusals as refusal
+use Rattle.abi.specs.RegistrarPlaces as place
+use Rattle.abi.specs.Limits as limit
+use Rattle.abi.specs.Lengths.{pageSize, ramEntryWords, registrarLen, wordBits}
 use Rattle.laws.specs.Bools.{and-left, and-right, and-ends, both-true, or-left}
 use Rattle.laws.specs.Ranges.{between, between-from, between-to}
-use Rattle.laws.specs.Refusal.{unless, passed}
+use Rattle.laws.specs.Refusal.{unless, passed, when-passed}
 use Rattle.bitmap.specs.Pages.{bit, bitAt}
 use Rattle.bitmap.proofs.Map.{already}
 use Rattle.layout.specs.declared.MemoryRange.{MemoryRange}
@@ -31,7 +35,7 @@ use Rattle.registrar_state.specs.World.{World, outcome, requestOf, reque
 -- ---- the request's words
 
 module _ (a0 a1 a2 a3 a4 a5 a6 a7 a8 : ℕ) where
-  pub saved : (s : List ℕ) → 9 ≤ length s → set (set (set (set (set (set (set (set (set s 0 a0) 1 a1) 2 a2) 3 a3) 4 a4) 5 a5) 6 a6) 7 a7) 8 a8 ≡ a0 ∷ a1 ∷ a2 ∷ a3 ∷ a4 ∷ a5 ∷ a6 ∷ a7 ∷ a8 ∷ drop 9 s
+  pub saved : (s : List ℕ) → place.afterRequest ≤ length s → set (set (set (set (set (set (set (set (set s 0 a0) 1 a1) 2 a2) 3 a3) 4 a4) 5 a5) 6 a6) 7 a7) 8 a8 ≡ a0 ∷ a1 ∷ a2 ∷ a3 ∷ a4 ∷ a5 ∷ a6 ∷ a7 ∷ a8 ∷ drop place.afterRequest s
   saved [] h = absurd (omega arith)
   saved (x0 ∷ []) h = absurd (omega arith)
   saved (x0 ∷ x1 ∷ []) h = absurd (omega arith)
@@ -44,7 +48,7 @@ module _ (a0 a1 a2 a3 a4 a5 a6 a7 a8 : ℕ) where
   saved (x0 ∷ x1 ∷ x2 ∷ x3 ∷ x4 ∷ x5 ∷ x6 ∷ x7 ∷ x8 ∷ s) h = refl
 
 -- a state block of its length is its request's words and the rest
-pub split-state : (s : List ℕ) → 9 ≤ length s → s ≡ requestWords (requestOf s) ++ drop 9 s
+pub split-state : (s : List ℕ) → place.afterRequest ≤ length s → s ≡ requestWords (requestOf s) ++ drop place.afterRequest s
 split-state [] h = absurd (omega arith)
 split-state (x0 ∷ []) h = absurd (omega arith)
 split-state (x0 ∷ x1 ∷ []) h = absurd (omega arith)
@@ -58,12 +62,12 @@ split-state (x0 ∷ x1 ∷ x2 ∷ x3 ∷ x4 ∷ x5 ∷ x6 ∷ x7 ∷ x8 ∷ s) h
 
 -- ---- the layout's words
 
-pub ram-is : (s : List ℕ) (n : ℕ) → length s ≡ registrarLen → n ≡ min (getD s 11 0) 32 → take (12 + 3 * n - 12) (drop 12 s) ≡ ramOf s
-ram-is s n h e = elim (decLt (getD s 11 0) 32) [
-  | yes d ↦ let q : 12 + 3 * n - 12 ≡ 3 * getD s 11 0 = omega arith in ap (λ (k : ℕ). take k (drop 12 s)) q
+pub ram-is : (s : List ℕ) (n : ℕ) → length s ≡ registrarLen → n ≡ min (getD s place.entries 0) limit.ramEntries → take (place.ram + ramEntryWords * n - place.ram) (drop place.ram s) ≡ ramOf s
+ram-is s n h e = elim (decLt (getD s place.entries 0) limit.ramEntries) [
+  | yes d ↦ let q : place.ram + ramEntryWords * n - place.ram ≡ ramEntryWords * getD s place.entries 0 = omega arith in ap (λ (k : ℕ). take k (drop place.ram s)) q
   | no d ↦
-      take-all (12 + 3 * n - 12) (drop 12 s) (omega (arith, length-drop 12 s))
-      ∙ sym (take-all (3 * getD s 11 0) (drop 12 s) (omega (arith, length-drop 12 s)))
+      take-all (place.ram + ramEntryWords * n - place.ram) (drop place.ram s) (omega (arith, length-drop place.ram s))
+      ∙ sym (take-all (ramEntryWords * getD s place.entries 0) (drop place.ram s) (omega (arith, length-drop place.ram s)))
 ]
 
 -- ---- lengths
@@ -84,13 +88,13 @@ module _ (registered failed : List ℕ) (n : ℕ) where
 
 -- ---- refusals of a call
 
-more-refused : (a b d : Bool) (n rest : ℕ) → n ≡ unless a 4 (unless b 19 (unless d 4 0)) → (n ≡ 0 → ⊥) → n ≡ unless a 4 (unless b 19 (unless d 4 rest))
+more-refused : (a b d : Bool) (n rest : ℕ) → n ≡ unless a refusal.wrongLength (unless b refusal.busy (unless d refusal.wrongLength 0)) → (n ≡ 0 → ⊥) → n ≡ unless a refusal.wrongLength (unless b refusal.busy (unless d refusal.wrongLength rest))
 more-refused false b d n rest e h = e
 more-refused true false d n rest e h = e
 more-refused true true false n rest e h = e
 more-refused true true true n rest e h = absurd (h e)
 
-none-refused : (a b d : Bool) (n rest : ℕ) → n ≡ unless a 4 (unless b 19 (unless d 4 0)) → n ≡ 0 → (a ≡ true) × (unless a 4 (unless b 19 (unless d 4 rest)) ≡ rest)
+none-refused : (a b d : Bool) (n rest : ℕ) → n ≡ unless a refusal.wrongLength (unless b refusal.busy (unless d refusal.wrongLength 0)) → n ≡ 0 → (a ≡ true) × (unless a refusal.wrongLength (unless b refusal.busy (unless d refusal.wrongLength rest)) ≡ rest)
 none-refused false b d n rest e h = absurd (omega arith)
 none-refused true false d n rest e h = absurd (omega arith)
 none-refused true true false n rest e h = absurd (omega arith)
@@ -101,7 +105,7 @@ module _ (w : World) where
   long = eqb (length (w .state)) registrarLen
 
   abbrev free : Bool
-  free = eqb (requestOf (w .state) .kind) 0
+  free = eqb (requestOf (w .state) .kind) kind.none
 
   abbrev lengths : Bool
   lengths = lengthsFit (granularityOf (w .state)) (entriesIn (w .state)) (w .registered) (w .failed)
@@ -130,46 +134,48 @@ module _ (first end n : ℕ) where
 -- ---- refusals of a build
 
 module _ (w : World) (ram : List ℕ) (o g n : ℕ) (e : n ≡ refusalOf ram) where
-  pub build-unfit : n ≡ 1 → 1 ≡ buildRefusal w ram o g
+  pub build-unfit : n ≡ refusal.unfitLayout → refusal.unfitLayout ≡ buildRefusal w ram o g
   unfolding buildRefusal
-  build-unfit h = rw (eq-eqb (refusalOf ram) 1 (sym e ∙ h))
+  build-unfit h = rw (eq-eqb (refusalOf ram) refusal.unfitLayout (sym e ∙ h))
 
-  module _ (a : n ≡ 1 → ⊥) where
-    pub build-ragged : (o % pageSize ≡ 0 → ⊥) → 1 ≡ buildRefusal w ram o g
+  module _ (a : n ≡ refusal.unfitLayout → ⊥) where
+    pub build-ragged : (o % pageSize ≡ 0 → ⊥) → refusal.unfitLayout ≡ buildRefusal w ram o g
     unfolding buildRefusal
-    build-ragged h = rw (ne-eqb (refusalOf ram) 1 (λ q. a (e ∙ q)), ne-eqb (o % pageSize) 0 h)
+    build-ragged h = rw (ne-eqb (refusalOf ram) refusal.unfitLayout (λ q. a (e ∙ q)), ne-eqb (o % pageSize) 0 h)
 
     module _ (b : o % pageSize ≡ 0) where
-      pub build-high : 2 ^ 64 ≤ o + lastEnd (entriesOf ram) → 1 ≡ buildRefusal w ram o g
+      pub build-high : 2 ^ 64 ≤ o + lastEnd (entriesOf ram) → refusal.unfitLayout ≡ buildRefusal w ram o g
       unfolding buildRefusal
-      build-high h = rw (ne-eqb (refusalOf ram) 1 (λ q. a (e ∙ q)), eq-eqb (o % pageSize) 0 b, le-ltb (o + lastEnd (entriesOf ram)) (2 ^ 64) h)
+      build-high h = rw (ne-eqb (refusalOf ram) refusal.unfitLayout (λ q. a (e ∙ q)), eq-eqb (o % pageSize) 0 b, le-ltb (o + lastEnd (entriesOf ram)) (2 ^ 64) h)
 
       module _ (d : o + lastEnd (entriesOf ram) < 2 ^ 64) where
-        pub build-edge : (n ≡ 0 → ⊥) → 2 ≡ buildRefusal w ram o g
+        pub build-edge : (n ≡ 0 → ⊥) → refusal.badAlignment ≡ buildRefusal w ram o g
         unfolding buildRefusal
         build-edge h =
-            rw (ne-eqb (refusalOf ram) 1 (λ q. a (e ∙ q)), eq-eqb (o % pageSize) 0 b, lt-ltb (o + lastEnd (entriesOf ram)) (2 ^ 64) d, ne-eqb (refusalOf ram) 0 (λ q. h (e ∙ q)))
+            rw (ne-eqb (refusalOf ram) refusal.unfitLayout (λ q. a (e ∙ q)), eq-eqb (o % pageSize) 0 b, lt-ltb (o + lastEnd (entriesOf ram)) (2 ^ 64) d, ne-eqb (refusalOf ram) 0 (λ q. h (e ∙ q)))
 
         module _ (f : n ≡ 0) where
           -- what is tested last
           left : ℕ
-          left = unless (eqb (length (w .state)) registrarLen) 4 (unless (leb pageSize g && isPower g) 9 (unless (lengthsFit g (entriesOf ram) (w .registered) (w .failed)) 4 0))
+          left =
+              unless (eqb (length (w .state)) registrarLen) refusal.wrongLength
+              (unless (leb pageSize g && isPower g) refusal.unfitChunk (unless (lengthsFit g (entriesOf ram) (w .registered) (w .failed)) refusal.wrongLength 0))
 
           build-left : left ≡ buildRefusal w ram o g
           unfolding buildRefusal left
           build-left =
-              rw (ne-eqb (refusalOf ram) 1 (λ q. a (e ∙ q)), eq-eqb (o % pageSize) 0 b, lt-ltb (o + lastEnd (entriesOf ram)) (2 ^ 64) d, eq-eqb (refusalOf ram) 0 (sym e ∙ f))
+              rw (ne-eqb (refusalOf ram) refusal.unfitLayout (λ q. a (e ∙ q)), eq-eqb (o % pageSize) 0 b, lt-ltb (o + lastEnd (entriesOf ram)) (2 ^ 64) d, eq-eqb (refusalOf ram) 0 (sym e ∙ f))
 
-          pub build-state : (length (w .state) ≡ registrarLen → ⊥) → 4 ≡ buildRefusal w ram o g
+          pub build-state : (length (w .state) ≡ registrarLen → ⊥) → refusal.wrongLength ≡ buildRefusal w ram o g
           unfolding left
           build-state h = sym (rw (ne-eqb (length (w .state)) registrarLen h)) ∙ build-left
 
           module _ (i : length (w .state) ≡ registrarLen) where
-            pub build-power : (leb pageSize g && isPower g) ≡ false → 9 ≡ buildRefusal w ram o g
+            pub build-power : (leb pageSize g && isPower g) ≡ false → refusal.unfitChunk ≡ buildRefusal w ram o g
             unfolding left
             build-power h = sym (rw (eq-eqb (length (w .state)) registrarLen i, h)) ∙ build-left
 
-            pub build-last : (leb pageSize g && isPower g) ≡ true → unless (lengthsFit g (entriesOf ram) (w .registered) (w .failed)) 4 0 ≡ buildRefusal w ram o g
+            pub build-last : (leb pageSize g && isPower g) ≡ true → unless (lengthsFit g (entriesOf ram) (w .registered) (w .failed)) refusal.wrongLength 0 ≡ buildRefusal w ram o g
             unfolding left
             build-last h = sym (rw (eq-eqb (length (w .state)) registrarLen i, h)) ∙ build-left
 
@@ -185,7 +191,7 @@ pub record BuildFits (w : World) (ram : List ℕ) (o g : ℕ) : Type 0 where
 pub build-fits : (w : World) (ram : List ℕ) (o g : ℕ) → buildRefusal w ram o g ≡ 0 → BuildFits w ram o g
 unfolding buildRefusal
 build-fits w ram o g z =
-    let a = passed (not (eqb (refusalOf ram) 1)) 0 _ z in
+    let a = when-passed (eqb (refusalOf ram) refusal.unfitLayout) 0 _ z in
     let b = passed (eqb (o % pageSize) 0) 0 _ (a .1) in
     let c = passed (ltb (o + lastEnd (entriesOf ram)) (2 ^ 64)) 0 _ (b .1) in
     let d = passed (eqb (refusalOf ram) 0) 1 _ (c .1) in
@@ -208,8 +214,8 @@ module _ (w : World) (ram : List ℕ) (e : ram ≡ ramOf (w .state)) where
       → p ≡ allFrom (seenIn w) (offsetOf (w .state)) n al ignore c (spans (entriesIn (w .state)))
   all-planned p n al ignore c q = q ∙ ap (λ (r : List ℕ). allFrom (seenOver r) (offsetOf (w .state)) n al ignore c (spans (entriesOf r))) e
 
-pub rest-is : (s ram : List ℕ) (r : MemoryRange) → ram ≡ ramOf s → r ≡ ramFrom (granularityOf s) (entriesOf ram) (getD s 2 0) (getD s 5 0) → r ≡ restOf s
-rest-is s ram r h f = f ∙ ap (λ (l : List ℕ). ramFrom (granularityOf s) (entriesOf l) (getD s 2 0) (getD s 5 0)) h
+pub rest-is : (s ram : List ℕ) (r : MemoryRange) → ram ≡ ramOf s → r ≡ ramFrom (granularityOf s) (entriesOf ram) (getD s place.from 0) (getD s place.end 0) → r ≡ restOf s
+rest-is s ram r h f = f ∙ ap (λ (l : List ℕ). ramFrom (granularityOf s) (entriesOf l) (getD s place.from 0) (getD s place.end 0)) h
 
 -- the count, of the layout's words
 pub count-is : (s ram : List ℕ) (n : ℕ) → ram ≡ ramOf s → n ≡ chunkCount (granularityOf s) (entriesOf ram) → n ≡ chunkCount (granularityOf s) (entriesIn s)

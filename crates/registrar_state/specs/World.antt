@@ -8,7 +8,7 @@ use Rattle.abi.specs.Kinds as kind
 use Rattle.abi.specs.Refusals as refusal
 use Rattle.abi.specs.RegistrarPlaces as place
 use Rattle.abi.specs.Lengths.{pageSize, ramEntryWords, ramLen, registrarLen, wordBits}
-use Rattle.laws.specs.Refusal.{unless}
+use Rattle.laws.specs.Refusal.{unless, when}
 use Rattle.laws.specs.Ranges.{between}
 use Rattle.bitmap.specs.Pages.{bitAt, written}
 use Rattle.layout.specs.declared.MemoryRange.{MemoryRange}
@@ -117,7 +117,7 @@ lengthsFit g es registered failed = eqb (length registered) (mapWords g es) && e
 -- 1 for the layout and the offset, 2, then by number: 4 for the state block, 9 for the granularity; 4 for the bitmaps after it, since their length hangs on it
 unfoldable pub buildRefusal : World → List ℕ → ℕ → ℕ → ℕ
 buildRefusal w ram offset g =
-    unless (not (eqb (refusalOf ram) refusal.unfitLayout)) refusal.unfitLayout
+    when (eqb (refusalOf ram) refusal.unfitLayout) refusal.unfitLayout
     (unless (eqb (offset % pageSize) 0) refusal.unfitLayout
     (unless (ltb (offset + lastEnd (entriesOf ram)) (2 ^ 64)) refusal.unfitLayout
     (unless (eqb (refusalOf ram) 0) refusal.badAlignment
@@ -190,7 +190,7 @@ unfoldable pub answerRefusal : World → ℕ
 answerRefusal w =
     unless (eqb (length (w .state)) registrarLen) refusal.wrongLength
     (unless (lengthsFit (granularityOf (w .state)) (entriesIn (w .state)) (w .registered) (w .failed)) refusal.wrongLength
-    (unless (not (eqb (requestOf (w .state) .kind) kind.none)) refusal.nothingAsked
+    (when (eqb (requestOf (w .state) .kind) kind.none) refusal.nothingAsked
     0))
 
 -- failed: the chunks under way are marked failed, and 23 tells where the range starts

@@ -97,7 +97,14 @@ pub fn flatten(a: Answer) -> Reply
     match a {
         Answer::Done(count) => simple(0, 0, count, 0, 0, 0),
         Answer::Register(r) => simple(0, 1, 0, r.start, r.end, 0),
-        Answer::RegistrationFailed { address, count } => simple(refusal::REGISTRATION_FAILED, 0, count, 0, 0, address),
+        Answer::RegistrationFailed { address, count } => simple(
+            refusal::REGISTRATION_FAILED,
+            0,
+            count,
+            0,
+            0,
+            address,
+        ),
         Answer::UnalignedMemory(u, count) => unaligned_reply(u, count),
         Answer::Refused(number) => simple(number, 0, 0, 0, 0, 0),
     }
@@ -335,7 +342,15 @@ pub fn register_stop(
     requires { ⌜ (length (now state) ≡ registrarLen) × (n ≡ chunkCount (granularityOf (now state)) (entriesIn (now state))) ⌝ }
     ensures { λ r. ⌜ (r ≡ stopAt (seenIn (world (now (state .entry)) (now (registered .entry)) (now (failed .entry)))) from (min until n)) × (r .chunk < min until n → r .chunk * granularityOf (now (state .entry)) < 2 ^ 64) ⌝ }
 {
-    registrar_steps::stop_from(ram_of(state), state[place::GRANULARITY], registered, failed, n, from, until)
+    registrar_steps::stop_from(
+        ram_of(state),
+        state[place::GRANULARITY],
+        registered,
+        failed,
+        n,
+        from,
+        until,
+    )
 }
 
 // From chunk c on, of a call that has asked `count` times.
@@ -369,5 +384,11 @@ pub fn rest_of(state: &[u64], n: u64) -> MemoryRange
     requires { ⌜ (length (now state) ≡ registrarLen) × (n ≡ chunkCount (granularityOf (now state)) (entriesIn (now state))) ⌝ }
     ensures { λ r. ⌜ r ≡ restOf (now (state .entry)) ⌝ }
 {
-    registrar_steps::rest_of(ram_of(state), state[place::GRANULARITY], n, state[place::FROM], state[place::END])
+    registrar_steps::rest_of(
+        ram_of(state),
+        state[place::GRANULARITY],
+        n,
+        state[place::FROM],
+        state[place::END],
+    )
 }

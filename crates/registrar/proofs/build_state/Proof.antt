@@ -5,6 +5,7 @@ use mathlib.Core.Path.{_≡_, ap, _∙_}
 use Prim.Native.Nat.{ℕ, _+_, _-_, _≤_}
 use mathlib.Core.List.{List}
 use lib.ListN.{length, getD, set, length-set}
+use Rattle.abi.specs.RegistrarPlaces as place
 use Rattle.abi.specs.Lengths.{ramLen, registrarLen}
 use Rattle.registrar.proofs.Laws.{filledTo}
 use Rattle.registrar.proofs.Laws as laws
@@ -36,7 +37,7 @@ loop-holds : tie.Need-loop-holds Inv-loop μ-loop
 loop-holds c =
     let s = c .before .before .before .before .before .before .before .args .state .now in
     let t = laws.filled-none s (c .before .before .before .before .before .before .before .args .ram .now) (c .before .before .before .before .before .before .before .args .offset) (c .before .before .before .before .before .before .before .args .granularity) (c .before .before .before .before .entry-count .result) (c .before .before .before .before .before .before .before .pre .0) (c .before .before .before .before .entry-count .ensures) in
-    let q = ap (λ (l : List ℕ). set (set (set l 9 (c .before .before .before .before .before .before .before .args .offset)) 10 (c .before .before .before .before .before .before .before .args .granularity)) 11 (c .before .before .before .before .entry-count .result)) (c .before .before .clear .ensures) in
+    let q = ap (λ (l : List ℕ). set (set (set l place.offset (c .before .before .before .before .before .before .before .args .offset)) place.granularity (c .before .before .before .before .before .before .before .args .granularity)) place.entries (c .before .before .before .before .entry-count .result)) (c .before .before .clear .ensures) in
     (omega arith, simp length-set (c .before .before .clear .kept .0 ∙ c .before .before .before .before .before .before .before .pre .0), c .before .before .before .before .before .before .before .pre .1, q ∙ t)
 
 mul-state : tie.Need-mul-state Inv-loop μ-loop
@@ -63,7 +64,7 @@ loop-less c = search needs
 loop-again : tie.Need-loop-again Inv-loop μ-loop
 loop-again c =
     let h = c .before .before .loop in
-    (omega arith, simp length-set (h .inv .1), h .inv .2, ap (λ (l : List ℕ). set l (12 + h .i) (getD (c .before .before .before .before .before .before .before .before .before .before .args .ram .now) (h .i) 0)) (h .inv .3) ∙ laws.filled-more (c .before .before .before .before .before .before .before .before .before .before .args .ram .now) (c .before .before .before .before .before .before .before .before .before .before .args .offset) (c .before .before .before .before .before .before .before .before .before .before .args .granularity) (h .i) (omega arith) (omega arith))
+    (omega arith, simp length-set (h .inv .1), h .inv .2, ap (λ (l : List ℕ). set l (place.ram + h .i) (getD (c .before .before .before .before .before .before .before .before .before .before .args .ram .now) (h .i) 0)) (h .inv .3) ∙ laws.filled-more (c .before .before .before .before .before .before .before .before .before .before .args .ram .now) (c .before .before .before .before .before .before .before .before .before .before .args .offset) (c .before .before .before .before .before .before .before .before .before .before .args .granularity) (h .i) (omega arith) (omega arith))
 
 same-length : tie.Need-same-length Inv-loop μ-loop
 same-length c = search needs
