@@ -46,6 +46,7 @@ pub struct Reply {
     pub alignment: u64,
 }
 
+// A reply without the fields of 22.
 pub fn simple(number: u64, asked: u64, count: u64, start: u64, end: u64, address: u64) -> Reply
     ensures { λ r. ⌜ r ≡ simple number asked count start end address ⌝ }
 {
@@ -67,12 +68,13 @@ pub fn simple(number: u64, asked: u64, count: u64, start: u64, end: u64, address
     }
 }
 
-fn unaligned_reply(u: Unaligned, count: u64) -> Reply
-    ensures { λ r. ⌜ r ≡ flatUnaligned u count ⌝ }
+// The reply of 22.
+fn unaligned_reply(unaligned: Unaligned, count: u64) -> Reply
+    ensures { λ r. ⌜ r ≡ flatUnaligned unaligned count ⌝ }
 {
-    let span = u.span;
-    let edge = u.edge;
-    let node = u.node_range;
+    let span = unaligned.span;
+    let edge = unaligned.edge;
+    let node = unaligned.node_range;
     Reply {
         number: refusal::UNALIGNED_MEMORY,
         asked: 0,
@@ -84,17 +86,18 @@ fn unaligned_reply(u: Unaligned, count: u64) -> Reply
         span_end: span.end,
         edge_start: edge.start,
         edge_end: edge.end,
-        vnode: u.vnode,
+        vnode: unaligned.vnode,
         node_start: node.start,
         node_end: node.end,
-        alignment: u.alignment,
+        alignment: unaligned.alignment,
     }
 }
 
-pub fn flatten(a: Answer) -> Reply
-    ensures { λ r. ⌜ r ≡ flatOf a ⌝ }
+// The reply that an answer crosses as.
+pub fn to_reply(answer: Answer) -> Reply
+    ensures { λ r. ⌜ r ≡ flatOf answer ⌝ }
 {
-    match a {
+    match answer {
         Answer::Done(count) => simple(0, 0, count, 0, 0, 0),
         Answer::Register(r) => simple(0, 1, 0, r.start, r.end, 0),
         Answer::RegistrationFailed { address, count } => simple(
@@ -110,7 +113,7 @@ pub fn flatten(a: Answer) -> Reply
     }
 }
 
-// The request under way.
+// The request under way, as the state block has it.
 pub fn load(state: &[u64]) -> Request
     requires { ⌜ length (now state) ≡ registrarLen ⌝ }
     ensures { λ r. ⌜ r ≡ requestOf (now (state .entry)) ⌝ }
@@ -128,19 +131,20 @@ pub fn load(state: &[u64]) -> Request
     }
 }
 
-pub fn save(state: &mut [u64], q: Request)
+// Stores the request under way; the other words of the state block stay.
+pub fn save(state: &mut [u64], request: Request)
     requires { ⌜ length (now state) ≡ registrarLen ⌝ }
-    ensures { λ _. ⌜ now (state .exit) ≡ withRequest q (now (state .entry)) ⌝ }
+    ensures { λ _. ⌜ now (state .exit) ≡ withRequest request (now (state .entry)) ⌝ }
 {
-    state[place::KIND] = q.kind;
-    state[place::COUNT] = q.count;
-    state[place::FROM] = q.from;
-    state[place::TO] = q.to;
-    state[place::START] = q.start;
-    state[place::END] = q.end;
-    state[place::UNTIL] = q.until;
-    state[place::ALIGNMENT] = q.alignment;
-    state[place::IGNORE] = q.ignore;
+    state[place::KIND] = request.kind;
+    state[place::COUNT] = request.count;
+    state[place::FROM] = request.from;
+    state[place::TO] = request.to;
+    state[place::START] = request.start;
+    state[place::END] = request.end;
+    state[place::UNTIL] = request.until;
+    state[place::ALIGNMENT] = request.alignment;
+    state[place::IGNORE] = request.ignore;
 }
 
 // The words of the layout.
@@ -153,11 +157,11 @@ fn ram_of(state: &[u64]) -> &[u64]
     &state[place::RAM..end]
 }
 
-// Whether the bitmaps are of n chunks.
-fn lengths_fit(n: u64, registered: &[u64], failed: &[u64]) -> bool
-    ensures { λ r. ⌜ r ≡ (eqb (length (now (registered .entry))) (up n wordBits) && eqb (length (now (failed .entry))) (up n wordBits)) ⌝ }
+// Whether both bitmaps have the words of so many chunks.
+fn lengths_fit(total: u64, registered: &[u64], failed: &[u64]) -> bool
+    ensures { λ r. ⌜ r ≡ (eqb (length (now (registered .entry))) (up total wordBits) && eqb (length (now (failed .entry))) (up total wordBits)) ⌝ }
 {
-    let words = chunks::map_words(n);
+    let words = chunks::map_words(total);
     if registered.len() as u64 == words {
         failed.len() as u64 == words
     } else {
@@ -175,9 +179,9 @@ pub fn chunk_count(state: &[u64]) -> u64
     chunks::chunk_count(ram_of(state), state[place::GRANULARITY])
 }
 
-// 4, 19, 4 for a call, else 0.
-fn call_refusal(state: &[u64], registered: &[u64], failed: &[u64], n: u64) -> u64
-    requires { ⌜ n ≡ countIn (now state) ⌝ }
+// What refuses both requests alike: 4 of the state block, 19, 4 of the bitmaps.
+fn call_refusal(state: &[u64], registered: &[u64], failed: &[u64], total: u64) -> u64
+    requires { ⌜ total ≡ countIn (now state) ⌝ }
     ensures { λ r. ⌜ r ≡ callRefusal (world (now (state .entry)) (now (registered .entry)) (now (failed .entry))) 0 ⌝ }
 {
     if state.len() != REGISTRAR_WORDS {
@@ -186,52 +190,53 @@ fn call_refusal(state: &[u64], registered: &[u64], failed: &[u64], n: u64) -> u6
     if state[place::KIND] != kind::NONE {
         return refusal::BUSY;
     }
-    if !lengths_fit(n, registered, failed) {
+    if !lengths_fit(total, registered, failed) {
         return refusal::WRONG_LENGTH;
     }
     0
 }
 
-// Whether none of the chunks from `first` to before `end` is past the last of n.
-fn chunks_fit(n: u64, first: u64, end: u64) -> bool
-    ensures { λ r. ⌜ r ≡ (leb end first || leb end n) ⌝ }
+// Whether none of the chunks from `first` to before `end` is past the last.
+fn chunks_fit(total: u64, first: u64, end: u64) -> bool
+    ensures { λ r. ⌜ r ≡ (leb end first || leb end total) ⌝ }
 {
     if end <= first {
         return true;
     }
-    end <= n
+    end <= total
 }
 
-// 0 where the state block is too short.
+// The granularity: 0 where the state block is too short.
 pub fn granularity(state: &[u64]) -> u64
     ensures { λ r. ⌜ r ≡ granularityOf (now (state .entry)) ⌝ }
 {
     numbers::word_at(state, place::GRANULARITY as u64)
 }
 
-// For a request that touches the chunks from `first` to before `end`.
+// What refuses a `register` that touches the chunks from `first` to before `end`.
 pub fn register_refusal(
     state: &[u64],
     registered: &[u64],
     failed: &[u64],
-    n: u64,
+    total: u64,
     first: u64,
     end: u64,
 ) -> u64
-    requires { ⌜ n ≡ countIn (now state) ⌝ }
+    requires { ⌜ total ≡ countIn (now state) ⌝ }
     ensures { λ r. ⌜ r ≡ callRefusal (world (now (state .entry)) (now (registered .entry)) (now (failed .entry))) (unless (chunksFit (now (state .entry)) first end) refusal.unfitChunk 0) ⌝ }
 {
-    let k = call_refusal(state, registered, failed, n);
-    if k != 0 {
-        return k;
+    let number = call_refusal(state, registered, failed, total);
+    if number != 0 {
+        return number;
     }
-    if chunks_fit(n, first, end) {
+    if chunks_fit(total, first, end) {
         0
     } else {
         refusal::UNFIT_CHUNK
     }
 }
 
+// Whether a number is a power of two from `least` on.
 fn is_power_from(least: u64, n: u64) -> bool
     ensures { λ r. ⌜ r ≡ (leb least n && isPower n) ⌝ }
 {
@@ -242,20 +247,21 @@ fn is_power_from(least: u64, n: u64) -> bool
     }
 }
 
+// What refuses a `register_all_aligned`.
 pub fn all_refusal(
     state: &[u64],
     registered: &[u64],
     failed: &[u64],
-    n: u64,
+    total: u64,
     alignment: u64,
     ignore: u64,
 ) -> u64
-    requires { ⌜ n ≡ countIn (now state) ⌝ }
+    requires { ⌜ total ≡ countIn (now state) ⌝ }
     ensures { λ r. ⌜ r ≡ allRefusal (world (now (state .entry)) (now (registered .entry)) (now (failed .entry))) alignment ignore ⌝ }
 {
-    let k = call_refusal(state, registered, failed, n);
-    if k != 0 {
-        return k;
+    let number = call_refusal(state, registered, failed, total);
+    if number != 0 {
+        return number;
     }
     if 1 < ignore {
         return refusal::UNFIT_NUMBER;
@@ -267,14 +273,15 @@ pub fn all_refusal(
     }
 }
 
-pub fn answer_refusal(state: &[u64], registered: &[u64], failed: &[u64], n: u64) -> u64
-    requires { ⌜ n ≡ countIn (now state) ⌝ }
+// What refuses an answer, done or failed.
+pub fn answer_refusal(state: &[u64], registered: &[u64], failed: &[u64], total: u64) -> u64
+    requires { ⌜ total ≡ countIn (now state) ⌝ }
     ensures { λ r. ⌜ r ≡ answerRefusal (world (now (state .entry)) (now (registered .entry)) (now (failed .entry))) ⌝ }
 {
     if state.len() != REGISTRAR_WORDS {
         return refusal::WRONG_LENGTH;
     }
-    if !lengths_fit(n, registered, failed) {
+    if !lengths_fit(total, registered, failed) {
         return refusal::WRONG_LENGTH;
     }
     if state[place::KIND] == kind::NONE {
@@ -283,15 +290,16 @@ pub fn answer_refusal(state: &[u64], registered: &[u64], failed: &[u64], n: u64)
     0
 }
 
+// What refuses a build: the bitmaps' 4 comes last, since their length hangs on the granularity.
 pub fn build_refusal(
     ram: &[u64],
     offset: u64,
-    g: u64,
+    granularity: u64,
     state: &[u64],
     registered: &[u64],
     failed: &[u64],
 ) -> u64
-    ensures { λ r. ⌜ r ≡ buildRefusal (world (now (state .entry)) (now (registered .entry)) (now (failed .entry))) (now (ram .entry)) offset g ⌝ }
+    ensures { λ r. ⌜ r ≡ buildRefusal (world (now (state .entry)) (now (registered .entry)) (now (failed .entry))) (now (ram .entry)) offset granularity ⌝ }
 {
     let unfit = layout::refusal(ram);
     if unfit == refusal::UNFIT_LAYOUT {
@@ -309,10 +317,10 @@ pub fn build_refusal(
     if state.len() != REGISTRAR_WORDS {
         return refusal::WRONG_LENGTH;
     }
-    if !is_power_from(PAGE_SIZE, g) {
+    if !is_power_from(PAGE_SIZE, granularity) {
         return refusal::UNFIT_CHUNK;
     }
-    if lengths_fit(chunks::chunk_count(ram, g), registered, failed) {
+    if lengths_fit(chunks::chunk_count(ram, granularity), registered, failed) {
         0
     } else {
         refusal::WRONG_LENGTH
@@ -335,25 +343,25 @@ pub fn register_stop(
     state: &[u64],
     registered: &[u64],
     failed: &[u64],
-    n: u64,
+    total: u64,
     from: u64,
     until: u64,
 ) -> Stop
-    requires { ⌜ (length (now state) ≡ registrarLen) × (n ≡ chunkCount (granularityOf (now state)) (entriesIn (now state))) ⌝ }
-    ensures { λ r. ⌜ (r ≡ stopAt (seenIn (world (now (state .entry)) (now (registered .entry)) (now (failed .entry)))) from (min until n)) × (r .chunk < min until n → r .chunk * granularityOf (now (state .entry)) < 2 ^ 64) ⌝ }
+    requires { ⌜ (length (now state) ≡ registrarLen) × (total ≡ chunkCount (granularityOf (now state)) (entriesIn (now state))) ⌝ }
+    ensures { λ r. ⌜ (r ≡ stopAt (seenIn (world (now (state .entry)) (now (registered .entry)) (now (failed .entry)))) from (min until total)) × (r .chunk < min until total → r .chunk * granularityOf (now (state .entry)) < 2 ^ 64) ⌝ }
 {
     registrar_steps::stop_from(
         ram_of(state),
         state[place::GRANULARITY],
         registered,
         failed,
-        n,
+        total,
         from,
         until,
     )
 }
 
-// From chunk c on, of a call that has asked `count` times.
+// What `register_all_aligned` does next, from a chunk on, of a call that has asked `count` times.
 pub fn all_plan(
     state: &[u64],
     registered: &[u64],
@@ -361,10 +369,10 @@ pub fn all_plan(
     count: u64,
     alignment: u64,
     ignore: u64,
-    c: u64,
+    chunk: u64,
 ) -> Plan
     requires { ⌜ length (now state) ≡ registrarLen ⌝ }
-    ensures { λ r. ⌜ r ≡ allFrom (seenIn (world (now (state .entry)) (now (registered .entry)) (now (failed .entry)))) (offsetOf (now (state .entry))) count alignment ignore c (spans (entriesIn (now (state .entry)))) ⌝ }
+    ensures { λ r. ⌜ r ≡ allFrom (seenIn (world (now (state .entry)) (now (registered .entry)) (now (failed .entry)))) (offsetOf (now (state .entry))) count alignment ignore chunk (spans (entriesIn (now (state .entry)))) ⌝ }
 {
     registrar_steps::all_from(
         ram_of(state),
@@ -375,19 +383,19 @@ pub fn all_plan(
         count,
         alignment,
         ignore,
-        c,
+        chunk,
     )
 }
 
-// Of a chunk of `register`, its RAM after what was taken.
-pub fn rest_of(state: &[u64], n: u64) -> MemoryRange
-    requires { ⌜ (length (now state) ≡ registrarLen) × (n ≡ chunkCount (granularityOf (now state)) (entriesIn (now state))) ⌝ }
+// The first RAM of the chunk under way after what was taken: empty where none is left.
+pub fn rest_of(state: &[u64], total: u64) -> MemoryRange
+    requires { ⌜ (length (now state) ≡ registrarLen) × (total ≡ chunkCount (granularityOf (now state)) (entriesIn (now state))) ⌝ }
     ensures { λ r. ⌜ r ≡ restOf (now (state .entry)) ⌝ }
 {
     registrar_steps::rest_of(
         ram_of(state),
         state[place::GRANULARITY],
-        n,
+        total,
         state[place::FROM],
         state[place::END],
     )

@@ -14,7 +14,7 @@ div-ceil-requires : tie.Need-div-ceil-requires
 div-ceil-requires c κs = search needs
 
 returns : tie.Need-returns
-returns c = c .div-ceil .ensures ∙ ap (λ (k : ℕ). up k (c .before .before .args .g / pageSize)) (c .before .page-end .ensures)
+returns c = c .div-ceil .ensures ∙ ap (λ (k : ℕ). up k (c .before .before .args .granularity / pageSize)) (c .before .page-end .ensures)
 
 pub end-chunk-spec : {M : Type 1} → statement M
 end-chunk-spec = tie.close (tie.spec page-end-requires div-ceil-requires returns)

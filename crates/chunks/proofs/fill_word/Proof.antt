@@ -23,10 +23,10 @@ same-length : tie.Need-same-length
 same-length c = search needs
 
 returns : tie.Need-returns
-returns c = ap (set (c .before .before .before .args .map .now) (c .before .before .before .args .i)) (c .full .ensures) ∙ filled wordBits true (c .before .before .before .args .map .now) (c .before .before .before .args .i) (omega arith) (c .before .before .slice-known .given (c .before .before .before .args .i) .fits)
+returns c = ap (set (c .before .before .before .args .map .now) (c .before .before .before .args .word)) (c .full .ensures) ∙ filled wordBits true (c .before .before .before .args .map .now) (c .before .before .before .args .word) (omega arith) (c .before .before .slice-known .given (c .before .before .before .args .word) .fits)
 
 returns-2 : tie.Need-returns-2
-returns-2 c = laws.word-past (c .before .before .args .map .now) (c .before .before .args .i) (omega arith)
+returns-2 c = laws.word-past (c .before .before .args .map .now) (c .before .before .args .word) (omega arith)
 
 pub fill-word-spec : {M : Type 1} → statement M
 fill-word-spec =

@@ -32,7 +32,7 @@ simple-requires c κs = search needs
 returns : tie.Need-returns
 returns c =
     let a = c .before .before .before .before .before .before .before .before .before .before .args in
-    laws.answer-asked (a .state .now) (a .n) (a .count) (a .until) (a .c) (c .simple .result) (c .before .before .before .before .wrapping-add-u64 .result) (c .before .wrapping-add-u642 .result) (c .before .before .before .before .before .before .before .if1 .taken) (c .before .before .before .before .wrapping-add-u64 .ensures) (c .before .wrapping-add-u642 .ensures) (c .simple .ensures)
+    laws.answer-asked (a .state .now) (a .total) (a .count) (a .until) (a .chunk) (c .simple .result) (c .before .before .before .before .wrapping-add-u64 .result) (c .before .wrapping-add-u642 .result) (c .before .before .before .before .before .before .before .if1 .taken) (c .before .before .before .before .wrapping-add-u64 .ensures) (c .before .wrapping-add-u642 .ensures) (c .simple .ensures)
 
 least-requires : tie.Need-least-requires
 least-requires c κs = search needs
@@ -49,7 +49,7 @@ simple-requires-2 c κs = search needs
 returns-2 : tie.Need-returns-2
 returns-2 c =
     let a = c .before .before .before .before .before .before .before .args in
-    laws.answer-failed (a .state .now) (a .n) (a .count) (a .until) (a .c) (c .simple2 .result) (c .before .before .before .before .if1 .left) (c .before .before .before .least .result) (c .before .before .before .least .ensures) (c .before .before .if2 .taken) (c .simple2 .ensures)
+    laws.answer-failed (a .state .now) (a .total) (a .count) (a .until) (a .chunk) (c .simple2 .result) (c .before .before .before .before .if1 .left) (c .before .before .before .least .result) (c .before .before .before .least .ensures) (c .before .before .if2 .taken) (c .simple2 .ensures)
 
 simple-requires-3 : tie.Need-simple-requires-3
 simple-requires-3 c κs = search needs
@@ -57,7 +57,7 @@ simple-requires-3 c κs = search needs
 returns-3 : tie.Need-returns-3
 returns-3 c =
     let a = c .before .before .before .before .before .before .args in
-    laws.answer-done (a .state .now) (a .n) (a .count) (a .until) (a .c) (c .simple3 .result) (c .before .before .before .if1 .left) (c .before .before .least .result) (c .before .before .least .ensures) (c .before .if2 .left) (c .simple3 .ensures)
+    laws.answer-done (a .state .now) (a .total) (a .count) (a .until) (a .chunk) (c .simple3 .result) (c .before .before .before .if1 .left) (c .before .before .least .result) (c .before .before .least .ensures) (c .before .if2 .left) (c .simple3 .ensures)
 
 pub answer-spec : {M : Type 1} → statement M
 answer-spec =

@@ -65,8 +65,8 @@ returns-2 c =
     let n = c .before .before .before .before .before .before .before .before .before .before .before .answer-refusal in
     laws.call-answered w (n .result) _ (n .ensures) _ _ (c .before .before .before .before .before .before .before .before .before .before .if1 .left) (c .before .before .before .before .register-done .ensures)
 
-all-done-requires : tie.Need-all-done-requires
-all-done-requires c κs =
+register-all-done-requires : tie.Need-register-all-done-requires
+register-all-done-requires c κs =
     let a = c .before .before .before .before .before .before .before .before .before .before .before .before .before .before .before .args in
     let w = world (a .state .now) (a .registered .now) (a .failed .now) in
     let n = c .before .before .before .before .before .before .answer-refusal in
@@ -87,7 +87,7 @@ returns-3 c =
     let a = c .before .before .before .before .before .before .before .before .before .before .before .before .before .before .before .before .before .before .before .before .args in
     let w = world (a .state .now) (a .registered .now) (a .failed .now) in
     let n = c .before .before .before .before .before .before .before .before .before .before .before .answer-refusal in
-    laws.call-answered w (n .result) _ (n .ensures) _ _ (c .before .before .before .before .before .before .before .before .before .before .if1 .left) (c .before .before .before .before .all-done .ensures)
+    laws.call-answered w (n .result) _ (n .ensures) _ _ (c .before .before .before .before .before .before .before .before .before .before .if1 .left) (c .before .before .before .before .register-all-done .ensures)
 
 pub registrar-answer-done-spec : {M : Type 1} → statement M
 registrar-answer-done-spec =
@@ -106,7 +106,7 @@ registrar-answer-done-spec =
     same-length-5
     same-length-6
     returns-2
-    all-done-requires
+    register-all-done-requires
     same-length-7
     same-length-8
     same-length-9

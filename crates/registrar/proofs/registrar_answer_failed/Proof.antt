@@ -51,8 +51,8 @@ save-requires c κs =
     let n = c .before .before .before .before .before .before .before .before .before .answer-refusal in
     laws.answer-long w (n .result) (c .before .before .before .before .before .before .before .before .if1 .left) (n .ensures)
 
-flatten-requires : tie.Need-flatten-requires
-flatten-requires c κs = search needs
+to-reply-requires : tie.Need-to-reply-requires
+to-reply-requires c κs = search needs
 
 same-length-4 : tie.Need-same-length-4
 same-length-4 c = search needs
@@ -69,7 +69,7 @@ returns-2 c =
     let a = c .before .before .before .before .before .before .before .before .before .before .before .before .before .before .before .before .before .before .before .before .before .before .args in
     let w = world (a .state .now) (a .registered .now) (a .failed .now) in
     let n = c .before .before .before .before .before .before .before .before .before .before .before .before .before .answer-refusal in
-    laws.call-answered w (n .result) _ (n .ensures) _ _ (c .before .before .before .before .before .before .before .before .before .before .before .before .if1 .left) (laws.failed-made w (c .before .before .before .before .before .before .before .before .before .before .load .result) (c .before .before .before .before .idle .result) _ _ (c .flatten .result) (c .before .before .before .before .before .before .before .before .before .before .load .ensures) (c .before .before .before .before .idle .ensures) (c .before .before .before .save .ensures) (c .before .before .before .before .before .before .before .before .set-chunks .ensures) (c .flatten .ensures))
+    laws.call-answered w (n .result) _ (n .ensures) _ _ (c .before .before .before .before .before .before .before .before .before .before .before .before .if1 .left) (laws.failed-made w (c .before .before .before .before .before .before .before .before .before .before .load .result) (c .before .before .before .before .idle .result) _ _ (c .to-reply .result) (c .before .before .before .before .before .before .before .before .before .before .load .ensures) (c .before .before .before .before .idle .ensures) (c .before .before .before .save .ensures) (c .before .before .before .before .before .before .before .before .set-chunks .ensures) (c .to-reply .ensures))
 
 pub registrar-answer-failed-spec : {M : Type 1} → statement M
 registrar-answer-failed-spec =
@@ -86,7 +86,7 @@ registrar-answer-failed-spec =
     set-chunks-requires
     idle-requires
     save-requires
-    flatten-requires
+    to-reply-requires
     same-length-4
     same-length-5
     same-length-6

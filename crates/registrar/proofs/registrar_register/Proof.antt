@@ -82,8 +82,8 @@ returns-2 c =
     let k = laws.touched-known w (a .address) (a .len) (g .result) (f .result) (e .result) (g .ensures) (f .ensures) (e .ensures) (c .before .before .is-known .result) (c .before .before .is-known .ensures) (c .before .if2 .taken) in
     laws.call-known w (n .result) (a .address) (a .len) (c .simple2 .result) nh (c .before .before .before .before .before .if1 .left) (laws.register-long w (n .result) (c .before .before .before .before .before .if1 .left) (a .address) (a .len) nh) k (c .simple2 .ensures)
 
-go-on-requires : tie.Need-go-on-requires
-go-on-requires c κs =
+register-from-requires : tie.Need-register-from-requires
+register-from-requires c κs =
     let a = c .before .before .before .before .before .before .before .before .before .before .before .before .before .before .before .before .before .before .before .before .before .args in
     let w = world (a .state .now) (a .registered .now) (a .failed .now) in
     let g = c .before .before .before .before .before .before .before .before .before .before .before .before .before .before .before .before .granularity in
@@ -104,7 +104,7 @@ answer-requires c κs =
     let n = c .before .before .before .before .before .before .before .before .before .before .before .before .before .before .register-refusal in
     let nh = laws.touched-refusal w (a .address) (a .len) (g .result) (f .result) (e .result) (g .ensures) (f .ensures) (e .ensures) (n .result) (n .ensures) in
     let long = laws.register-long w (n .result) (c .before .before .before .before .before .before .before .before .before .before .before .before .before .if1 .left) (a .address) (a .len) nh in
-    let o = c .before .before .before .before .before .go-on in
+    let o = c .before .before .before .before .before .register-from in
     laws.go-kept w (c .before .before .before .before .before .before .before .before .before .before .before .before .before .before .before .before .before .before .chunk-count .result) 0 (f .result) (e .result) (count-in (a .state .now) _ (c .before .before .before .before .before .before .before .before .before .before .before .before .before .before .before .before .before .before .chunk-count .ensures) long) _ _ (o .result) (o .ensures .0) long (o .ensures .1)
 
 same-length-7 : tie.Need-same-length-7
@@ -127,7 +127,7 @@ returns-3 c =
     let n = c .before .before .before .before .before .before .before .before .before .before .before .before .before .before .before .register-refusal in
     let nh = laws.touched-refusal w (a .address) (a .len) (g .result) (f .result) (e .result) (g .ensures) (f .ensures) (e .ensures) (n .result) (n .ensures) in
     let long = laws.register-long w (n .result) (c .before .before .before .before .before .before .before .before .before .before .before .before .before .before .if1 .left) (a .address) (a .len) nh in
-    let o = c .before .before .before .before .before .before .go-on in
+    let o = c .before .before .before .before .before .before .register-from in
     laws.call-answered w (n .result) _ nh _ _ (c .before .before .before .before .before .before .before .before .before .before .before .before .before .before .if1 .left) (laws.go-answered w (c .before .before .before .before .before .before .before .before .before .before .before .before .before .before .before .before .before .before .before .chunk-count .result) 0 (f .result) (e .result) (count-in (a .state .now) _ (c .before .before .before .before .before .before .before .before .before .before .before .before .before .before .before .before .before .before .before .chunk-count .ensures) long) _ _ (o .result) (c .answer .result) (o .ensures .0) (c .answer .ensures) ∙ ap (carriedOut w) (laws.touched-plan w (a .address) (a .len) (g .result) (f .result) (e .result) (g .ensures) (f .ensures) (e .ensures)))
 
 pub registrar-register-spec : {M : Type 1} → statement M
@@ -150,7 +150,7 @@ registrar-register-spec =
     same-length-5
     same-length-6
     returns-2
-    go-on-requires
+    register-from-requires
     answer-requires
     same-length-7
     same-length-8

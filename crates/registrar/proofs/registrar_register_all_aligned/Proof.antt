@@ -31,8 +31,8 @@ returns c =
     let n = c .before .before .all-refusal in
     laws.call-refused w (n .result) _ (n .ensures) _ (c .simple .result) (c .before .if1 .taken) (c .simple .ensures)
 
-all-on-requires : tie.Need-all-on-requires
-all-on-requires c κs =
+register-all-from-requires : tie.Need-register-all-from-requires
+register-all-from-requires c κs =
     let a = c .before .before .before .before .before .before .before .before .before .before .before .before .before .args in
     let w = world (a .state .now) (a .registered .now) (a .failed .now) in
     let n = c .before .before .before .before .all-refusal in
@@ -53,7 +53,7 @@ returns-2 c =
     let a = c .before .before .before .before .before .before .before .before .before .before .before .before .before .before .before .before .before .before .args in
     let w = world (a .state .now) (a .registered .now) (a .failed .now) in
     let n = c .before .before .before .before .before .before .before .before .before .all-refusal in
-    laws.call-answered w (n .result) _ (n .ensures) _ _ (c .before .before .before .before .before .before .before .before .if1 .left) (c .before .before .before .before .all-on .ensures)
+    laws.call-answered w (n .result) _ (n .ensures) _ _ (c .before .before .before .before .before .before .before .before .if1 .left) (c .before .before .before .before .register-all-from .ensures)
 
 pub registrar-register-all-aligned-spec : {M : Type 1} → statement M
 registrar-register-all-aligned-spec =
@@ -66,7 +66,7 @@ registrar-register-all-aligned-spec =
     same-length-2
     same-length-3
     returns
-    all-on-requires
+    register-all-from-requires
     same-length-4
     same-length-5
     same-length-6

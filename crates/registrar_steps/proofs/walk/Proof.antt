@@ -22,7 +22,7 @@ offer-of-requires : tie.Need-offer-of-requires Inv-loop μ-loop
 offer-of-requires c κs = c .before .before .before .before .before .pre (c .before .loop .c) (c .loop-test .taken)
 
 returns : tie.Need-returns Inv-loop μ-loop
-returns c = laws.stop-hit (seen (c .before .before .before .before .before .before .before .before .args .g) (entriesOf (c .before .before .before .before .before .before .before .before .args .ram .now)) (c .before .before .before .before .before .before .before .before .args .registered .now) (c .before .before .before .before .before .before .before .before .args .failed .now)) (c .before .before .before .before .loop .c) (c .before .before .before .before .before .before .before .before .args .to) (c .before .before .offer-of .result) (c .before .before .offer-of .ensures) (c .before .before .before .loop-test .taken) (c .if1 .taken) ∙ c .before .before .before .before .loop .inv
+returns c = laws.stop-hit (seen (c .before .before .before .before .before .before .before .before .args .granularity) (entriesOf (c .before .before .before .before .before .before .before .before .args .ram .now)) (c .before .before .before .before .before .before .before .before .args .registered .now) (c .before .before .before .before .before .before .before .before .args .failed .now)) (c .before .before .before .before .loop .c) (c .before .before .before .before .before .before .before .before .args .to) (c .before .before .offer-of .result) (c .before .before .offer-of .ensures) (c .before .before .before .loop-test .taken) (c .if1 .taken) ∙ c .before .before .before .before .loop .inv
 
 add-c : tie.Need-add-c Inv-loop μ-loop
 add-c c = search needs
@@ -31,13 +31,13 @@ loop-less : tie.Need-loop-less Inv-loop μ-loop
 loop-less c = search needs
 
 loop-again : tie.Need-loop-again Inv-loop μ-loop
-loop-again c = sym (laws.stop-miss (seen (c .before .before .before .before .before .before .before .before .args .g) (entriesOf (c .before .before .before .before .before .before .before .before .args .ram .now)) (c .before .before .before .before .before .before .before .before .args .registered .now) (c .before .before .before .before .before .before .before .before .args .failed .now)) (c .before .before .before .before .loop .c) (c .before .before .before .before .before .before .before .before .args .to) (c .before .before .offer-of .result) (c .before .before .offer-of .ensures) (c .before .before .before .loop-test .taken) (c .if1 .left)) ∙ c .before .before .before .before .loop .inv
+loop-again c = sym (laws.stop-miss (seen (c .before .before .before .before .before .before .before .before .args .granularity) (entriesOf (c .before .before .before .before .before .before .before .before .args .ram .now)) (c .before .before .before .before .before .before .before .before .args .registered .now) (c .before .before .before .before .before .before .before .before .args .failed .now)) (c .before .before .before .before .loop .c) (c .before .before .before .before .before .before .before .before .args .to) (c .before .before .offer-of .result) (c .before .before .offer-of .ensures) (c .before .before .before .loop-test .taken) (c .if1 .left)) ∙ c .before .before .before .before .loop .inv
 
 stop-of-requires : tie.Need-stop-of-requires Inv-loop μ-loop
 stop-of-requires c κs = search needs
 
 returns-2 : tie.Need-returns-2 Inv-loop μ-loop
-returns-2 c = c .stop-of .ensures ∙ laws.stop-end (seen (c .before .before .before .before .before .before .args .g) (entriesOf (c .before .before .before .before .before .before .args .ram .now)) (c .before .before .before .before .before .before .args .registered .now) (c .before .before .before .before .before .before .args .failed .now)) (c .before .before .loop .c) (c .before .before .before .before .before .before .args .to) (omega arith) ∙ c .before .before .loop .inv
+returns-2 c = c .stop-of .ensures ∙ laws.stop-end (seen (c .before .before .before .before .before .before .args .granularity) (entriesOf (c .before .before .before .before .before .before .args .ram .now)) (c .before .before .before .before .before .before .args .registered .now) (c .before .before .before .before .before .before .args .failed .now)) (c .before .before .loop .c) (c .before .before .before .before .before .before .args .to) (omega arith) ∙ c .before .before .loop .inv
 
 pub walk-spec : {M : Type 1} → statement M
 walk-spec =
