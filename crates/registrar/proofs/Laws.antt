@@ -13,6 +13,7 @@ use Rattle.abi.specs.Kinds as kind
 use Rattle.abi.specs.Refusals as refusal
 use Rattle.abi.specs.RegistrarPlaces as place
 use Rattle.abi.specs.Lengths.{ramLen, registrarLen, wordBits}
+use Rattle.laws.specs.Bools.{false≢true}
 use Rattle.laws.specs.Ranges.{between, between-false}
 use Rattle.laws.specs.Refusal.{unless, passed, refused, answered}
 use Rattle.bitmap.specs.Pages.{bitAt}
@@ -24,9 +25,11 @@ use Rattle.chunks.specs.Chunks.{chunkCount, firstChunk, endChunk, empty, firstN
 use Rattle.registrar_steps.specs.declared.Request.{Request}
 use Rattle.registrar_steps.specs.declared.Answer.the-variants.{Done, RegistrationFailed, Refused}
 use Rattle.registrar_steps.specs.declared.Plan.{Plan}
+use Rattle.registrar_steps.specs.declared.Why.{Why}
+use Rattle.registrar_steps.specs.declared.Why.the-variants as why
 use Rattle.registrar_steps.specs.declared.Stop.{Stop}
-use Rattle.registrar_steps.specs.Steps.{idle, askedOf, asks, ends, ramFrom, passes, pieceOf, registerFrom, stopAt, stopPlan, allFrom}
-use Rattle.registrar_steps.proofs.Laws.{register-stopped}
+use Rattle.registrar_steps.specs.Steps.{idle, askedOf, asks, ends, ramFrom, passes, pieceOf, registerFrom, hasRam, stopAt, planAt, stopPlan, allFrom}
+use Rattle.registrar_steps.proofs.Laws.{register-stopped, ram-plan}
 use Rattle.registrar_state.specs.declared.Reply.{Reply}
 use Rattle.registrar_state.specs.World.{World, world, Outcome, outcome, requestOf, withRequest, offsetOf, granularityOf, entriesIn, seenIn, builtState, simple, flatOf, decided, buildRefusal, callRefusal, chunksFit, registerRefusal, allRefusal, marked, carriedOut, registerPlan, isKnown, answerRefusal, restOf, hasRest, takenTo, donePlan, afterTaken}
 use Rattle.registrar_state.proofs.Laws.{build-fits, known-kept}
@@ -147,21 +150,23 @@ module _ (w : World) (n count from until : ℕ) (hn : n ≡ chunkCount (granular
     stopped-is : stopPlan (offsetOf (w .state)) count from until a ≡ planned
     stopped-is = register-stopped (seenIn w) (offsetOf (w .state)) count from until (min until n) (firstNot (passes (seenIn w)) from (min until n)) (ap (min until) hn) refl a ha
 
-    pub go-asked : (q : Request) → a .what ≡ 1 → q ≡ pieceOf count (a .chunk) (a .chunk + 1) until (range (a .start) (a .end)) → s ≡ withRequest q (w .state) → Stored w planned s m (a .chunk)
+    pub go-asked : (q : Request) → hasRam (a .why) ≡ true → q ≡ pieceOf count (a .chunk) (a .chunk + 1) until (range (a .start) (a .end)) → s ≡ withRequest q (w .state) → Stored w planned s m (a .chunk)
     go-asked q h hq hs =
         stored w planned (asks (offsetOf (w .state)) from (a .chunk) (pieceOf count (a .chunk) (a .chunk + 1) until (range (a .start) (a .end)))) s m (a .chunk)
-        (sym (rw (eq-eqb (a .what) 1 h)) ∙ stopped-is) (hs ∙ ap (λ (q : Request). withRequest q (w .state)) hq) hm refl
+        (sym (ram-plan (offsetOf (w .state)) count from until a (a .why) h) ∙ stopped-is) (hs ∙ ap (λ (q : Request). withRequest q (w .state)) hq) hm refl
 
-    pub go-ended : (i : Request) → (a .what ≡ 1 → ⊥) → i ≡ idle → s ≡ withRequest i (w .state) → Stored w planned s m (a .chunk)
-    go-ended i h hi hs = go (eqb (a .what) 2) refl
+    pub go-ended : (i : Request) → hasRam (a .why) ≡ false → i ≡ idle → s ≡ withRequest i (w .state) → Stored w planned s m (a .chunk)
+    go-ended i h hi hs = go (a .why) refl h
       where
-        go : (b : Bool) → eqb (a .what) 2 ≡ b → Stored w planned s m (a .chunk)
-        go true e =
-            stored w planned (ends from (a .chunk) (RegistrationFailed (a .start) count)) s m (a .chunk)
-            (sym (rw (ne-eqb (a .what) 1 h, e)) ∙ stopped-is) (hs ∙ ap (λ (q : Request). withRequest q (w .state)) hi) hm refl
-        go false e =
-            stored w planned (ends from (a .chunk) (Done count)) s m (a .chunk)
-            (sym (rw (ne-eqb (a .what) 1 h, e)) ∙ stopped-is) (hs ∙ ap (λ (q : Request). withRequest q (w .state)) hi) hm refl
+        ended : (p : Plan) → p ≡ stopPlan (offsetOf (w .state)) count from until a → p .request ≡ idle → p .from ≡ from → p .to ≡ a .chunk → Stored w planned s m (a .chunk)
+        ended p e x y z =
+            stored w planned p s m (a .chunk) (e ∙ stopped-is) (hs ∙ ap (λ (q : Request). withRequest q (w .state)) (hi ∙ sym x))
+            (hm ∙ sym (ap₂ (λ (f t : ℕ). marked f t (w .registered)) y z)) (sym z)
+
+        go : (x : Why) → a .why ≡ x → hasRam x ≡ false → Stored w planned s m (a .chunk)
+        go why.End e k = ended (ends from (a .chunk) (Done count)) (sym (ap (planAt (offsetOf (w .state)) count from until a) e)) refl refl refl
+        go why.Ram e k = false≢true (sym k)
+        go why.Failed e k = ended (ends from (a .chunk) (RegistrationFailed (a .start) count)) (sym (ap (planAt (offsetOf (w .state)) count from until a) e)) refl refl refl
 
 module _ (s : List ℕ) (n count until c : ℕ) (r : Reply) where
   pub answer-asked : (x y : ℕ) → getD s place.kind 0 ≡ kind.register → x ≡ (offsetOf s + getD s place.start 0) % 2 ^ 64 → y ≡ (offsetOf s + getD s place.end 0) % 2 ^ 64 → r ≡ simple 0 1 0 x y 0 → r ≡ answerOf s n count until c

@@ -97,7 +97,7 @@ fn register_from(
 {
     let at = registrar_state::register_stop(state, registered, failed, total, from, until);
     chunks::set_chunks(registered, from, at.chunk);
-    if at.what == 1 {
+    if registrar_steps::has_ram(at) {
         let range = MemoryRange {
             start: at.start,
             end: at.end,

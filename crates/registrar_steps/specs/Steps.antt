@@ -14,6 +14,8 @@ use Rattle.registrar_steps.specs.declared.Request.{Request}
 use Rattle.registrar_steps.specs.declared.Unaligned.{Unaligned}
 use Rattle.registrar_steps.specs.declared.Answer.{Answer}
 use Rattle.registrar_steps.specs.declared.Answer.the-variants.{Done, Register, RegistrationFailed, UnalignedMemory}
+use Rattle.registrar_steps.specs.declared.Why.{Why}
+use Rattle.registrar_steps.specs.declared.Why.the-variants as why
 use Rattle.registrar_steps.specs.declared.Stop.{Stop}
 use Rattle.registrar_steps.specs.declared.Look.{Look}
 use Rattle.registrar_steps.specs.declared.Look.the-variants.{Nothing, Edge, FailedBefore, Stretch}
@@ -78,31 +80,43 @@ registerFrom s offset n c until =
     (asks offset c t (pieceOf n t (t + 1) until (ramFrom (s .granularity) (s .entries) t (t * s .granularity)))))
     (ends c t (Done n))
 
--- the same in numbers, as the code finds it: 0 at the end (of one chunk: nothing to ask for), 1 at a chunk with RAM to ask for, 2 at one that
--- failed before
-abbrev pub stop : ℕ → ℕ → ℕ → ℕ → Stop
-stop what c x y = record { what = what; chunk = c; start = x; end = y }
+-- the same as the code finds it: a stop at the end (of one chunk: nothing to ask for), at a chunk with RAM to ask for, or at one that failed before
+abbrev pub isEnd : Why → Bool
+isEnd why.End = true
+isEnd why.Ram = false
+isEnd why.Failed = false
+
+abbrev pub hasRam : Why → Bool
+hasRam why.End = false
+hasRam why.Ram = true
+hasRam why.Failed = false
+
+abbrev pub stop : Why → ℕ → ℕ → ℕ → Stop
+stop reason c x y = record { why = reason; chunk = c; start = x; end = y }
 
 -- what chunk c asks for
 abbrev pub offerOf : Seen → ℕ → Stop
 offerOf s c =
     let r : MemoryRange = ramFrom (s .granularity) (s .entries) c (c * s .granularity) in
-    cond (bitAt wordBits (s .registered) c) (stop 0 c 0 0)
-    (cond (bitAt wordBits (s .failed) c) (stop 2 c (c * s .granularity) 0)
-    (cond (empty r) (stop 0 c 0 0) (stop 1 c (r .start) (r .end))))
+    cond (bitAt wordBits (s .registered) c) (stop why.End c 0 0)
+    (cond (bitAt wordBits (s .failed) c) (stop why.Failed c (c * s .granularity) 0)
+    (cond (empty r) (stop why.End c 0 0) (stop why.Ram c (r .start) (r .end))))
 
 -- where a walk from chunk c to before e stops
 unfoldable pub stopAt : Seen → ℕ → ℕ → Stop
 stopAt s c e =
     let t : ℕ = firstNot (passes s) c e in
     let r : MemoryRange = ramFrom (s .granularity) (s .entries) t (t * s .granularity) in
-    cond (ltb t e) (cond (bitAt wordBits (s .failed) t) (stop 2 t (t * s .granularity) 0) (stop 1 t (r .start) (r .end))) (stop 0 t 0 0)
+    cond (ltb t e) (cond (bitAt wordBits (s .failed) t) (stop why.Failed t (t * s .granularity) 0) (stop why.Ram t (r .start) (r .end))) (stop why.End t 0 0)
 
 -- the plan of such a stop
+abbrev pub planAt : ℕ → ℕ → ℕ → ℕ → Stop → Why → Plan
+planAt offset n c until a why.End = ends c (a .chunk) (Done n)
+planAt offset n c until a why.Ram = asks offset c (a .chunk) (pieceOf n (a .chunk) (a .chunk + 1) until (range (a .start) (a .end)))
+planAt offset n c until a why.Failed = ends c (a .chunk) (RegistrationFailed (a .start) n)
+
 abbrev pub stopPlan : ℕ → ℕ → ℕ → ℕ → Stop → Plan
-stopPlan offset n c until a =
-    cond (eqb (a .what) 1) (asks offset c (a .chunk) (pieceOf n (a .chunk) (a .chunk + 1) until (range (a .start) (a .end))))
-    (cond (eqb (a .what) 2) (ends c (a .chunk) (RegistrationFailed (a .start) n)) (ends c (a .chunk) (Done n)))
+stopPlan offset n c until a = planAt offset n c until a (a .why)
 
 -- ---- register_all_aligned
 

@@ -7,7 +7,7 @@ ghost use Rattle.abi.specs.Lengths.{wordBits};
 ghost use Rattle.bitmap.specs.Pages.{bitAt};
 ghost use Rattle.layout.specs.Layout.{entriesOf, spans};
 ghost use Rattle.chunks.specs.Chunks.{chunkCount, empty};
-ghost use Rattle.registrar_steps.specs.Steps.{seen, ramFrom, idle, isIdle, askedOf, asks, ends, pieceOf, stop, offerOf, stopAt, stretchIn, lookAt, unalignedAt, stretchOf, isNothing, found, allFrom};
+ghost use Rattle.registrar_steps.specs.Steps.{seen, ramFrom, idle, isIdle, askedOf, asks, ends, pieceOf, isEnd, hasRam, stop, offerOf, stopAt, stretchIn, lookAt, unalignedAt, stretchOf, isNothing, found, allFrom};
 use abi::kind;
 use layout::MemoryRange;
 
@@ -43,10 +43,17 @@ pub enum Answer {
     Refused(u64),
 }
 
-// Where `register` stops: 0 at the end, 1 at a chunk with RAM to ask for, 2 at one that failed before, with its address. Of one
-// chunk 0 is that it asks for nothing.
+// Why `register` stops: at the end, at a chunk with RAM to ask for, at one that failed before. Of one chunk End is that it
+// asks for nothing.
+pub enum Why {
+    End,
+    Ram,
+    Failed,
+}
+
+// Where `register` stops, with the address of a chunk that failed before, or of the RAM to ask for.
 pub struct Stop {
-    pub what: u64,
+    pub why: Why,
     pub chunk: u64,
     pub start: u64,
     pub end: u64,
@@ -74,11 +81,11 @@ pub struct Plan {
 }
 
 // A stop of its parts.
-fn stop_of(what: u64, chunk: u64, start: u64, end: u64) -> Stop
-    ensures { λ r. ⌜ r ≡ stop what chunk start end ⌝ }
+fn stop_of(why: Why, chunk: u64, start: u64, end: u64) -> Stop
+    ensures { λ r. ⌜ r ≡ stop why chunk start end ⌝ }
 {
     Stop {
-        what: what,
+        why: why,
         chunk: chunk,
         start: start,
         end: end,
@@ -91,18 +98,42 @@ fn offer_of(ram: &[u64], granularity: u64, registered: &[u64], failed: &[u64], c
     ensures { λ r. ⌜ r ≡ offerOf (seen granularity (entriesOf (now (ram .entry))) (now (registered .entry)) (now (failed .entry))) chunk ⌝ }
 {
     if bitmap::get(registered, chunk) {
-        return stop_of(0, chunk, 0, 0);
+        return stop_of(Why::End, chunk, 0, 0);
     }
     let start = chunk * granularity;
     let failed_before = bitmap::get(failed, chunk);
     if failed_before {
-        return stop_of(2, chunk, start, 0);
+        return stop_of(Why::Failed, chunk, start, 0);
     }
     let first = chunks::chunk_ram(ram, granularity, start);
     if first.end <= first.start {
-        return stop_of(0, chunk, 0, 0);
+        return stop_of(Why::End, chunk, 0, 0);
     }
-    stop_of(1, chunk, first.start, first.end)
+    stop_of(Why::Ram, chunk, first.start, first.end)
+}
+
+// Whether a stop is at the end.
+fn is_end(stop: Stop) -> bool
+    ensures { λ r. ⌜ r ≡ isEnd (stop .why) ⌝ }
+{
+    let why = stop.why;
+    match why {
+        Why::End => true,
+        Why::Ram => false,
+        Why::Failed => false,
+    }
+}
+
+// Whether a stop is at RAM to ask for.
+pub fn has_ram(stop: Stop) -> bool
+    ensures { λ r. ⌜ r ≡ hasRam (stop .why) ⌝ }
+{
+    let why = stop.why;
+    match why {
+        Why::End => false,
+        Why::Ram => true,
+        Why::Failed => false,
+    }
 }
 
 // The first chunk from `from` to before `to` that asks for something, and what it asks for.
@@ -120,12 +151,12 @@ fn walk(
     let mut c = from;
     while c < to {
         let offer = offer_of(ram, granularity, registered, failed, c);
-        if offer.what != 0 {
+        if !is_end(offer) {
             return offer;
         }
         c += 1;
     }
-    stop_of(0, c, 0, 0)
+    stop_of(Why::End, c, 0, 0)
 }
 
 // Where `register` stops, from chunk `from` on, of a request that ends before chunk `until`, where there are `total` chunks.

@@ -3,6 +3,7 @@ use native.Mathlib.Omega.{arith}
 use borrow.Author.Needs.{needs}
 use mathlib.Core.Path.{_≡_, refl, sym, _∙_}
 use Prim.Native.Nat.{_-_}
+use borrow.Author.Tests.{not-true, not-false}
 use Rattle.layout.specs.Layout.{entriesOf}
 use Rattle.registrar_steps.specs.Steps.{seen, stopAt}
 use Rattle.registrar_steps.proofs.Laws as laws
@@ -21,8 +22,11 @@ loop-holds c = refl
 offer-of-requires : tie.Need-offer-of-requires Inv-loop μ-loop
 offer-of-requires c κs = c .before .before .before .before .before .pre (c .before .loop .c) (c .loop-test .taken)
 
+is-end-requires : tie.Need-is-end-requires Inv-loop μ-loop
+is-end-requires c κs = search needs
+
 returns : tie.Need-returns Inv-loop μ-loop
-returns c = laws.stop-hit (seen (c .before .before .before .before .before .before .before .before .args .granularity) (entriesOf (c .before .before .before .before .before .before .before .before .args .ram .now)) (c .before .before .before .before .before .before .before .before .args .registered .now) (c .before .before .before .before .before .before .before .before .args .failed .now)) (c .before .before .before .before .loop .c) (c .before .before .before .before .before .before .before .before .args .to) (c .before .before .offer-of .result) (c .before .before .offer-of .ensures) (c .before .before .before .loop-test .taken) (c .if1 .taken) ∙ c .before .before .before .before .loop .inv
+returns c = laws.stop-hit (seen (c .before .before .before .before .before .before .before .before .args .granularity) (entriesOf (c .before .before .before .before .before .before .before .before .args .ram .now)) (c .before .before .before .before .before .before .before .before .args .registered .now) (c .before .before .before .before .before .before .before .before .args .failed .now)) (c .before .before .before .before .loop .c) (c .before .before .before .before .before .before .before .before .args .to) (c .before .before .offer-of .result) (c .before .before .offer-of .ensures) (c .before .before .before .loop-test .taken) (sym (c .before .is-end .ensures) ∙ not-true _ (c .if1 .taken)) ∙ c .before .before .before .before .loop .inv
 
 add-c : tie.Need-add-c Inv-loop μ-loop
 add-c c = search needs
@@ -31,7 +35,7 @@ loop-less : tie.Need-loop-less Inv-loop μ-loop
 loop-less c = search needs
 
 loop-again : tie.Need-loop-again Inv-loop μ-loop
-loop-again c = sym (laws.stop-miss (seen (c .before .before .before .before .before .before .before .before .args .granularity) (entriesOf (c .before .before .before .before .before .before .before .before .args .ram .now)) (c .before .before .before .before .before .before .before .before .args .registered .now) (c .before .before .before .before .before .before .before .before .args .failed .now)) (c .before .before .before .before .loop .c) (c .before .before .before .before .before .before .before .before .args .to) (c .before .before .offer-of .result) (c .before .before .offer-of .ensures) (c .before .before .before .loop-test .taken) (c .if1 .left)) ∙ c .before .before .before .before .loop .inv
+loop-again c = sym (laws.stop-miss (seen (c .before .before .before .before .before .before .before .before .args .granularity) (entriesOf (c .before .before .before .before .before .before .before .before .args .ram .now)) (c .before .before .before .before .before .before .before .before .args .registered .now) (c .before .before .before .before .before .before .before .before .args .failed .now)) (c .before .before .before .before .loop .c) (c .before .before .before .before .before .before .before .before .args .to) (c .before .before .offer-of .result) (c .before .before .offer-of .ensures) (c .before .before .before .loop-test .taken) (sym (c .before .is-end .ensures) ∙ not-false _ (c .if1 .left))) ∙ c .before .before .before .before .loop .inv
 
 stop-of-requires : tie.Need-stop-of-requires Inv-loop μ-loop
 stop-of-requires c κs = search needs
@@ -47,6 +51,7 @@ walk-spec =
     μ-loop
     loop-holds
     offer-of-requires
+    is-end-requires
     returns
     add-c
     loop-less
