@@ -16,6 +16,7 @@ use Rattle.abi.specs.Lengths.{ramLen, registrarLen, wordBits}
 use Rattle.laws.specs.Bools.{false≢true}
 use Rattle.laws.specs.Ranges.{between, between-false}
 use Rattle.laws.specs.Refusal.{unless, passed, refused, answered}
+use Rattle.words.proofs.Laws.{filled-next}
 use Rattle.bitmap.specs.Pages.{bitAt}
 use Rattle.bitmap.proofs.Map.{none}
 use Rattle.layout.specs.declared.MemoryRange.{MemoryRange}
@@ -103,18 +104,11 @@ pub filled-none : (s ram : List ℕ) (o g n : ℕ) → length s ≡ registrarLen
 filled-none s ram o g n h e =
     ap₂ (λ (k m : ℕ). set (set (set (replicate k 0) place.offset o) place.granularity g) place.entries m) h e
 
-filled-next : (ram : List ℕ) (i : ℕ) → i < length ram → i < ramLen → set (take i ram ++ replicate (ramLen - i) 0) i (getD ram i 0) ≡ take (i + 1) ram ++ replicate (ramLen - (i + 1)) 0
-filled-next ram i h k =
-    let d : ramLen - i ≡ suc (ramLen - (i + 1)) = omega arith in
-    ap (λ (m : ℕ). set (take i ram ++ replicate m 0) i (getD ram i 0)) d
-    ∙ set-at (take i ram) 0 (replicate (ramLen - (i + 1)) 0) (getD ram i 0) i (length-take-le i ram (omega arith))
-    ∙ sym (ap (λ (l : List ℕ). l ++ replicate (ramLen - (i + 1)) 0) (ap (λ (m : ℕ). take m ram) (add-one i) ∙ take-suc ram i 0 h) ∙ append-assoc (take i ram) (getD ram i 0 ∷ []) (replicate (ramLen - (i + 1)) 0))
-
 pub filled-more : (ram : List ℕ) (o g i : ℕ) → i < length ram → i < ramLen → set (filledTo ram o g i) (place.ram + i) (getD ram i 0) ≡ filledTo ram o g (i + 1)
 filled-more ram o g i h k =
     let d : place.ram + i ≡ suc (suc (suc (suc (suc (suc (suc (suc (suc (suc (suc (suc i))))))))))) = omega arith in
     ap (λ (m : ℕ). set (filledTo ram o g i) m (getD ram i 0)) d
-    ∙ ap (λ (l : List ℕ). 0 ∷ 0 ∷ 0 ∷ 0 ∷ 0 ∷ 0 ∷ 0 ∷ 0 ∷ 0 ∷ o ∷ g ∷ length (entriesOf ram) ∷ l) (filled-next ram i h k)
+    ∙ ap (λ (l : List ℕ). 0 ∷ 0 ∷ 0 ∷ 0 ∷ 0 ∷ 0 ∷ 0 ∷ 0 ∷ 0 ∷ o ∷ g ∷ length (entriesOf ram) ∷ l) (filled-next ramLen ram i h k)
 
 pub filled-all : (ram : List ℕ) (o g i : ℕ) → length ram ≤ i → i ≤ length ram → filledTo ram o g i ≡ builtState ram o g
 filled-all ram o g i h k =
