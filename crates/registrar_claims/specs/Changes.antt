@@ -25,17 +25,21 @@ withFailed lent (RegisterAll alignment ignore) = lent .failed
 withFailed lent AnswerDone = lent .failed
 withFailed lent AnswerFailed = marked (requestOf (lent .state) .from) (requestOf (lent .state) .to) (lent .failed)
 
--- 22: nothing is asked any more, and what was registered before stays
+-- nothing is asked any more, and every other word of the state block stays
+abbrev pub IdleState : World → Outcome → Type 0
+IdleState lent o = o .world .state ≡ withRequest idle (lent .state)
+
+-- 22: what was registered before stays
 pub record Unaligned22 (lent : World) (registered : List ℕ) (o : Outcome) : Type 0 where
-  pub same-state : o .world .state ≡ withRequest idle (lent .state)
+  pub same-state : IdleState lent o
   pub same-registered : o .world .registered ≡ registered
   pub same-failed : o .world .failed ≡ lent .failed
 
--- 23: nothing is asked any more, the failed chunks are marked, and before a chunk that failed before those that ask for nothing are passed
+-- 23: the failed chunks are marked, and before a chunk that failed before those that ask for nothing are passed
 pub record Failed23 (lent : World) (registered failed : List ℕ) (o : Outcome) : Type 0 where
   pub from : ℕ
   pub to : ℕ
-  pub same-state : o .world .state ≡ withRequest idle (lent .state)
+  pub same-state : IdleState lent o
   pub same-registered : o .world .registered ≡ marked from to registered
   pub passed : (chunk : ℕ) → from ≤ chunk → chunk < to → passes (seen (granularityOf (lent .state)) (entriesIn (lent .state)) registered (lent .failed)) chunk ≡ true
   pub same-failed : o .world .failed ≡ failed

@@ -34,19 +34,6 @@ use Rattle.registrar_state.specs.World.{World, outcome, requestOf, reque
 
 -- ---- the request's words
 
-module _ (a0 a1 a2 a3 a4 a5 a6 a7 a8 : ℕ) where
-  pub saved : (s : List ℕ) → place.afterRequest ≤ length s → set (set (set (set (set (set (set (set (set s 0 a0) 1 a1) 2 a2) 3 a3) 4 a4) 5 a5) 6 a6) 7 a7) 8 a8 ≡ a0 ∷ a1 ∷ a2 ∷ a3 ∷ a4 ∷ a5 ∷ a6 ∷ a7 ∷ a8 ∷ drop place.afterRequest s
-  saved [] h = absurd (omega arith)
-  saved (x0 ∷ []) h = absurd (omega arith)
-  saved (x0 ∷ x1 ∷ []) h = absurd (omega arith)
-  saved (x0 ∷ x1 ∷ x2 ∷ []) h = absurd (omega arith)
-  saved (x0 ∷ x1 ∷ x2 ∷ x3 ∷ []) h = absurd (omega arith)
-  saved (x0 ∷ x1 ∷ x2 ∷ x3 ∷ x4 ∷ []) h = absurd (omega arith)
-  saved (x0 ∷ x1 ∷ x2 ∷ x3 ∷ x4 ∷ x5 ∷ []) h = absurd (omega arith)
-  saved (x0 ∷ x1 ∷ x2 ∷ x3 ∷ x4 ∷ x5 ∷ x6 ∷ []) h = absurd (omega arith)
-  saved (x0 ∷ x1 ∷ x2 ∷ x3 ∷ x4 ∷ x5 ∷ x6 ∷ x7 ∷ []) h = absurd (omega arith)
-  saved (x0 ∷ x1 ∷ x2 ∷ x3 ∷ x4 ∷ x5 ∷ x6 ∷ x7 ∷ x8 ∷ s) h = refl
-
 -- a state block of its length is its request's words and the rest
 pub split-state : (s : List ℕ) → place.afterRequest ≤ length s → s ≡ requestWords (requestOf s) ++ drop place.afterRequest s
 split-state [] h = absurd (omega arith)
@@ -59,6 +46,12 @@ split-state (x0 ∷ x1 ∷ x2 ∷ x3 ∷ x4 ∷ x5 ∷ []) h = absurd (omega ari
 split-state (x0 ∷ x1 ∷ x2 ∷ x3 ∷ x4 ∷ x5 ∷ x6 ∷ []) h = absurd (omega arith)
 split-state (x0 ∷ x1 ∷ x2 ∷ x3 ∷ x4 ∷ x5 ∷ x6 ∷ x7 ∷ []) h = absurd (omega arith)
 split-state (x0 ∷ x1 ∷ x2 ∷ x3 ∷ x4 ∷ x5 ∷ x6 ∷ x7 ∷ x8 ∷ s) h = refl
+
+-- so nine words stored are nine words and the rest
+pub saved : (a0 a1 a2 a3 a4 a5 a6 a7 a8 : ℕ) (s : List ℕ) → place.afterRequest ≤ length s
+    → set (set (set (set (set (set (set (set (set s 0 a0) 1 a1) 2 a2) 3 a3) 4 a4) 5 a5) 6 a6) 7 a7) 8 a8 ≡ a0 ∷ a1 ∷ a2 ∷ a3 ∷ a4 ∷ a5 ∷ a6 ∷ a7 ∷ a8 ∷ drop place.afterRequest s
+saved a0 a1 a2 a3 a4 a5 a6 a7 a8 s h =
+    ap (λ (l : List ℕ). set (set (set (set (set (set (set (set (set l 0 a0) 1 a1) 2 a2) 3 a3) 4 a4) 5 a5) 6 a6) 7 a7) 8 a8) (split-state s h)
 
 -- ---- the layout's words
 

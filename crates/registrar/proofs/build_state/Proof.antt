@@ -38,7 +38,8 @@ loop-holds c =
     let s = c .before .before .before .before .before .before .before .args .state .now in
     let t = laws.filled-none s (c .before .before .before .before .before .before .before .args .ram .now) (c .before .before .before .before .before .before .before .args .offset) (c .before .before .before .before .before .before .before .args .granularity) (c .before .before .before .before .entry-count .result) (c .before .before .before .before .before .before .before .pre .0) (c .before .before .before .before .entry-count .ensures) in
     let q = ap (λ (l : List ℕ). set (set (set l place.offset (c .before .before .before .before .before .before .before .args .offset)) place.granularity (c .before .before .before .before .before .before .before .args .granularity)) place.entries (c .before .before .before .before .entry-count .result)) (c .before .before .clear .ensures) in
-    (omega arith, simp length-set (c .before .before .clear .kept .0 ∙ c .before .before .before .before .before .before .before .pre .0), c .before .before .before .before .before .before .before .pre .1, q ∙ t)
+    let given = c .before .before .before .before .before .before .before .pre in
+    (omega arith, simp length-set (c .before .before .clear .kept .0 ∙ given .0), given .1, q ∙ t)
 
 mul-state : tie.Need-mul-state Inv-loop μ-loop
 mul-state c = search needs
@@ -64,7 +65,8 @@ loop-less c = search needs
 loop-again : tie.Need-loop-again Inv-loop μ-loop
 loop-again c =
     let h = c .before .before .loop in
-    (omega arith, simp length-set (h .inv .1), h .inv .2, ap (λ (l : List ℕ). set l (place.ram + h .i) (getD (c .before .before .before .before .before .before .before .before .before .before .args .ram .now) (h .i) 0)) (h .inv .3) ∙ laws.filled-more (c .before .before .before .before .before .before .before .before .before .before .args .ram .now) (c .before .before .before .before .before .before .before .before .before .before .args .offset) (c .before .before .before .before .before .before .before .before .before .before .args .granularity) (h .i) (omega arith) (omega arith))
+    let a = c .before .before .before .before .before .before .before .before .before .before .args in
+    (omega arith, simp length-set (h .inv .1), h .inv .2, ap (λ (l : List ℕ). set l (place.ram + h .i) (getD (a .ram .now) (h .i) 0)) (h .inv .3) ∙ laws.filled-more (a .ram .now) (a .offset) (a .granularity) (h .i) (omega arith) (omega arith))
 
 same-length : tie.Need-same-length Inv-loop μ-loop
 same-length c = search needs

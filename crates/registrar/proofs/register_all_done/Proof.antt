@@ -25,7 +25,9 @@ returns : tie.Need-returns
 returns c =
     let a = c .before .before .before .before .before .before .before .before .before .before .before .before .before .before .before .before .args in
     let w = world (a .state .now) (a .registered .now) (a .failed .now) in
-    c .before .before .before .before .register-all-from .ensures ∙ laws.done-all w (c .before .before .before .before .before .before .before .before .before .before .before .load .result) (c .before .before .before .before .before .before .before .before .before .before .before .load .ensures) (laws.not-register (a .state .now) (c .before .before .before .before .before .before .before .before .before .before .before .before .before .before .before .before .pre .1)) _ (c .before .before .before .before .before .before .before .before .before .set-chunks .ensures) (c .before .before .before .before .before .before .before .before .before .before .before .before .before .before .before .before .pre .1)
+    let load = c .before .before .before .before .before .before .before .before .before .before .before .load in
+    let given = c .before .before .before .before .before .before .before .before .before .before .before .before .before .before .before .before .pre in
+    c .before .before .before .before .register-all-from .ensures ∙ laws.done-all w (load .result) (load .ensures) (laws.not-register (a .state .now) (given .1)) _ (c .before .before .before .before .before .before .before .before .before .set-chunks .ensures) (given .1)
 
 pub register-all-done-spec : {M : Type 1} → statement M
 register-all-done-spec =

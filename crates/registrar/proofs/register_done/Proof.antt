@@ -22,7 +22,10 @@ returns : tie.Need-returns
 returns c =
     let a = c .before .before .before .before .before .before .before .before .before .before .before .before .before .args in
     let w = world (a .state .now) (a .registered .now) (a .failed .now) in
-    laws.done-rest w (c .before .before .before .before .before .before .before .before .load .result) (c .before .before .before .before .before .before .before .before .load .ensures) (c .before .before .before .before .before .before .rest-of .result) _ (c .before .before .ask .result) (c .before .before .before .before .before .before .before .before .before .before .before .before .before .pre .2) (c .before .before .before .before .before .before .rest-of .ensures) (c .before .before .before .before .if1 .taken) (c .before .before .ask .ensures .0) (c .before .before .ask .ensures .1)
+    let ask = c .before .before .ask in
+    let load = c .before .before .before .before .before .before .before .before .load in
+    let rest-of = c .before .before .before .before .before .before .rest-of in
+    laws.done-rest w (load .result) (load .ensures) (rest-of .result) _ (ask .result) (c .before .before .before .before .before .before .before .before .before .before .before .before .before .pre .2) (rest-of .ensures) (c .before .before .before .before .if1 .taken) (ask .ensures .0) (ask .ensures .1)
 
 set-chunks-requires : tie.Need-set-chunks-requires
 set-chunks-requires c κs = search needs
@@ -36,7 +39,9 @@ answer-requires c κs =
     let w = world (a .state .now) (a .registered .now) (a .failed .now) in
     let v = world (a .state .now) (c .before .before .before .before .before .before .before .before .before .before .set-chunks .last .0) (a .failed .now) in
     let o = c .before .before .before .before .before .register-from in
-    laws.go-kept v (a .total) (c .before .before .before .before .before .before .before .before .before .before .before .before .before .before .before .before .load .result .count) (c .before .before .before .before .before .before .before .before .before .before .before .before .before .before .before .before .load .result .to) (c .before .before .before .before .before .before .before .before .before .before .before .before .before .before .before .before .load .result .until) (c .before .before .before .before .before .before .before .before .before .before .before .before .before .before .before .before .before .before .before .before .before .pre .1) _ _ (o .result) (o .ensures .0) (c .before .before .before .before .before .before .before .before .before .before .before .before .before .before .before .before .before .before .before .before .before .pre .0) (o .ensures .1)
+    let load = c .before .before .before .before .before .before .before .before .before .before .before .before .before .before .before .before .load in
+    let given = c .before .before .before .before .before .before .before .before .before .before .before .before .before .before .before .before .before .before .before .before .before .pre in
+    laws.go-kept v (a .total) (load .result .count) (load .result .to) (load .result .until) (given .1) _ _ (o .result) (o .ensures .0) (given .0) (o .ensures .1)
 
 same-length-2 : tie.Need-same-length-2
 same-length-2 c = search needs

@@ -41,7 +41,8 @@ returns c =
     let a = c .before .before .before .before .before .before .before .before .before .before .before .before .before .before .before .before .before .args in
     let w = world (a .state .now) (a .registered .now) (a .failed .now) in
     let t = c .before .before .before .before .before .before .before .before .before .before .before .register-stop in
-    (laws.go-asked w (a .total) (a .count) (a .from) (a .until) (c .before .before .before .before .before .before .before .before .before .before .before .before .before .before .before .before .before .pre .1) (t .result) (t .ensures .0) _ _ (c .before .before .before .before .before .before .before .before .before .set-chunks .ensures) (c .before .before .before .piece .result) (sym (c .before .before .before .before .before .before .has-ram .ensures) ∙ c .before .before .before .before .before .if1 .taken) (c .before .before .before .piece .ensures) (c .before .before .save .ensures), t .ensures .1)
+    let piece = c .before .before .before .piece in
+    (laws.go-asked w (a .total) (a .count) (a .from) (a .until) (c .before .before .before .before .before .before .before .before .before .before .before .before .before .before .before .before .before .pre .1) (t .result) (t .ensures .0) _ _ (c .before .before .before .before .before .before .before .before .before .set-chunks .ensures) (piece .result) (sym (c .before .before .before .before .before .before .has-ram .ensures) ∙ c .before .before .before .before .before .if1 .taken) (piece .ensures) (c .before .before .save .ensures), t .ensures .1)
 
 idle-requires : tie.Need-idle-requires
 idle-requires c κs = search needs
@@ -60,7 +61,8 @@ returns-2 c =
     let a = c .before .before .before .before .before .before .before .before .before .before .before .before .before .before .before .before .before .args in
     let w = world (a .state .now) (a .registered .now) (a .failed .now) in
     let t = c .before .before .before .before .before .before .before .before .before .before .before .register-stop in
-    (laws.go-ended w (a .total) (a .count) (a .from) (a .until) (c .before .before .before .before .before .before .before .before .before .before .before .before .before .before .before .before .before .pre .1) (t .result) (t .ensures .0) _ _ (c .before .before .before .before .before .before .before .before .before .set-chunks .ensures) (c .before .before .before .idle .result) (sym (c .before .before .before .before .before .before .has-ram .ensures) ∙ c .before .before .before .before .before .if1 .left) (c .before .before .before .idle .ensures) (c .before .before .save2 .ensures), t .ensures .1)
+    let idle = c .before .before .before .idle in
+    (laws.go-ended w (a .total) (a .count) (a .from) (a .until) (c .before .before .before .before .before .before .before .before .before .before .before .before .before .before .before .before .before .pre .1) (t .result) (t .ensures .0) _ _ (c .before .before .before .before .before .before .before .before .before .set-chunks .ensures) (idle .result) (sym (c .before .before .before .before .before .before .has-ram .ensures) ∙ c .before .before .before .before .before .if1 .left) (idle .ensures) (c .before .before .save2 .ensures), t .ensures .1)
 
 pub register-from-spec : {M : Type 1} → statement M
 register-from-spec =

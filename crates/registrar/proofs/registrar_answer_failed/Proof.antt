@@ -69,7 +69,9 @@ returns-2 c =
     let a = c .before .before .before .before .before .before .before .before .before .before .before .before .before .before .before .before .before .before .before .before .before .before .args in
     let w = world (a .state .now) (a .registered .now) (a .failed .now) in
     let n = c .before .before .before .before .before .before .before .before .before .before .before .before .before .answer-refusal in
-    laws.call-answered w (n .result) _ (n .ensures) _ _ (c .before .before .before .before .before .before .before .before .before .before .before .before .if1 .left) (laws.failed-made w (c .before .before .before .before .before .before .before .before .before .before .load .result) (c .before .before .before .before .idle .result) _ _ (c .to-reply .result) (c .before .before .before .before .before .before .before .before .before .before .load .ensures) (c .before .before .before .before .idle .ensures) (c .before .before .before .save .ensures) (c .before .before .before .before .before .before .before .before .set-chunks .ensures) (c .to-reply .ensures))
+    let load = c .before .before .before .before .before .before .before .before .before .before .load in
+    let idle = c .before .before .before .before .idle in
+    laws.call-answered w (n .result) _ (n .ensures) _ _ (c .before .before .before .before .before .before .before .before .before .before .before .before .if1 .left) (laws.failed-made w (load .result) (idle .result) _ _ (c .to-reply .result) (load .ensures) (idle .ensures) (c .before .before .before .save .ensures) (c .before .before .before .before .before .before .before .before .set-chunks .ensures) (c .to-reply .ensures))
 
 pub registrar-answer-failed-spec : {M : Type 1} → statement M
 registrar-answer-failed-spec =

@@ -22,10 +22,16 @@ same-length-3 c = search needs
 
 returns : tie.Need-returns
 unfolding buildOf
-returns c = laws.call-refused (world (c .before .before .before .before .before .before .before .before .before .before .args .state .now) (c .before .before .before .before .before .before .before .before .before .before .args .registered .now) (c .before .before .before .before .before .before .before .before .before .before .args .failed .now)) (c .before .before .build-refusal .result) _ (c .before .before .build-refusal .ensures) _ (c .simple .result) (c .before .if1 .taken) (c .simple .ensures)
+returns c =
+    let a = c .before .before .before .before .before .before .before .before .before .before .args in
+    let build-refusal = c .before .before .build-refusal in
+    laws.call-refused (world (a .state .now) (a .registered .now) (a .failed .now)) (build-refusal .result) _ (build-refusal .ensures) _ (c .simple .result) (c .before .if1 .taken) (c .simple .ensures)
 
 build-state-requires : tie.Need-build-state-requires
-build-state-requires c κs = laws.build-lengths (world (c .before .before .before .before .before .before .before .before .before .before .args .state .now) (c .before .before .before .before .before .before .before .before .before .before .args .registered .now) (c .before .before .before .before .before .before .before .before .before .before .args .failed .now)) (c .before .before .before .before .before .before .before .before .before .before .args .ram .now) (c .before .before .before .before .before .before .before .before .before .before .args .offset) (c .before .before .before .before .before .before .before .before .before .before .args .granularity) (c .before .before .build-refusal .result) (c .before .if1 .left) (c .before .before .build-refusal .ensures)
+build-state-requires c κs =
+    let a = c .before .before .before .before .before .before .before .before .before .before .args in
+    let build-refusal = c .before .before .build-refusal in
+    laws.build-lengths (world (a .state .now) (a .registered .now) (a .failed .now)) (a .ram .now) (a .offset) (a .granularity) (build-refusal .result) (c .before .if1 .left) (build-refusal .ensures)
 
 clear-requires : tie.Need-clear-requires
 clear-requires c κs = search needs

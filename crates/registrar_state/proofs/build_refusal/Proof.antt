@@ -76,7 +76,8 @@ returns-7 c =
     let a = c .before .before .before .before .before .before .before .before .before .before .before .before .before .before .before .before .args in
     let w = world (a .state .now) (a .registered .now) (a .failed .now) in
     let e = c .before .before .before .before .before .before .before .before .before .before .before .refusal in
-    passes _ _ _ _ (sym (laws.lengths-fit (a .registered .now) (a .failed .now) (c .before .before .chunk-count .result) (a .granularity) (entriesOf (a .ram .now)) _ (c .before .before .chunk-count .ensures) (c .before .lengths-fit .ensures)) ∙ c .if7 .taken) refl
+    let chunk-count = c .before .before .chunk-count in
+    passes _ _ _ _ (sym (laws.lengths-fit (a .registered .now) (a .failed .now) (chunk-count .result) (a .granularity) (entriesOf (a .ram .now)) _ (chunk-count .ensures) (c .before .lengths-fit .ensures)) ∙ c .if7 .taken) refl
     ∙ laws.build-last w (a .ram .now) (a .offset) (a .granularity) (e .result) (e .ensures) (c .before .before .before .before .before .before .before .before .before .before .if1 .left) (c .before .before .before .before .before .before .before .before .before .if2 .left) (omega (arith, c .before .before .before .before .before .before .before .before .last-end .ensures)) (c .before .before .before .before .before .before .if4 .left)
     (c .before .before .before .before .before .if5 .left) (sym (c .before .before .before .before .is-power-from .ensures) ∙ not-false _ (c .before .before .before .if6 .left))
 
@@ -85,7 +86,8 @@ returns-8 c =
     let a = c .before .before .before .before .before .before .before .before .before .before .before .before .before .before .before .before .args in
     let w = world (a .state .now) (a .registered .now) (a .failed .now) in
     let e = c .before .before .before .before .before .before .before .before .before .before .before .refusal in
-    refuses _ _ _ (sym (laws.lengths-fit (a .registered .now) (a .failed .now) (c .before .before .chunk-count .result) (a .granularity) (entriesOf (a .ram .now)) _ (c .before .before .chunk-count .ensures) (c .before .lengths-fit .ensures)) ∙ c .if7 .left)
+    let chunk-count = c .before .before .chunk-count in
+    refuses _ _ _ (sym (laws.lengths-fit (a .registered .now) (a .failed .now) (chunk-count .result) (a .granularity) (entriesOf (a .ram .now)) _ (chunk-count .ensures) (c .before .lengths-fit .ensures)) ∙ c .if7 .left)
     ∙ laws.build-last w (a .ram .now) (a .offset) (a .granularity) (e .result) (e .ensures) (c .before .before .before .before .before .before .before .before .before .before .if1 .left) (c .before .before .before .before .before .before .before .before .before .if2 .left) (omega (arith, c .before .before .before .before .before .before .before .before .last-end .ensures)) (c .before .before .before .before .before .before .if4 .left)
     (c .before .before .before .before .before .if5 .left) (sym (c .before .before .before .before .is-power-from .ensures) ∙ not-false _ (c .before .before .before .if6 .left))
 
