@@ -15,7 +15,6 @@ ghost use Rattle.registrar_steps.specs.declared.Plan.{Plan};
 ghost use Rattle.registrar_steps.specs.Steps.{askedOf, pieceOf, registerFrom, allFrom};
 ghost use Rattle.registrar_state.specs.World.{World, world, outcome, withRequest, offsetOf, granularityOf, entriesIn, seenIn, simple, flatOf, builtState, marked, carriedOut, buildOf, registerOf, allOf, failedOf, donePlan, afterTaken, doneOf};
 use abi::kind;
-use abi::refusal;
 use abi::registrar_place as place;
 use layout::MemoryRange;
 use registrar_state::Reply;
@@ -30,7 +29,7 @@ fn ask(state: &mut [u64], count: u64, from: u64, to: u64, until: u64, range: Mem
     registrar_state::save(state, registrar_steps::piece(count, from, to, until, range));
     let start = std::num::wrapping_add_u64(offset, range.start);
     let end = std::num::wrapping_add_u64(offset, range.end);
-    registrar_state::simple(0, 1, 0, start, end, 0)
+    registrar_state::asked(start, end)
 }
 
 // The state block of a registrar as built.
@@ -72,12 +71,12 @@ pub extern "C" fn registrar_build(
         failed,
     );
     if number != 0 {
-        return registrar_state::simple(number, 0, 0, 0, 0, 0);
+        return registrar_state::refused(number);
     }
     build_state(state, ram, offset, granularity);
     words::clear(registered);
     words::clear(failed);
-    registrar_state::simple(0, 0, 0, 0, 0, 0)
+    registrar_state::done(0)
 }
 
 // From chunk `from` on, of a request that ends before chunk `until`: marks and stores what follows. Gives the chunk where it
@@ -118,19 +117,12 @@ fn answer(state: &[u64], total: u64, count: u64, until: u64, chunk: u64) -> Repl
     if state[place::KIND] == kind::REGISTER {
         let start = std::num::wrapping_add_u64(state[place::OFFSET], state[place::START]);
         let end = std::num::wrapping_add_u64(state[place::OFFSET], state[place::END]);
-        return registrar_state::simple(0, 1, 0, start, end, 0);
+        return registrar_state::asked(start, end);
     }
     if chunk < numbers::least(until, total) {
-        return registrar_state::simple(
-            refusal::REGISTRATION_FAILED,
-            0,
-            count,
-            0,
-            0,
-            chunk * state[place::GRANULARITY],
-        );
+        return registrar_state::registration_failed(chunk * state[place::GRANULARITY], count);
     }
-    registrar_state::simple(0, 0, count, 0, 0, 0)
+    registrar_state::done(count)
 }
 
 // The chunks that a range touches: asks for a Register of each span of RAM in those not registered, one at a time. 4, 9 and 19
@@ -151,10 +143,10 @@ pub extern "C" fn registrar_register(
     let total = registrar_state::chunk_count(state);
     let number = registrar_state::register_refusal(state, registered, failed, total, first, end);
     if number != 0 {
-        return registrar_state::simple(number, 0, 0, 0, 0, 0);
+        return registrar_state::refused(number);
     }
     if registrar_state::is_known(state, registered, first, end) {
-        return registrar_state::simple(0, 0, 0, 0, 0, 0);
+        return registrar_state::done(0);
     }
     let chunk = register_from(state, registered, failed, total, 0, first, end);
     answer(state, total, 0, end, chunk)
@@ -204,7 +196,7 @@ pub extern "C" fn registrar_register_all_aligned(
     let total = registrar_state::chunk_count(state);
     let number = registrar_state::all_refusal(state, registered, failed, total, alignment, ignore);
     if number != 0 {
-        return registrar_state::simple(number, 0, 0, 0, 0, 0);
+        return registrar_state::refused(number);
     }
     register_all_from(state, registered, failed, 0, alignment, ignore, 0)
 }
@@ -271,7 +263,7 @@ pub extern "C" fn registrar_answer_done(
     let total = registrar_state::chunk_count(state);
     let number = registrar_state::answer_refusal(state, registered, failed, total);
     if number != 0 {
-        return registrar_state::simple(number, 0, 0, 0, 0, 0);
+        return registrar_state::refused(number);
     }
     if state[place::KIND] == kind::REGISTER {
         return register_done(state, registered, failed, total);
@@ -291,7 +283,7 @@ pub extern "C" fn registrar_answer_failed(
     let total = registrar_state::chunk_count(state);
     let number = registrar_state::answer_refusal(state, registered, failed, total);
     if number != 0 {
-        return registrar_state::simple(number, 0, 0, 0, 0, 0);
+        return registrar_state::refused(number);
     }
     let request = registrar_state::load(state);
     chunks::set_chunks(failed, request.from, request.to);

@@ -6,7 +6,8 @@ ghost use lib.Dec.{eqb, leb};
 ghost use lib.ListN.{length};
 ghost use Rattle.abi.specs.Refusals as refusal;
 ghost use Rattle.abi.specs.Lengths.{registrarLen, wordBits};
-ghost use Rattle.layout.specs.Layout.{spans};
+ghost use Rattle.layout.specs.Layout.{range, spans};
+ghost use Rattle.registrar_steps.specs.declared.Answer.the-variants.{Done, Register, RegistrationFailed, Refused};
 ghost use Rattle.chunks.specs.Chunks.{up, chunkCount, isPower};
 ghost use Rattle.registrar_state.specs.World.{world, simple, flatUnaligned, requestOf, withRequest, offsetOf, granularityOf, ramOf, entriesIn, seenIn, flatOf, buildRefusal, callRefusal, countIn, chunksFit, allRefusal, isKnown, answerRefusal, restOf};
 ghost use Rattle.registrar_steps.specs.Steps.{stopAt, allFrom};
@@ -47,7 +48,7 @@ pub struct Reply {
 }
 
 // A reply without the fields of 22.
-pub fn simple(number: u64, asked: u64, count: u64, start: u64, end: u64, address: u64) -> Reply
+fn simple(number: u64, asked: u64, count: u64, start: u64, end: u64, address: u64) -> Reply
     ensures { λ r. ⌜ r ≡ simple number asked count start end address ⌝ }
 {
     Reply {
@@ -66,6 +67,34 @@ pub fn simple(number: u64, asked: u64, count: u64, start: u64, end: u64, address
         node_end: 0,
         alignment: 0,
     }
+}
+
+// The reply of a call that asked `count` times and is done.
+pub fn done(count: u64) -> Reply
+    ensures { λ r. ⌜ r ≡ flatOf (Done count) ⌝ }
+{
+    simple(0, 0, count, 0, 0, 0)
+}
+
+// The reply that asks for a Register of `start` to before `end`, offset added.
+pub fn asked(start: u64, end: u64) -> Reply
+    ensures { λ r. ⌜ r ≡ flatOf (Register (range start end)) ⌝ }
+{
+    simple(0, 1, 0, start, end, 0)
+}
+
+// The reply of 23, for a call that asked `count` times.
+pub fn registration_failed(address: u64, count: u64) -> Reply
+    ensures { λ r. ⌜ r ≡ flatOf (RegistrationFailed address count) ⌝ }
+{
+    simple(refusal::REGISTRATION_FAILED, 0, count, 0, 0, address)
+}
+
+// The reply of a refused call.
+pub fn refused(number: u64) -> Reply
+    ensures { λ r. ⌜ r ≡ flatOf (Refused number) ⌝ }
+{
+    simple(number, 0, 0, 0, 0, 0)
 }
 
 // The reply of 22.
@@ -98,18 +127,11 @@ pub fn to_reply(answer: Answer) -> Reply
     ensures { λ r. ⌜ r ≡ flatOf answer ⌝ }
 {
     match answer {
-        Answer::Done(count) => simple(0, 0, count, 0, 0, 0),
-        Answer::Register(r) => simple(0, 1, 0, r.start, r.end, 0),
-        Answer::RegistrationFailed { address, count } => simple(
-            refusal::REGISTRATION_FAILED,
-            0,
-            count,
-            0,
-            0,
-            address,
-        ),
+        Answer::Done(count) => done(count),
+        Answer::Register(r) => asked(r.start, r.end),
+        Answer::RegistrationFailed { address, count } => registration_failed(address, count),
         Answer::UnalignedMemory(u, count) => unaligned_reply(u, count),
-        Answer::Refused(number) => simple(number, 0, 0, 0, 0, 0),
+        Answer::Refused(number) => refused(number),
     }
 }
 

@@ -11,8 +11,8 @@ chunk-count-requires c κs = search needs
 all-refusal-requires : tie.Need-all-refusal-requires
 all-refusal-requires c κs = search needs
 
-simple-requires : tie.Need-simple-requires
-simple-requires c κs = search needs
+refused-requires : tie.Need-refused-requires
+refused-requires c κs = search needs
 
 same-length : tie.Need-same-length
 same-length c = search needs
@@ -29,7 +29,7 @@ returns c =
     let a = c .before .before .before .before .before .before .before .before .before .before .before .args in
     let w = world (a .state .now) (a .registered .now) (a .failed .now) in
     let n = c .before .before .all-refusal in
-    laws.call-refused w (n .result) _ (n .ensures) _ (c .simple .result) (c .before .if1 .taken) (c .simple .ensures)
+    laws.call-refused w (n .result) _ (n .ensures) _ (c .refused .result) (c .before .if1 .taken) (c .refused .ensures)
 
 register-all-from-requires : tie.Need-register-all-from-requires
 register-all-from-requires c κs =
@@ -61,7 +61,7 @@ registrar-register-all-aligned-spec =
     (tie.spec
     chunk-count-requires
     all-refusal-requires
-    simple-requires
+    refused-requires
     same-length
     same-length-2
     same-length-3
