@@ -4,6 +4,10 @@ use Prim.Native.Nat.{ℕ}
 abbrev pub stateLen : ℕ
 stateLen = 128
 
+-- the registrar's state block
+abbrev pub registrarLen : ℕ
+registrarLen = 108
+
 -- the pages of the request under way, and where in it their places in the list begin
 abbrev pub pagesLen : ℕ
 pagesLen = 1024
@@ -38,3 +42,7 @@ pageSize = 4096
 -- the bytes of memory that a byte of a map is for: RAM entries start and end at its multiples
 abbrev pub ramAlignment : ℕ
 ramAlignment = 0x8000
+
+-- the bits of a word: a word of the registrar's bitmaps is for so many chunks
+abbrev pub wordBits : ℕ
+wordBits = 64

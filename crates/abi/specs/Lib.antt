@@ -2,6 +2,8 @@ pub mod Refusals
 pub mod Codes
 pub mod Operations
 pub mod Places
+pub mod RegistrarPlaces
+pub mod Kinds
 pub mod Phases
 pub mod Stages
 pub mod Limits

@@ -10,6 +10,7 @@ use native.Mathlib.Nat.{div-zero, mul-zero, div-add-mod', mul-le-mul-left, mul-l
 use lib.Dec.{eqb, ltb}
 use lib.ListN.{length, getD, drop, List·getD-eq-default}
 use borrow.Author.Tests.{eqb-true, eqb-false, eq-eqb, ne-eqb, lt-ltb, le-ltb, le-leb, lt-leb}
+use Rattle.abi.specs.Lengths.{pageSize, wordBits}
 use Rattle.laws.specs.Bools.{digit, and-left, and-right}
 use Rattle.laws.specs.Ranges.{between, between-same, between-false, between-join}
 use Rattle.bitmap.specs.Pages.{bit, bitAt, written, one, words}
@@ -35,8 +36,8 @@ quotient-fits n g q e = omega (arith, ap (λ (k : ℕ). k * g) e, div-mul-le-sel
 pub div-none : (n g : ℕ) → g ≡ 0 → 0 ≡ n / g
 div-none n g h = sym (ap (λ (k : ℕ). n / k) h ∙ div-zero n)
 
-pub div-shift : (n g k : ℕ) → k < 64 → g ≡ (1 * 2 ^ k) % 2 ^ 64 → n / 2 ^ k ≡ n / g
-div-shift n g k h e = ap (λ (m : ℕ). n / m) (sym (e ∙ mask 64 k h))
+pub div-shift : (n g k : ℕ) → k < wordBits → g ≡ (1 * 2 ^ k) % 2 ^ 64 → n / 2 ^ k ≡ n / g
+div-shift n g k h e = ap (λ (m : ℕ). n / m) (sym (e ∙ mask wordBits k h))
 
 module _ (n g : ℕ) where
   pub up-whole : (q : ℕ) → q ≡ n / g → q * g ≡ n → q ≡ up n g
@@ -63,35 +64,35 @@ module _ (n g : ℕ) where
       go true l = omega (arith, mul-le-mul-right {m = c} {n = n / g} g (omega arith), div-mul-le-self n g)
       go false l = omega (arith, mul-le-mul-right {m = c} {n = n / g} g (omega arith), div-mul-le-self n g)
 
-pub pages-up : (a b : ℕ) → a / 4096 + b / 4096 + up (a % 4096 + b % 4096) 4096 ≡ up (a + b) 4096
-pages-up a b = go (eqb ((a + b) % 4096) 0) refl
+pub pages-up : (a b : ℕ) → a / pageSize + b / pageSize + up (a % pageSize + b % pageSize) pageSize ≡ up (a + b) pageSize
+pages-up a b = go (eqb ((a + b) % pageSize) 0) refl
   where
-    go : (t : Bool) → eqb ((a + b) % 4096) 0 ≡ t → a / 4096 + b / 4096 + up (a % 4096 + b % 4096) 4096 ≡ up (a + b) 4096
+    go : (t : Bool) → eqb ((a + b) % pageSize) 0 ≡ t → a / pageSize + b / pageSize + up (a % pageSize + b % pageSize) pageSize ≡ up (a + b) pageSize
     go true e =
-        let x = eqb-true ((a + b) % 4096) 0 e in
-        rw (e, eq-eqb ((a % 4096 + b % 4096) % 4096) 0 (omega arith)) (omega arith)
+        let x = eqb-true ((a + b) % pageSize) 0 e in
+        rw (e, eq-eqb ((a % pageSize + b % pageSize) % pageSize) 0 (omega arith)) (omega arith)
     go false e =
-        let x = eqb-false ((a + b) % 4096) 0 e in
-        rw (e, ne-eqb ((a % 4096 + b % 4096) % 4096) 0 (λ q. x (omega arith))) (omega arith)
+        let x = eqb-false ((a + b) % pageSize) 0 e in
+        rw (e, ne-eqb ((a % pageSize + b % pageSize) % pageSize) 0 (λ q. x (omega arith))) (omega arith)
 
 -- ---- powers of two
 
 module _ (n k : ℕ) where
-  power-next : k < 64 → powerFrom n k (64 - k) ≡ (eqb n (2 ^ k) || powerFrom n (k + 1) (64 - (k + 1)))
+  power-next : k < wordBits → powerFrom n k (wordBits - k) ≡ (eqb n (2 ^ k) || powerFrom n (k + 1) (wordBits - (k + 1)))
   unfolding powerFrom
   power-next h =
-      let d : 64 - k ≡ suc (64 - (k + 1)) = omega arith in
-      ap (powerFrom n k) d ∙ ap (λ (j : ℕ). eqb n (2 ^ k) || powerFrom n j (64 - (k + 1))) (sym (add-one k))
+      let d : wordBits - k ≡ suc (wordBits - (k + 1)) = omega arith in
+      ap (powerFrom n k) d ∙ ap (λ (j : ℕ). eqb n (2 ^ k) || powerFrom n j (wordBits - (k + 1))) (sym (add-one k))
 
-  pub power-hit : k < 64 → n ≡ (1 * 2 ^ k) % 2 ^ 64 → powerFrom n k (64 - k) ≡ true
-  power-hit h e = power-next h ∙ rw (eq-eqb n (2 ^ k) (e ∙ mask 64 k h))
+  pub power-hit : k < wordBits → n ≡ (1 * 2 ^ k) % 2 ^ 64 → powerFrom n k (wordBits - k) ≡ true
+  power-hit h e = power-next h ∙ rw (eq-eqb n (2 ^ k) (e ∙ mask wordBits k h))
 
-  pub power-miss : k < 64 → (n ≡ (1 * 2 ^ k) % 2 ^ 64 → ⊥) → powerFrom n k (64 - k) ≡ powerFrom n (k + 1) (64 - (k + 1))
-  power-miss h e = power-next h ∙ rw (ne-eqb n (2 ^ k) (λ q. e (q ∙ sym (mask 64 k h))))
+  pub power-miss : k < wordBits → (n ≡ (1 * 2 ^ k) % 2 ^ 64 → ⊥) → powerFrom n k (wordBits - k) ≡ powerFrom n (k + 1) (wordBits - (k + 1))
+  power-miss h e = power-next h ∙ rw (ne-eqb n (2 ^ k) (λ q. e (q ∙ sym (mask wordBits k h))))
 
-  pub power-end : 64 ≤ k → powerFrom n k (64 - k) ≡ false
+  pub power-end : wordBits ≤ k → powerFrom n k (wordBits - k) ≡ false
   unfolding powerFrom
-  power-end h = let d : 64 - k ≡ 0 = omega arith in ap (powerFrom n k) d
+  power-end h = let d : wordBits - k ≡ 0 = omega arith in ap (powerFrom n k) d
 
 -- ---- where a chunk ends
 
@@ -150,10 +151,10 @@ pub span-less : (es : List MemoryRangeWithNode) (i n : ℕ) (s : Span) → i < n
 span-less es i n s h e q = omega (arith, span-after es i (omega arith) .0, ap (λ (t : Span). t .next) q)
 
 -- so many pages are never too many
-pub up-small : (n : ℕ) → up n 4096 ≤ n / 4096 + 1
-up-small n = go (eqb (n % 4096) 0)
+pub up-small : (n : ℕ) → up n pageSize ≤ n / pageSize + 1
+up-small n = go (eqb (n % pageSize) 0)
   where
-    go : (t : Bool) → cond t (n / 4096) (n / 4096 + 1) ≤ n / 4096 + 1
+    go : (t : Bool) → cond t (n / pageSize) (n / pageSize + 1) ≤ n / pageSize + 1
     go true = omega arith
     go false = omega arith
 
@@ -210,35 +211,35 @@ module _ (es : List MemoryRangeWithNode) (i : ℕ) (r : MemoryRange) where
 -- ---- chunks that are alike, a whole word or one
 
 module _ (registered failed : List ℕ) (s : Bool) (c e : ℕ) where
-  word-ahead : c % 64 ≡ 0 → 64 ≤ e - c → getD failed (c / 64) 0 ≡ 0 → getD registered (c / 64) 0 ≡ digit s * (2 ^ 64 - 1)
-      → Ahead (alike registered failed s) c e 64
+  word-ahead : c % wordBits ≡ 0 → wordBits ≤ e - c → getD failed (c / wordBits) 0 ≡ 0 → getD registered (c / wordBits) 0 ≡ digit s * (2 ^ 64 - 1)
+      → Ahead (alike registered failed s) c e wordBits
   word-ahead m l f r = record { within = omega arith; holds = one-of; stops = λ z. absurd (omega arith) }
     where
-      both-bits : (k : ℕ) → k < 64 → (not (bit (getD failed (c / 64) 0) k) && cond s (bit (getD registered (c / 64) 0) k) (not (bit (getD registered (c / 64) 0) k))) ≡ true
+      both-bits : (k : ℕ) → k < wordBits → (not (bit (getD failed (c / wordBits) 0) k) && cond s (bit (getD registered (c / wordBits) 0) k) (not (bit (getD registered (c / wordBits) 0) k))) ≡ true
       both-bits k d =
-          rw (f, r, bit-of-zero k, full-bit 64 s k d) (pick s)
+          rw (f, r, bit-of-zero k, full-bit wordBits s k d) (pick s)
         where
           pick : (s : Bool) → cond s s (not s) ≡ true
           pick true = refl
           pick false = refl
 
-      one-of : (q : ℕ) → c ≤ q → q < c + 64 → alike registered failed s q ≡ true
+      one-of : (q : ℕ) → c ≤ q → q < c + wordBits → alike registered failed s q ≡ true
       one-of q a b =
-          let w : q / 64 ≡ c / 64 = omega arith in
-          rw w (both-bits (q % 64) (omega arith))
+          let w : q / wordBits ≡ c / wordBits = omega arith in
+          rw w (both-bits (q % wordBits) (omega arith))
 
-  pub alike-word : c % 64 ≡ 0 → 64 ≤ e - c → (eqb (getD failed (c / 64) 0) 0 && eqb (getD registered (c / 64) 0) (digit s * (2 ^ 64 - 1))) ≡ true
-      → Ahead (alike registered failed s) c e 64
+  pub alike-word : c % wordBits ≡ 0 → wordBits ≤ e - c → (eqb (getD failed (c / wordBits) 0) 0 && eqb (getD registered (c / wordBits) 0) (digit s * (2 ^ 64 - 1))) ≡ true
+      → Ahead (alike registered failed s) c e wordBits
   alike-word m l t =
-      let f : Bool = eqb (getD failed (c / 64) 0) 0 in
-      let r : Bool = eqb (getD registered (c / 64) 0) (digit s * (2 ^ 64 - 1)) in
+      let f : Bool = eqb (getD failed (c / wordBits) 0) 0 in
+      let r : Bool = eqb (getD registered (c / wordBits) 0) (digit s * (2 ^ 64 - 1)) in
       word-ahead m l (eqb-true _ _ (and-left f r t)) (eqb-true _ _ (and-right f r t))
 
-past-clear : (m : List ℕ) (c : ℕ) → length m ≤ c / 64 → bitAt 64 m c ≡ false
-past-clear m c h = rw (List·getD-eq-default m 0 h) (bit-of-zero (c % 64))
+past-clear : (m : List ℕ) (c : ℕ) → length m ≤ c / wordBits → bitAt wordBits m c ≡ false
+past-clear m c h = rw (List·getD-eq-default m 0 h) (bit-of-zero (c % wordBits))
 
 -- past the end of both bitmaps
-pub run-past : (registered failed : List ℕ) (s : Bool) (c e n stop : ℕ) → n ≡ max (length registered) (length failed) → stop ≡ min e (n * 64) → stop ≤ c → firstNot (alike registered failed s) c e ≡ cond s c (max c e)
+pub run-past : (registered failed : List ℕ) (s : Bool) (c e n stop : ℕ) → n ≡ max (length registered) (length failed) → stop ≡ min e (n * wordBits) → stop ≤ c → firstNot (alike registered failed s) c e ≡ cond s c (max c e)
 run-past registered failed s c e n stop f g h = elim (decLt c e) [ yes d ↦ inside s d | no d ↦ first-end (alike registered failed s) c e (omega arith) ∙ after s (omega arith) ]
   where
     inside : (s : Bool) → c < e → firstNot (alike registered failed s) c e ≡ cond s c (max c e)
@@ -249,13 +250,13 @@ run-past registered failed s c e n stop f g h = elim (decLt c e) [ yes d ↦ ins
     after true d = refl
     after false d = omega arith
 
-pub set-word : (m : List ℕ) (c e : ℕ) → c % 64 ≡ 0 → 64 ≤ e - c → getD m (c / 64) 0 ≡ 2 ^ 64 - 1 → Ahead (bitAt 64 m) c e 64
+pub set-word : (m : List ℕ) (c e : ℕ) → c % wordBits ≡ 0 → wordBits ≤ e - c → getD m (c / wordBits) 0 ≡ 2 ^ 64 - 1 → Ahead (bitAt wordBits m) c e wordBits
 set-word m c e h l r = record { within = omega arith; holds = one-of; stops = λ z. absurd (omega arith) }
   where
-    one-of : (q : ℕ) → c ≤ q → q < c + 64 → bitAt 64 m q ≡ true
+    one-of : (q : ℕ) → c ≤ q → q < c + wordBits → bitAt wordBits m q ≡ true
     one-of q a b =
-        let w : q / 64 ≡ c / 64 = omega arith in
-        rw (w, r) (ones-bit 64 (q % 64) (omega arith))
+        let w : q / wordBits ≡ c / wordBits = omega arith in
+        rw (w, r) (ones-bit wordBits (q % wordBits) (omega arith))
 
 pub not-empty : (r : MemoryRange) → ltb (r .start) (r .end) ≡ not (empty r)
 not-empty r = elim (decLt (r .start) (r .end)) [
@@ -266,23 +267,23 @@ not-empty r = elim (decLt (r .start) (r .end)) [
 -- ---- a run of chunks set, a whole word or one after the other
 
 module _ (m : List ℕ) where
-  pub word-past : (i : ℕ) → length m ≤ i → m ≡ written 64 (words 64 i (i + 1)) true m
-  word-past i h = none 64 (words 64 i (i + 1)) true m (λ j k l d. between-false i (i + 1) ((j * 64 + k) / 64) (λ x y. omega arith))
+  pub word-past : (i : ℕ) → length m ≤ i → m ≡ written wordBits (words wordBits i (i + 1)) true m
+  word-past i h = none wordBits (words wordBits i (i + 1)) true m (λ j k l d. between-false i (i + 1) ((j * wordBits + k) / wordBits) (λ x y. omega arith))
 
-  pub word-set : (c : ℕ) → c % 64 ≡ 0 → written 64 (words 64 (c / 64) (c / 64 + 1)) true m ≡ written 64 (between c (c + 64)) true m
+  pub word-set : (c : ℕ) → c % wordBits ≡ 0 → written wordBits (words wordBits (c / wordBits) (c / wordBits + 1)) true m ≡ written wordBits (between c (c + wordBits)) true m
   word-set c h =
-      same-chunks 64 (words 64 (c / 64) (c / 64 + 1)) (between c (c + 64)) true m
-      (λ j k l d. between-same (c / 64) (c / 64 + 1) ((j * 64 + k) / 64) c (c + 64) (j * 64 + k) (λ x y. (omega arith, omega arith)) (λ x y. (omega arith, omega arith)))
+      same-chunks wordBits (words wordBits (c / wordBits) (c / wordBits + 1)) (between c (c + wordBits)) true m
+      (λ j k l d. between-same (c / wordBits) (c / wordBits + 1) ((j * wordBits + k) / wordBits) c (c + wordBits) (j * wordBits + k) (λ x y. (omega arith, omega arith)) (λ x y. (omega arith, omega arith)))
 
-  pub one-set : (c : ℕ) → written 64 (one c) true m ≡ written 64 (between c (c + 1)) true m
-  one-set c = same-chunks 64 (one c) (between c (c + 1)) true m (λ j k l d. one-between c (j * 64 + k))
+  pub one-set : (c : ℕ) → written wordBits (one c) true m ≡ written wordBits (between c (c + 1)) true m
+  one-set c = same-chunks wordBits (one c) (between c (c + 1)) true m (λ j k l d. one-between c (j * wordBits + k))
 
-  pub set-more : (a b c : ℕ) (l l′ : List ℕ) → a ≤ b → b ≤ c → l ≡ written 64 (between a b) true m → l′ ≡ written 64 (between b c) true l → l′ ≡ written 64 (between a c) true m
+  pub set-more : (a b c : ℕ) (l l′ : List ℕ) → a ≤ b → b ≤ c → l ≡ written wordBits (between a b) true m → l′ ≡ written wordBits (between b c) true l → l′ ≡ written wordBits (between a c) true m
   set-more a b c l l′ h k e f =
-      f ∙ ap (written 64 (between b c) true) e ∙ both 64 (between b c) (between a b) (between a c) true m (λ q. between-join a b c q h k)
+      f ∙ ap (written wordBits (between b c) true) e ∙ both wordBits (between b c) (between a b) (between a c) true m (λ q. between-join a b c q h k)
 
 -- a map has no chunk past its last word
-pub set-stop : (m : List ℕ) (from to stop : ℕ) → stop ≡ min to (length m * 64) → written 64 (between from stop) true m ≡ written 64 (between from to) true m
+pub set-stop : (m : List ℕ) (from to stop : ℕ) → stop ≡ min to (length m * wordBits) → written wordBits (between from stop) true m ≡ written wordBits (between from to) true m
 set-stop m from to stop e =
-    same-chunks 64 (between from stop) (between from to) true m
-    (λ j k l d. between-same from stop (j * 64 + k) from to (j * 64 + k) (λ x y. (x, omega arith)) (λ x y. (x, omega arith)))
+    same-chunks wordBits (between from stop) (between from to) true m
+    (λ j k l d. between-same from stop (j * wordBits + k) from to (j * wordBits + k) (λ x y. (x, omega arith)) (λ x y. (x, omega arith)))

@@ -9,6 +9,9 @@ use lib.Dec.{eqb}
 use lib.ListN.{length, getD, drop, take, replicate, length-append, length-drop, length-replicate, getD-replicate, List·getD-eq-default}
 use lib.Seq.{drop-drop, take-at, getD-drop}
 use borrow.Author.Tests.{eqb-true, eq-eqb, le-leb}
+use Rattle.abi.specs.Kinds as kind
+use Rattle.abi.specs.RegistrarPlaces as place
+use Rattle.abi.specs.Lengths.{ramLen, registrarLen, wordBits}
 use Rattle.laws.specs.Bools.{and-true, lt-or-le}
 use Rattle.laws.specs.Refusal.{passed}
 use Rattle.layout.specs.declared.MemoryRangeWithNode.{MemoryRangeWithNode}
@@ -38,7 +41,7 @@ pub record Sound (w : World) : Type 0 where
   pub request : Fits (lastEnd (entriesIn (w .state))) (requestOf (w .state))
   pub pages : Pages (granularityOf (w .state))
   pub room : offsetOf (w .state) + lastEnd (entriesIn (w .state)) < 2 ^ 64
-  pub block : length (w .state) ≡ 108
+  pub block : length (w .state) ≡ registrarLen
   pub lengths : lengthsFit (granularityOf (w .state)) (entriesIn (w .state)) (w .registered) (w .failed) ≡ true
 
 -- ---- the settings stand in the words that no request uses
@@ -46,11 +49,11 @@ pub record Sound (w : World) : Type 0 where
 ram-in : List ℕ → List ℕ
 ram-in tail = take (3 * getD tail 2 0) (drop 3 tail)
 
-ram-tail : (s : List ℕ) → ramOf s ≡ ram-in (drop 9 s)
+ram-tail : (s : List ℕ) → ramOf s ≡ ram-in (drop place.afterRequest s)
 unfolding ram-in
-ram-tail s = ap₂ (λ (n : ℕ) (l : List ℕ). take (3 * n) l) (sym (getD-drop 9 s 2 0)) (sym (drop-drop 3 9 s))
+ram-tail s = ap₂ (λ (n : ℕ) (l : List ℕ). take (3 * n) l) (sym (getD-drop place.afterRequest s 2 0)) (sym (drop-drop 3 place.afterRequest s))
 
-module _ (s t : List ℕ) (e : drop 9 t ≡ drop 9 s) where
+module _ (s t : List ℕ) (e : drop place.afterRequest t ≡ drop place.afterRequest s) where
   pub kept-ram : ramOf t ≡ ramOf s
   kept-ram = ram-tail t ∙ ap ram-in e ∙ sym (ram-tail s)
 
@@ -58,10 +61,10 @@ module _ (s t : List ℕ) (e : drop 9 t ≡ drop 9 s) where
   kept-entries = ap entriesOf kept-ram
 
   pub kept-offset : offsetOf t ≡ offsetOf s
-  kept-offset = sym (getD-drop 9 t 0 0) ∙ ap (λ (l : List ℕ). getD l 0 0) e ∙ getD-drop 9 s 0 0
+  kept-offset = sym (getD-drop place.afterRequest t 0 0) ∙ ap (λ (l : List ℕ). getD l 0 0) e ∙ getD-drop place.afterRequest s 0 0
 
   pub kept-granularity : granularityOf t ≡ granularityOf s
-  kept-granularity = sym (getD-drop 9 t 1 0) ∙ ap (λ (l : List ℕ). getD l 1 0) e ∙ getD-drop 9 s 1 0
+  kept-granularity = sym (getD-drop place.afterRequest t 1 0) ∙ ap (λ (l : List ℕ). getD l 1 0) e ∙ getD-drop place.afterRequest s 1 0
 
 -- bitmaps of the same lengths fit alike
 lengths-same : (g h : ℕ) (es fs : List MemoryRangeWithNode) (r m f n : List ℕ) → g ≡ h → es ≡ fs → length r ≡ length m → length f ≡ length n → lengthsFit g es r f ≡ lengthsFit h fs m n
@@ -74,11 +77,11 @@ lengths-same g h es fs r m f n eg ee er ef =
 pub ram-built : (ram : List ℕ) (o g : ℕ) → Fit ram → ramOf (builtState ram o g) ≡ ram
 ram-built ram o g k =
     let n : length ram ≡ 3 * length (entriesOf ram) = omega (arith, k .divided, entries-count ram) in
-    take-at ram (replicate (96 - length ram) 0) (3 * length (entriesOf ram)) n
+    take-at ram (replicate (ramLen - length ram) 0) (3 * length (entriesOf ram)) n
 
-built-length : (ram : List ℕ) (o g : ℕ) → Fit ram → length (builtState ram o g) ≡ 108
+built-length : (ram : List ℕ) (o g : ℕ) → Fit ram → length (builtState ram o g) ≡ registrarLen
 built-length ram o g k =
-    omega (arith, length-append ram (replicate (96 - length ram) 0), length-replicate {A = ℕ} (96 - length ram) 0, k .divided, k .few, entries-count ram)
+    omega (arith, length-append ram (replicate (ramLen - length ram) 0), length-replicate {A = ℕ} (ramLen - length ram) 0, k .divided, k .few, entries-count ram)
 
 zeros-words : (n : ℕ) → Words (replicate n 0)
 zeros-words n j = ⊎-elim inside outside (lt-or-le j n)
@@ -140,7 +143,7 @@ sound-with w q r f h k words er ef =
       request = fits-at _ _ q (sym (ap lastEnd es)) k;
       pages = record { pages = h .pages .pages; some = h .pages .some; whole = eg ∙ h .pages .whole };
       room = omega (arith, h .room, kept-offset (w .state) t refl, ap lastEnd es);
-      block = omega (arith, h .block, length-drop 9 (w .state));
+      block = omega (arith, h .block, length-drop place.afterRequest (w .state));
       lengths = lengths-same (granularityOf t) (granularityOf (w .state)) (entriesIn t) (entriesIn (w .state)) r (w .registered) f (w .failed) eg es er ef ∙ h .lengths;
     }
 
@@ -208,11 +211,11 @@ module _ (w : World) (ram : List ℕ) (o g : ℕ) (z : buildRefusal w ram o g �
   unfolding registerOf registerRefusal
   registered-always-kept address len z h =
       let g : ℕ = granularityOf (v .state) in
-      let a = passed (eqb (length (v .state)) 108) 3 _ z in
-      let b = passed (eqb (requestOf (v .state) .kind) 0) 18 _ (a .1) in
+      let a = passed (eqb (length (v .state)) registrarLen) 3 _ z in
+      let b = passed (eqb (requestOf (v .state) .kind) kind.none) 18 _ (a .1) in
       let i : isIdle (requestOf (v .state)) ≡ true = ap isIdle (sound-from .request .rests (eqb-true _ _ (b .0))) in
-      let f : firstNot (bitAt 64 (v .registered)) (firstChunk g address) (endChunk g address len) ≡ max (firstChunk g address) (endChunk g address len) =
-      first-all (bitAt 64 (v .registered)) (firstChunk g address) (endChunk g address len) h in
+      let f : firstNot (bitAt wordBits (v .registered)) (firstChunk g address) (endChunk g address len) ≡ max (firstChunk g address) (endChunk g address len) =
+      first-all (bitAt wordBits (v .registered)) (firstChunk g address) (endChunk g address len) h in
       let k : isKnown (v .state) (v .registered) (firstChunk g address) (endChunk g address len) ≡ true =
       and-true (isIdle (requestOf (v .state))) _ i (le-leb (endChunk g address len) _ (omega (arith, f))) in
       rw (eq-eqb (registerRefusal v address len) 0 z) (sym (known-kept v address len (eqb-true _ _ (a .0)) k))

@@ -7,6 +7,8 @@ use Prim.Native.Nat.{ℕ, _+_, _*_, _%_, _^_, min}
 use lib.Dec.{eqb, ltb}
 use lib.ListN.{length}
 use borrow.Author.Tests.{eqb-true, eqb-false}
+use Rattle.abi.specs.Kinds as kind
+use Rattle.abi.specs.Lengths.{wordBits}
 use Rattle.bitmap.specs.Pages.{bitAt}
 use Rattle.layout.specs.declared.MemoryRange.{MemoryRange}
 use Rattle.layout.specs.Layout.{spans}
@@ -26,7 +28,7 @@ use Rattle.registrar_claims.specs.Claims.{Counts}
 -- a plan of a call that has asked n times: asking once more, or reporting n; and it asks where its request is of a kind
 abbrev pub PlanCounts : ℕ → Plan → Type 0
 PlanCounts n p =
-    (flatOf (p .answer) .asked ≡ 1 → p .request .count ≡ more n) × (flatOf (p .answer) .asked ≡ 0 → flatOf (p .answer) .count ≡ n) × (eqb (flatOf (p .answer) .asked) 1 ≡ not (eqb (p .request .kind) 0))
+    (flatOf (p .answer) .asked ≡ 1 → p .request .count ≡ more n) × (flatOf (p .answer) .asked ≡ 0 → flatOf (p .answer) .count ≡ n) × (eqb (flatOf (p .answer) .asked) 1 ≡ not (eqb (p .request .kind) kind.none))
 
 no-one : {X : Type 0} → _≡_ {A = ℕ} 0 1 → X
 no-one e = absurd (omega arith)
@@ -39,7 +41,7 @@ unfolding registerFrom
 register-counts s o n c last =
     let e : ℕ = min last (chunkCount (s .granularity) (s .entries)) in
     let t : ℕ = firstNot (passes s) c e in
-    go t (ltb t e) (bitAt 64 (s .failed) t)
+    go t (ltb t e) (bitAt wordBits (s .failed) t)
   where
     go : (t : ℕ) (x y : Bool)
         → PlanCounts n (cond x (cond y (ends c t (RegistrationFailed (t * s .granularity) n)) (asks o c t (pieceOf n t (t + 1) last (ramFrom (s .granularity) (s .entries) t (t * s .granularity))))) (ends c t (Done n)))
@@ -61,7 +63,7 @@ all-counts s o n al ignore c (r ∷ rs) = go (lookAt (s .granularity) (s .regist
 pub done-counts : (w : World) → PlanCounts (requestOf (w .state) .count) (donePlan w)
 done-counts w =
     let q : Request = requestOf (w .state) in
-    go (hasRest (w .state)) (eqb (q .kind) 1) _ _ (register-counts (seenIn w) (offsetOf (w .state)) (q .count) (q .to) (q .until))
+    go (hasRest (w .state)) (eqb (q .kind) kind.register) _ _ (register-counts (seenIn w) (offsetOf (w .state)) (q .count) (q .to) (q .until))
     (all-counts (seenIn w) (offsetOf (w .state)) (q .count) (q .alignment) (q .ignore) (q .to) (spans (entriesIn (w .state))))
   where
     go : (x y : Bool) (a b : Plan) → PlanCounts (requestOf (w .state) .count) a → PlanCounts (requestOf (w .state) .count) b

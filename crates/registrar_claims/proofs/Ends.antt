@@ -9,8 +9,11 @@ use native.Mathlib.Nat.{mul-le-mul-right, suc-mul}
 use lib.Dec.{eqb, leb, ltb}
 use lib.ListN.{length, replicate}
 use borrow.Author.Tests.{eqb-false, eq-eqb, ne-eqb, ltb-true, leb-false, not-true, not-false}
+use Rattle.abi.specs.Kinds as kind
+use Rattle.abi.specs.Refusals as refusal
+use Rattle.abi.specs.Lengths.{registrarLen, wordBits}
 use Rattle.laws.specs.Bools.{digit, and-right, both-true, false≢true}
-use Rattle.laws.specs.Refusal.{unless, passed}
+use Rattle.laws.specs.Refusal.{unless, passed, when-passed}
 use Rattle.bitmap.specs.Pages.{bitAt}
 use Rattle.layout.specs.declared.MemoryRange.{MemoryRange}
 use Rattle.layout.specs.Layout.{spans}
@@ -45,14 +48,14 @@ module _ (P : ℕ → Bool) where
 
 -- a plan that asks goes past chunk c
 abbrev Past : ℕ → Request → Type 0
-Past c q = (q .kind ≡ 0) ⊎ (c < q .to)
+Past c q = (q .kind ≡ kind.none) ⊎ (c < q .to)
 
 register-past : (s : Seen) (o n c last : ℕ) → Past c (registerFrom s o n c last .request)
 unfolding registerFrom
 register-past s o n c last =
     let e : ℕ = min last (chunkCount (s .granularity) (s .entries)) in
     let t : ℕ = firstNot (passes s) c e in
-    go t (first-from (passes s) c e) (ltb t e) (bitAt 64 (s .failed) t)
+    go t (first-from (passes s) c e) (ltb t e) (bitAt wordBits (s .failed) t)
   where
     go : (t : ℕ) → c ≤ t → (x y : Bool)
         → Past c (cond x (cond y (ends c t (RegistrationFailed (t * s .granularity) n)) (asks o c t (pieceOf n t (t + 1) last (ramFrom (s .granularity) (s .entries) t (t * s .granularity))))) (ends c t (Done n)) .request)
@@ -70,11 +73,11 @@ module _ (registered failed : List ℕ) where
       go false true e h = false≢true (sym h)
       go false false e h = refl
 
-  stretch-past : (c e : ℕ) → let a : ℕ = firstNot (alike registered failed true) c e in a < e → bitAt 64 failed a ≡ false → c < firstNot (alike registered failed false) a e
+  stretch-past : (c e : ℕ) → let a : ℕ = firstNot (alike registered failed true) c e in a < e → bitAt wordBits failed a ≡ false → c < firstNot (alike registered failed false) a e
   stretch-past c e h f =
       let a : ℕ = firstNot (alike registered failed true) c e in
       let n : alike registered failed true a ≡ false = first-not (alike registered failed true) c e h in
-      let y : alike registered failed false a ≡ true = not-alike (bitAt 64 failed a) (bitAt 64 registered a) n f in
+      let y : alike registered failed false a ≡ true = not-alike (bitAt wordBits failed a) (bitAt wordBits registered a) n f in
       let q = first-step (alike registered failed false) a e h y in
       omega (arith, q, first-from (alike registered failed false) (a + 1) e, first-from (alike registered failed true) c e)
 
@@ -93,9 +96,9 @@ module _ (g : ℕ) (registered failed : List ℕ) (c d e : ℕ) (l : d ≤ c) wh
   b = firstNot (alike registered failed false) a e
 
   in-past : StretchPast d (stretchIn g registered failed c e)
-  in-past = go (ltb a e) refl (bitAt 64 failed a) refl (ltb b e && bitAt 64 failed b)
+  in-past = go (ltb a e) refl (bitAt wordBits failed a) refl (ltb b e && bitAt wordBits failed b)
     where
-      go : (x : Bool) → ltb a e ≡ x → (y : Bool) → bitAt 64 failed a ≡ y → (z : Bool)
+      go : (x : Bool) → ltb a e ≡ x → (y : Bool) → bitAt wordBits failed a ≡ y → (z : Bool)
           → StretchPast d (cond x (cond y (FailedBefore (a * g)) (cond z (FailedBefore (b * g)) (Stretch a b (a * g) (b * g)))) Nothing)
       go false hx y hy z = tt
       go true hx true hy z = tt
@@ -144,29 +147,29 @@ pieces-past x y (r ∷ rs) h = go (empty (part x y r)) refl h (pieces-past x y r
 lex : (k a a′ b b′ : ℕ) → a′ < a → b′ < k → suc (a′ * k + b′) < suc (a * k + b)
 lex k a a′ b b′ h l = omega (arith, mul-le-mul-right {m = suc a′} {n = a} k h, suc-mul a′ k)
 
-less-past : (q r : Request) → q .to < 2 ^ 64 → (q .kind ≡ 0 → ⊥) → Past (q .to) r → leftOf r < leftOf q
+less-past : (q r : Request) → q .to < 2 ^ 64 → (q .kind ≡ kind.none → ⊥) → Past (q .to) r → leftOf r < leftOf q
 less-past q r b k h =
-    rw (ne-eqb (q .kind) 0 k)
-    (⊎-elim (λ z. rw (eq-eqb (r .kind) 0 z) (omega arith)) (λ l. bounded (eqb (r .kind) 0) l) h)
+    rw (ne-eqb (q .kind) kind.none k)
+    (⊎-elim (λ z. rw (eq-eqb (r .kind) kind.none z) (omega arith)) (λ l. bounded (eqb (r .kind) kind.none) l) h)
   where
     bounded : (t : Bool) → q .to < r .to → cond t 0 (suc ((2 ^ 64 - r .to) * 2 ^ 65 + (2 ^ 64 - r .end))) < suc ((2 ^ 64 - q .to) * 2 ^ 65 + (2 ^ 64 - q .end))
     bounded true l = omega arith
     bounded false l = lex (2 ^ 65) (2 ^ 64 - q .to) (2 ^ 64 - r .to) (2 ^ 64 - q .end) (2 ^ 64 - r .end) (omega arith) (omega arith)
 
 -- something is asked where an answer is taken
-asked-kind : (w : World) → answerRefusal w ≡ 0 → requestOf (w .state) .kind ≡ 0 → ⊥
+asked-kind : (w : World) → answerRefusal w ≡ 0 → requestOf (w .state) .kind ≡ kind.none → ⊥
 unfolding answerRefusal
 asked-kind w h =
-    let a = passed (eqb (length (w .state)) 108) 3 _ h in
+    let a = passed (eqb (length (w .state)) registrarLen) 3 _ h in
     let b = passed (lengthsFit (granularityOf (w .state)) (entriesIn (w .state)) (w .registered) (w .failed)) 3 _ (a .1) in
-    let d = passed (not (eqb (requestOf (w .state) .kind) 0)) 20 _ (b .1) in
-    eqb-false _ _ (not-true _ (d .0))
+    let d = when-passed (eqb (requestOf (w .state) .kind) kind.none) 20 _ (b .1) in
+    eqb-false _ _ (d .0)
 
-plan-lowers : (w : World) → (requestOf (w .state) .kind ≡ 0 → ⊥) → requestOf (w .state) .to < 2 ^ 64 → requestOf (w .state) .end < 2 ^ 64
+plan-lowers : (w : World) → (requestOf (w .state) .kind ≡ kind.none → ⊥) → requestOf (w .state) .to < 2 ^ 64 → requestOf (w .state) .end < 2 ^ 64
     → leftOf (donePlan w .request) < left w
 plan-lowers w k bt be =
     let q : Request = requestOf (w .state) in
-    go (hasRest (w .state)) refl (eqb (q .kind) 1)
+    go (hasRest (w .state)) refl (eqb (q .kind) kind.register)
     (less-past q (registerFrom (seenIn w) (offsetOf (w .state)) (q .count) (q .to) (q .until) .request) bt k (register-past (seenIn w) (offsetOf (w .state)) (q .count) (q .to) (q .until)))
     (less-past q (allFrom (seenIn w) (offsetOf (w .state)) (q .count) (q .alignment) (q .ignore) (q .to) (spans (entriesIn (w .state))) .request) bt k
     (all-past (seenIn w) (offsetOf (w .state)) (q .count) (q .alignment) (q .ignore) (q .to) (spans (entriesIn (w .state)))))
@@ -178,15 +181,15 @@ plan-lowers w k bt be =
         (cond y (registerFrom (seenIn w) (offsetOf (w .state)) (requestOf (w .state) .count) (requestOf (w .state) .to) (requestOf (w .state) .until))
         (allFrom (seenIn w) (offsetOf (w .state)) (requestOf (w .state) .count) (requestOf (w .state) .alignment) (requestOf (w .state) .ignore) (requestOf (w .state) .to) (spans (entriesIn (w .state))))) .request) < left w
     go true e y h g =
-        let p = pieces-past (requestOf (w .state) .end) ((requestOf (w .state) .from + 1) * granularityOf (w .state)) (spans (entriesIn (w .state))) (not-true _ (and-right (eqb (requestOf (w .state) .kind) 1) _ e)) in
-        rw (ne-eqb (requestOf (w .state) .kind) 0 k) (omega arith)
+        let p = pieces-past (requestOf (w .state) .end) ((requestOf (w .state) .from + 1) * granularityOf (w .state)) (spans (entriesIn (w .state))) (not-true _ (and-right (eqb (requestOf (w .state) .kind) kind.register) _ e)) in
+        rw (ne-eqb (requestOf (w .state) .kind) kind.none k) (omega arith)
     go false e true h g = h
     go false e false h g = g
 
 -- THE CLAIM: an answer that is not refused lowers the number
 pub failed-lowers : (w : World) → answerRefusal w ≡ 0 → left (failedOf w .world) < left w
 unfolding failedOf
-failed-lowers w h = rw (eq-eqb (answerRefusal w) 0 h) (rw (ne-eqb (requestOf (w .state) .kind) 0 (asked-kind w h)) (omega arith))
+failed-lowers w h = rw (eq-eqb (answerRefusal w) 0 h) (rw (ne-eqb (requestOf (w .state) .kind) kind.none (asked-kind w h)) (omega arith))
 
 pub done-lowers : (w : World) → answerRefusal w ≡ 0 → requestOf (w .state) .to < 2 ^ 64 → requestOf (w .state) .end < 2 ^ 64 → left (doneOf w .world) < left w
 unfolding doneOf
@@ -229,9 +232,9 @@ answer-answered w AnswerFailed s i = go (underWay w) refl
 
 -- meanwhile register and register_all_aligned are refused
 busy-refused : (w : World) (rest : ℕ) (o : Outcome) → underWay w ≡ true → isTaken (decided w (callRefusal w rest) o) ≡ false
-busy-refused w rest o k = rw (not-true (eqb (requestOf (w .state) .kind) 0) k) (go (eqb (length (w .state)) 108))
+busy-refused w rest o k = rw (not-true (eqb (requestOf (w .state) .kind) kind.none) k) (go (eqb (length (w .state)) registrarLen))
   where
-    go : (t : Bool) → isTaken (decided w (unless t 4 19) o) ≡ false
+    go : (t : Bool) → isTaken (decided w (unless t refusal.wrongLength refusal.busy) o) ≡ false
     go true = refl
     go false = refl
 
@@ -240,9 +243,9 @@ unfolding give registerOf registerRefusal allOf allRefusal
 call-busy w (Build ram o g) k a b = false≢true (sym b)
 call-busy w (RegisterRange address len) k a b =
     let g : ℕ = granularityOf (w .state) in
-    busy-refused w (unless (chunksFit (w .state) (firstChunk g address) (endChunk g address len)) 9 0) (carriedOut w (registerPlan w address len)) k
+    busy-refused w (unless (chunksFit (w .state) (firstChunk g address) (endChunk g address len)) refusal.unfitChunk 0) (carriedOut w (registerPlan w address len)) k
 call-busy w (RegisterAll al ig) k a b =
-    busy-refused w (unless (leb ig 1) 8 (unless (leb (granularityOf (w .state)) al && isPower al) 9 0)) (carriedOut w (allPlan w al ig)) k
+    busy-refused w (unless (leb ig 1) refusal.unfitNumber (unless (leb (granularityOf (w .state)) al && isPower al) refusal.unfitChunk 0)) (carriedOut w (allPlan w al ig)) k
 call-busy w AnswerDone k a b = false≢true (sym a)
 call-busy w AnswerFailed k a b = false≢true (sym a)
 
@@ -265,17 +268,17 @@ answers-lower (x ∷ xs) w s o =
 
 -- the number is 0 where nothing is under way, and nowhere else
 none-left : (w : World) → left w ≤ 0 → underWay w ≡ false
-none-left w = go (eqb (requestOf (w .state) .kind) 0)
+none-left w = go (eqb (requestOf (w .state) .kind) kind.none)
   where
     go : (t : Bool) → cond t 0 (suc ((2 ^ 64 - requestOf (w .state) .to) * 2 ^ 65 + (2 ^ 64 - requestOf (w .state) .end))) ≤ 0 → not t ≡ false
     go true h = refl
     go false h = absurd (omega arith)
 
 some-left : (w : World) → underWay w ≡ true → 0 < left w
-some-left w h = rw (not-true (eqb (requestOf (w .state) .kind) 0) h) (omega arith)
+some-left w h = rw (not-true (eqb (requestOf (w .state) .kind) kind.none) h) (omega arith)
 
 idle-left : (w : World) → underWay w ≡ false → left w ≡ 0
-idle-left w h = rw (not-false (eqb (requestOf (w .state) .kind) 0) h)
+idle-left w h = rw (not-false (eqb (requestOf (w .state) .kind) kind.none) h)
 
 -- THE CLAIM: as many answers as the number says end the request, with any refused calls between them
 pub answers-end : (xs : List Call) (w : World) → Sound w → onlyAnswers w xs ≡ true → left w ≤ answersIn xs → underWay (after w xs) ≡ false

@@ -9,6 +9,7 @@ use native.Mathlib.Nat.{mul-le-mul-right, mul-assoc, mul-comm, add-mul, one-mul,
 use lib.Dec.{eqb, leb}
 use lib.Pow.{pow-add, pow-pos, pow-lt}
 use borrow.Author.Tests.{eqb-true, eqb-false, leb-true}
+use Rattle.abi.specs.Lengths.{pageSize, wordBits}
 use Rattle.laws.specs.Bools.{false≢true, or-true}
 use Rattle.chunks.specs.Chunks.{up, firstChunk, endChunk, powerFrom, isPower}
 use Rattle.registrar_claims.proofs.Stretches.{up-above}
@@ -36,33 +37,33 @@ up-up n a b pa pb pab =
 pub record Pages (g : ℕ) : Type 0 where
   pub pages : ℕ
   pub some : zero < pages
-  pub whole : g ≡ 4096 * pages
+  pub whole : g ≡ pageSize * pages
 
 module _ (g address len : ℕ) (k : Pages g) where
-  in-pages : g / 4096 ≡ k .pages
-  in-pages = ap (λ (m : ℕ). m / 4096) (k .whole) ∙ mul-div-cancel-left (k .pages) {n = 4096} (omega arith)
+  in-pages : g / pageSize ≡ k .pages
+  in-pages = ap (λ (m : ℕ). m / pageSize) (k .whole) ∙ mul-div-cancel-left (k .pages) {n = pageSize} (omega arith)
 
   -- THE CLAIMS: the chunk of the first byte, and the one after the chunk of the last
   pub first-plain : firstChunk g address ≡ address / g
   first-plain =
-      ap (λ (m : ℕ). address / 4096 / m) in-pages ∙ div-div-eq-div-mul address 4096 (k .pages) ∙ ap (λ (m : ℕ). address / m) (sym (k .whole))
+      ap (λ (m : ℕ). address / pageSize / m) in-pages ∙ div-div-eq-div-mul address pageSize (k .pages) ∙ ap (λ (m : ℕ). address / m) (sym (k .whole))
 
   pub end-plain : endChunk g address len ≡ up (address + len) g
   end-plain =
-      ap (up (up (address + len) 4096)) in-pages ∙ up-up (address + len) 4096 (k .pages) (omega arith) (k .some) (omega (arith, k .some)) ∙ ap (up (address + len)) (sym (k .whole))
+      ap (up (up (address + len) pageSize)) in-pages ∙ up-up (address + len) pageSize (k .pages) (omega arith) (k .some) (omega (arith, k .some)) ∙ ap (up (address + len)) (sym (k .whole))
 
 power-is : (n k m : ℕ) → powerFrom n k m ≡ true → (j : ℕ) × (n ≡ 2 ^ j)
 unfolding powerFrom
 power-is n k zero h = false≢true h
 power-is n k (suc m) h = ⊎-elim (λ e. (k, eqb-true n (2 ^ k) e)) (λ e. power-is n (suc k) m e) (or-true (eqb n (2 ^ k)) (powerFrom n (suc k) m) h)
 
-pub fit-pages : (g : ℕ) → leb 4096 g ≡ true → isPower g ≡ true → Pages g
-fit-pages g l h = go (power-is g 0 64 h)
+pub fit-pages : (g : ℕ) → leb pageSize g ≡ true → isPower g ≡ true → Pages g
+fit-pages g l h = go (power-is g 0 wordBits h)
   where
     go : (j : ℕ) × (g ≡ 2 ^ j) → Pages g
     go p =
         let j : ℕ = p .0 in
-        let big : 4096 ≤ 2 ^ j = omega (arith, leb-true 4096 g l, p .1) in
+        let big : pageSize ≤ 2 ^ j = omega (arith, leb-true pageSize g l, p .1) in
         let from : 12 ≤ j = elim (decLt j 12) [ yes d ↦ absurd (omega (arith, pow-lt d, big)) | no d ↦ omega arith ] in
         let e : 12 + (j - 12) ≡ j = omega arith in
         record { pages = 2 ^ (j - 12); some = pow-pos (j - 12); whole = p .1 ∙ ap (λ (i : ℕ). 2 ^ i) (sym e) ∙ pow-add 2 12 (j - 12) }

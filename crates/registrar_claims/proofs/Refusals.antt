@@ -6,8 +6,11 @@ use mathlib.Core.List.{List, [], _∷_}
 use Prim.Native.Nat.{ℕ, _+_, _*_, _/_, _%_, _^_, _≤_, _<_, min}
 use lib.Dec.{eqb, leb, ltb}
 use lib.ListN.{length}
+use Rattle.abi.specs.Kinds as kind
+use Rattle.abi.specs.Refusals as refusal
+use Rattle.abi.specs.Lengths.{pageSize, registrarLen, wordBits}
 use Rattle.laws.specs.Bools.{false≢true}
-use Rattle.laws.specs.Refusal.{unless}
+use Rattle.laws.specs.Refusal.{unless, when}
 use Rattle.laws.specs.Ranges.{between}
 use Rattle.bitmap.specs.Pages.{bitAt}
 use Rattle.bitmap.proofs.Map.{page-law}
@@ -48,7 +51,7 @@ unfolding registerFrom plain
 register-plain s o n c last =
     let e : ℕ = min last (chunkCount (s .granularity) (s .entries)) in
     let t : ℕ = firstNot (passes s) c e in
-    go t (ltb t e) (bitAt 64 (s .failed) t)
+    go t (ltb t e) (bitAt wordBits (s .failed) t)
   where
     go : (t : ℕ) (x y : Bool)
         → plain (cond x (cond y (ends c t (RegistrationFailed (t * s .granularity) n)) (asks o c t (pieceOf n t (t + 1) last (ramFrom (s .granularity) (s .entries) t (t * s .granularity))))) (ends c t (Done n)) .answer) ≡ true
@@ -72,7 +75,7 @@ unfolding plain
 done-plain w =
     let q : Request = requestOf (w .state) in
     let s : Seen = seenIn w in
-    go (hasRest (w .state)) (eqb (q .kind) 1) (register-plain s (offsetOf (w .state)) (q .count) (q .to) (q .until))
+    go (hasRest (w .state)) (eqb (q .kind) kind.register) (register-plain s (offsetOf (w .state)) (q .count) (q .to) (q .until))
     (all-plain s (offsetOf (w .state)) (q .count) (q .alignment) (q .ignore) (q .to) (spans (entriesIn (w .state))))
   where
     go : (x y : Bool) → plain (registerFrom (seenIn w) (offsetOf (w .state)) (requestOf (w .state) .count) (requestOf (w .state) .to) (requestOf (w .state) .until) .answer) ≡ true
@@ -88,8 +91,8 @@ done-plain w =
 
 -- with 22 it marks nothing, with 22 and 23 nothing is asked any more, and what it marks asks for nothing
 pub record Ending (s : Seen) (p : Plan) : Type 0 where
-  pub ends-22 : flatOf (p .answer) .number ≡ 22 → (p .request ≡ idle) × (p .from ≡ p .to)
-  pub ends-23 : flatOf (p .answer) .number ≡ 23 → p .request ≡ idle
+  pub ends-22 : flatOf (p .answer) .number ≡ refusal.unalignedMemory → (p .request ≡ idle) × (p .from ≡ p .to)
+  pub ends-23 : flatOf (p .answer) .number ≡ refusal.registrationFailed → p .request ≡ idle
   pub marks : (c : ℕ) → p .from ≤ c → c < p .to → passes s c ≡ true
 
 register-ending : (s : Seen) (o n c last : ℕ) → Ending s (registerFrom s o n c last)
@@ -97,7 +100,7 @@ unfolding registerFrom
 register-ending s o n c last =
     let e : ℕ = min last (chunkCount (s .granularity) (s .entries)) in
     let t : ℕ = firstNot (passes s) c e in
-    go t (λ q a b. first-holds (passes s) c e q a b) (ltb t e) (bitAt 64 (s .failed) t)
+    go t (λ q a b. first-holds (passes s) c e q a b) (ltb t e) (bitAt wordBits (s .failed) t)
   where
     go : (t : ℕ) → ((q : ℕ) → c ≤ q → q < t → passes s q ≡ true) → (x y : Bool)
         → Ending s (cond x (cond y (ends c t (RegistrationFailed (t * s .granularity) n)) (asks o c t (pieceOf n t (t + 1) last (ramFrom (s .granularity) (s .entries) t (t * s .granularity))))) (ends c t (Done n)))
@@ -119,7 +122,7 @@ all-ending s o n al ignore c (r ∷ rs) = go (lookAt (s .granularity) (s .regist
 done-ending : (w : World) → Ending (seenIn w) (donePlan w)
 done-ending w =
     let q : Request = requestOf (w .state) in
-    go (hasRest (w .state)) (eqb (q .kind) 1) _ _ (register-ending (seenIn w) (offsetOf (w .state)) (q .count) (q .to) (q .until))
+    go (hasRest (w .state)) (eqb (q .kind) kind.register) _ _ (register-ending (seenIn w) (offsetOf (w .state)) (q .count) (q .to) (q .until))
     (all-ending (seenIn w) (offsetOf (w .state)) (q .count) (q .alignment) (q .ignore) (q .to) (spans (entriesIn (w .state))))
   where
     go : (x y : Bool) (a b : Plan) → Ending (seenIn w) a → Ending (seenIn w) b
@@ -133,24 +136,29 @@ done-ending w =
 pub build-taken : (w : World) (ram : List ℕ) (o g : ℕ) → notRefused (buildRefusal w ram o g) ≡ true → buildRefusal w ram o g ≡ 0
 unfolding buildRefusal
 build-taken w ram o g =
-    go (not (eqb (refusalOf ram) 1)) (eqb (o % 4096) 0) (ltb (o + lastEnd (entriesOf ram)) (2 ^ 64)) (eqb (refusalOf ram) 0) (eqb (length (w .state)) 108) (leb 4096 g && isPower g)
+    go (eqb (refusalOf ram) refusal.unfitLayout) (eqb (o % pageSize) 0) (ltb (o + lastEnd (entriesOf ram)) (2 ^ 64)) (eqb (refusalOf ram) 0) (eqb (length (w .state)) registrarLen) (leb pageSize g && isPower g)
     (lengthsFit g (entriesOf ram) (w .registered) (w .failed))
   where
-    go : (a b c d e f i : Bool) → notRefused (unless a 1 (unless b 1 (unless c 1 (unless d 2 (unless e 4 (unless f 9 (unless i 4 0))))))) ≡ true → unless a 1 (unless b 1 (unless c 1 (unless d 2 (unless e 4 (unless f 9 (unless i 4 0)))))) ≡ 0
-    go false b c d e f i h = false≢true h
-    go true false c d e f i h = false≢true h
-    go true true false d e f i h = false≢true h
-    go true true true false e f i h = false≢true h
-    go true true true true false f i h = false≢true h
-    go true true true true true false i h = false≢true h
-    go true true true true true true false h = false≢true h
-    go true true true true true true true h = refl
+    chain : (a b c d e f i : Bool) → ℕ
+    chain a b c d e f i =
+        when a refusal.unfitLayout (unless b refusal.unfitLayout (unless c refusal.unfitLayout (unless d refusal.badAlignment
+        (unless e refusal.wrongLength (unless f refusal.unfitChunk (unless i refusal.wrongLength 0))))))
+
+    go : (a b c d e f i : Bool) → notRefused (chain a b c d e f i) ≡ true → chain a b c d e f i ≡ 0
+    go true b c d e f i h = false≢true h
+    go false false c d e f i h = false≢true h
+    go false true false d e f i h = false≢true h
+    go false true true false e f i h = false≢true h
+    go false true true true false f i h = false≢true h
+    go false true true true true false i h = false≢true h
+    go false true true true true true false h = false≢true h
+    go false true true true true true true h = refl
 
 call-taken : (w : World) (rest : ℕ) → (notRefused rest ≡ true → rest ≡ 0) → notRefused (callRefusal w rest) ≡ true → callRefusal w rest ≡ 0
 call-taken w rest z =
-    go (eqb (length (w .state)) 108) (eqb (requestOf (w .state) .kind) 0) (lengthsFit (granularityOf (w .state)) (entriesIn (w .state)) (w .registered) (w .failed))
+    go (eqb (length (w .state)) registrarLen) (eqb (requestOf (w .state) .kind) kind.none) (lengthsFit (granularityOf (w .state)) (entriesIn (w .state)) (w .registered) (w .failed))
   where
-    go : (a b c : Bool) → notRefused (unless a 4 (unless b 19 (unless c 4 rest))) ≡ true → unless a 4 (unless b 19 (unless c 4 rest)) ≡ 0
+    go : (a b c : Bool) → notRefused (unless a refusal.wrongLength (unless b refusal.busy (unless c refusal.wrongLength rest))) ≡ true → unless a refusal.wrongLength (unless b refusal.busy (unless c refusal.wrongLength rest)) ≡ 0
     go false b c h = false≢true h
     go true false c h = false≢true h
     go true true false h = false≢true h
@@ -158,18 +166,18 @@ call-taken w rest z =
 
 pub register-taken : (w : World) (address len : ℕ) → notRefused (registerRefusal w address len) ≡ true → registerRefusal w address len ≡ 0
 unfolding registerRefusal
-register-taken w address len = call-taken w (unless (chunksFit (w .state) (firstChunk (granularityOf (w .state)) address) (endChunk (granularityOf (w .state)) address len)) 9 0) (go (chunksFit (w .state) (firstChunk (granularityOf (w .state)) address) (endChunk (granularityOf (w .state)) address len)))
+register-taken w address len = call-taken w (unless (chunksFit (w .state) (firstChunk (granularityOf (w .state)) address) (endChunk (granularityOf (w .state)) address len)) refusal.unfitChunk 0) (go (chunksFit (w .state) (firstChunk (granularityOf (w .state)) address) (endChunk (granularityOf (w .state)) address len)))
   where
-    go : (a : Bool) → notRefused (unless a 9 0) ≡ true → unless a 9 0 ≡ 0
+    go : (a : Bool) → notRefused (unless a refusal.unfitChunk 0) ≡ true → unless a refusal.unfitChunk 0 ≡ 0
     go false h = false≢true h
     go true h = refl
 
 pub all-taken : (w : World) (al ignore : ℕ) → notRefused (allRefusal w al ignore) ≡ true → allRefusal w al ignore ≡ 0
 unfolding allRefusal
 all-taken w al ignore =
-    call-taken w (unless (leb ignore 1) 8 (unless (leb (granularityOf (w .state)) al && isPower al) 9 0)) (go (leb ignore 1) (leb (granularityOf (w .state)) al && isPower al))
+    call-taken w (unless (leb ignore 1) refusal.unfitNumber (unless (leb (granularityOf (w .state)) al && isPower al) refusal.unfitChunk 0)) (go (leb ignore 1) (leb (granularityOf (w .state)) al && isPower al))
   where
-    go : (a b : Bool) → notRefused (unless a 8 (unless b 9 0)) ≡ true → unless a 8 (unless b 9 0) ≡ 0
+    go : (a b : Bool) → notRefused (unless a refusal.unfitNumber (unless b refusal.unfitChunk 0)) ≡ true → unless a refusal.unfitNumber (unless b refusal.unfitChunk 0) ≡ 0
     go false b h = false≢true h
     go true false h = false≢true h
     go true true h = refl
@@ -177,13 +185,13 @@ all-taken w al ignore =
 pub answer-taken : (w : World) → notRefused (answerRefusal w) ≡ true → answerRefusal w ≡ 0
 unfolding answerRefusal
 answer-taken w =
-    go (eqb (length (w .state)) 108) (lengthsFit (granularityOf (w .state)) (entriesIn (w .state)) (w .registered) (w .failed)) (not (eqb (requestOf (w .state) .kind) 0))
+    go (eqb (length (w .state)) registrarLen) (lengthsFit (granularityOf (w .state)) (entriesIn (w .state)) (w .registered) (w .failed)) (eqb (requestOf (w .state) .kind) kind.none)
   where
-    go : (a b c : Bool) → notRefused (unless a 4 (unless b 4 (unless c 21 0))) ≡ true → unless a 4 (unless b 4 (unless c 21 0)) ≡ 0
+    go : (a b c : Bool) → notRefused (unless a refusal.wrongLength (unless b refusal.wrongLength (when c refusal.nothingAsked 0))) ≡ true → unless a refusal.wrongLength (unless b refusal.wrongLength (when c refusal.nothingAsked 0)) ≡ 0
     go false b c h = false≢true h
     go true false c h = false≢true h
-    go true true false h = false≢true h
-    go true true true h = refl
+    go true true true h = false≢true h
+    go true true false h = refl
 
 -- ---- what a call changes
 
@@ -196,7 +204,7 @@ decided-keeps w r f n o t k = go (eqb n 0)
     go : (b : Bool) → Kept w r f (cond b o (record { world = w; reply = flatOf (Refused n) }))
     go true = k
     go false =
-        record { refused = λ z. refl; unaligned = λ z. absurd (none 22 refl (λ e. omega (arith, e)) z); failed = λ z. absurd (none 23 refl (λ e. omega (arith, e)) z) }
+        record { refused = λ z. refl; unaligned = λ z. absurd (none refusal.unalignedMemory refl (λ e. omega (arith, e)) z); failed = λ z. absurd (none refusal.registrationFailed refl (λ e. omega (arith, e)) z) }
 
 plan-keeps : (w : World) (r : List ℕ) (p : Plan) → let v : World = world (w .state) r (w .failed) in
     plain (p .answer) ≡ true → Ending (seenIn v) p → Kept w r (w .failed) (carriedOut v p)
@@ -248,10 +256,10 @@ refused-keeps w x = refusals-keep w x .refused
 
 -- ---- what is marked stays marked, until a build
 
-marked-stays : (a b : ℕ) (m : List ℕ) (c : ℕ) → bitAt 64 m c ≡ true → bitAt 64 (marked a b m) c ≡ true
-marked-stays a b m c h = page-law 64 (between a b) true m c (omega arith) ∙ go (between a b c && ltb (c / 64) (length m))
+marked-stays : (a b : ℕ) (m : List ℕ) (c : ℕ) → bitAt wordBits m c ≡ true → bitAt wordBits (marked a b m) c ≡ true
+marked-stays a b m c h = page-law wordBits (between a b) true m c (omega arith) ∙ go (between a b c && ltb (c / wordBits) (length m))
   where
-    go : (t : Bool) → cond t true (bitAt 64 m c) ≡ true
+    go : (t : Bool) → cond t true (bitAt wordBits m c) ≡ true
     go true = refl
     go false = h
 

@@ -9,6 +9,8 @@ use native.Mathlib.Nat.{mul-le-mul-right, div-le-self, div-mul-le-self}
 use lib.Dec.{eqb, ltb}
 use lib.ListN.{length, List·getD-eq-default}
 use borrow.Author.Tests.{ltb-true, leb-false}
+use Rattle.abi.specs.Kinds as kind
+use Rattle.abi.specs.Lengths.{wordBits}
 use Rattle.bitmap.specs.Pages.{bitAt}
 use Rattle.layout.specs.declared.MemoryRange.{MemoryRange}
 use Rattle.layout.specs.declared.MemoryRangeWithNode.{MemoryRangeWithNode}
@@ -27,7 +29,7 @@ use Rattle.registrar_claims.proofs.Stretches.{part-end}
 
 -- a request of memory that ends at m
 pub record Fits (m : ℕ) (q : Request) : Type 0 where
-  pub rests : q .kind ≡ 0 → q ≡ idle
+  pub rests : q .kind ≡ kind.none → q ≡ idle
   pub to-fits : q .to < 2 ^ 64
   pub end-fits : q .end < 2 ^ 64
   pub upward : q .start ≤ q .end
@@ -109,7 +111,7 @@ unfolding registerFrom
 register-fits s o n c last ord =
     let e : ℕ = min last (chunkCount (s .granularity) (s .entries)) in
     let t : ℕ = firstNot (passes s) c e in
-    go t (ltb t e) refl (bitAt 64 (s .failed) t)
+    go t (ltb t e) refl (bitAt wordBits (s .failed) t)
   where
     go : (t : ℕ) (x : Bool) → ltb t (min last (chunkCount (s .granularity) (s .entries))) ≡ x → (y : Bool)
         → Fits (lastEnd (s .entries)) (cond x (cond y (ends c t (RegistrationFailed (t * s .granularity) n)) (asks o c t (pieceOf n t (t + 1) last (ramFrom (s .granularity) (s .entries) t (t * s .granularity))))) (ends c t (Done n)) .request)
@@ -136,7 +138,7 @@ in-within : (g : ℕ) (registered failed : List ℕ) (c e m : ℕ) → e ≤ m �
 in-within g registered failed c e m h k =
     let a : ℕ = firstNot (alike registered failed true) c e in
     let b : ℕ = firstNot (alike registered failed false) a e in
-    go a (ltb a e) refl (bitAt 64 failed a) (ltb b e && bitAt 64 failed b)
+    go a (ltb a e) refl (bitAt wordBits failed a) (ltb b e && bitAt wordBits failed b)
   where
     go : (a : ℕ) (x : Bool) → ltb a e ≡ x → (y z : Bool) → let b : ℕ = firstNot (alike registered failed false) a e in
         Within m (cond x (cond y (FailedBefore (a * g)) (cond z (FailedBefore (b * g)) (Stretch a b (a * g) (b * g)))) Nothing)
@@ -194,7 +196,7 @@ module _ (w : World) (ord : ordered 0 (entriesIn (w .state)) ≡ true) where
   pub done-asks : Fits last (requestOf (w .state)) → Fits last (donePlan w .request)
   done-asks f =
       let q : Request = requestOf (w .state) in
-      go (hasRest (w .state)) (eqb (q .kind) 1) _ _ (register-asks (q .count) (q .to) (q .until)) (all-asks (q .count) (q .alignment) (q .ignore) (q .to))
+      go (hasRest (w .state)) (eqb (q .kind) kind.register) _ _ (register-asks (q .count) (q .to) (q .until)) (all-asks (q .count) (q .alignment) (q .ignore) (q .to))
     where
       go : (x y : Bool) (a b : Plan) → Fits last (a .request) → Fits last (b .request)
           → Fits last (cond x (asks (offsetOf (w .state)) 0 0 (pieceOf (requestOf (w .state) .count) (requestOf (w .state) .from) (requestOf (w .state) .to) (requestOf (w .state) .until) (restOf (w .state)))) (cond y a b) .request)

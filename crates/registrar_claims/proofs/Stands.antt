@@ -6,6 +6,10 @@ use Prim.Native.Nat.{ℕ}
 use lib.Dec.{eqb, leb}
 use lib.ListN.{length, drop}
 use borrow.Author.Tests.{eqb-true, eqb-false, eq-eqb, not-true, not-false}
+use Rattle.abi.specs.Kinds as kind
+use Rattle.abi.specs.Refusals as refusal
+use Rattle.abi.specs.RegistrarPlaces as place
+use Rattle.abi.specs.Lengths.{registrarLen}
 use Rattle.laws.specs.Bools.{both-true, false≢true}
 use Rattle.laws.specs.Refusal.{unless}
 use Rattle.layout.specs.Layout.{entriesOf, spans}
@@ -36,7 +40,7 @@ pub record Has (s : List ℕ) (b : Settings) : Type 0 where
   pub same-granularity : granularityOf s ≡ b .granularity
   pub same-ram : ramOf s ≡ b .ram
 
-kept-has : (s t : List ℕ) (b : Settings) → drop 9 t ≡ drop 9 s → Has s b → Has t b
+kept-has : (s t : List ℕ) (b : Settings) → drop place.afterRequest t ≡ drop place.afterRequest s → Has s b → Has t b
 kept-has s t b e h =
     record { same-offset = kept-offset s t e ∙ h .same-offset; same-granularity = kept-granularity s t e ∙ h .same-granularity; same-ram = kept-ram s t e ∙ h .same-ram }
 
@@ -46,7 +50,7 @@ built-has w ram o g z =
     rw (eq-eqb (buildRefusal w ram o g) 0 z)
     (record { same-offset = refl; same-granularity = refl; same-ram = ram-built ram o g (fit ram (build-fits w ram o g z .layout)) })
 
-decided-has : (w : World) (n : ℕ) (o : Outcome) (b : Settings) → Has (w .state) b → drop 9 (o .world .state) ≡ drop 9 (w .state) → Has (decided w n o .world .state) b
+decided-has : (w : World) (n : ℕ) (o : Outcome) (b : Settings) → Has (w .state) b → drop place.afterRequest (o .world .state) ≡ drop place.afterRequest (w .state) → Has (decided w n o .world .state) b
 decided-has w n o b h e = go (eqb n 0)
   where
     go : (t : Bool) → Has (cond t o (record { world = w; reply = flatOf (Refused n) }) .world .state) b
@@ -72,7 +76,7 @@ has-after (x ∷ xs) w b h = has-after xs (give w x .world) (cond (isTaken (give
   where
     go : (t : Bool) → isTaken (give w x) ≡ t → Has (give w x .world .state) (cond t (settingsBy b x) b)
     go true e = call-has w x b h e
-    go false e = kept-has (w .state) (give w x .world .state) b (ap (λ (u : World). drop 9 (u .state)) (refused-keeps w x e)) h
+    go false e = kept-has (w .state) (give w x .world .state) b (ap (λ (u : World). drop place.afterRequest (u .state)) (refused-keeps w x e)) h
 
 same-settings : (b : Settings) (x : Call) → isBuild x ≡ false → settingsBy b x ≡ b
 same-settings b (Build ram o g) h = false≢true (sym h)
@@ -131,7 +135,7 @@ awaits-after (x ∷ xs) w b h =
 module _ (w : World) (s : Sound w) where
   pub answer-passes : underWay w ≡ true → answerRefusal w ≡ 0
   unfolding answerRefusal
-  answer-passes h = rw (eq-eqb (length (w .state)) 108 (s .block), s .lengths, h)
+  answer-passes h = rw (eq-eqb (length (w .state)) registrarLen (s .block), s .lengths, not-true (eqb (requestOf (w .state) .kind) kind.none) h)
 
   pub done-taken : underWay w ≡ true → isTaken (doneOf w) ≡ true
   unfolding doneOf
@@ -141,33 +145,33 @@ module _ (w : World) (s : Sound w) where
   unfolding failedOf
   failed-taken h = rw (eq-eqb (answerRefusal w) 0 (answer-passes h))
 
-  answer-none : underWay w ≡ false → answerRefusal w ≡ 21
+  answer-none : underWay w ≡ false → answerRefusal w ≡ refusal.nothingAsked
   unfolding answerRefusal
-  answer-none h = rw (eq-eqb (length (w .state)) 108 (s .block), s .lengths, h)
+  answer-none h = rw (eq-eqb (length (w .state)) registrarLen (s .block), s .lengths, not-false (eqb (requestOf (w .state) .kind) kind.none) h)
 
-  pub done-refused : underWay w ≡ false → doneOf w ≡ record { world = w; reply = flatOf (Refused 21) }
+  pub done-refused : underWay w ≡ false → doneOf w ≡ record { world = w; reply = flatOf (Refused refusal.nothingAsked) }
   unfolding doneOf
   done-refused h = rw (answer-none h)
 
-  pub failed-refused : underWay w ≡ false → failedOf w ≡ record { world = w; reply = flatOf (Refused 21) }
+  pub failed-refused : underWay w ≡ false → failedOf w ≡ record { world = w; reply = flatOf (Refused refusal.nothingAsked) }
   unfolding failedOf
   failed-refused h = rw (answer-none h)
 
   call-passes : (rest : ℕ) → underWay w ≡ false → rest ≡ 0 → callRefusal w rest ≡ 0
-  call-passes rest h z = rw (eq-eqb (length (w .state)) 108 (s .block), not-false (eqb (requestOf (w .state) .kind) 0) h, s .lengths, z)
+  call-passes rest h z = rw (eq-eqb (length (w .state)) registrarLen (s .block), not-false (eqb (requestOf (w .state) .kind) kind.none) h, s .lengths, z)
 
   register-passes : (address len : ℕ) → let g : ℕ = granularityOf (w .state) in
       underWay w ≡ false → chunksFit (w .state) (firstChunk g address) (endChunk g address len) ≡ true → isTaken (registerOf w address len) ≡ true
   unfolding registerOf registerRefusal
   register-passes address len h k =
       let g : ℕ = granularityOf (w .state) in
-      let z = call-passes (unless (chunksFit (w .state) (firstChunk g address) (endChunk g address len)) 9 0) h (rw k) in
+      let z = call-passes (unless (chunksFit (w .state) (firstChunk g address) (endChunk g address len)) refusal.unfitChunk 0) h (rw k) in
       rw (eq-eqb (registerRefusal w address len) 0 z) (plain-taken (registerPlan w address len .answer) (register-plain (seenIn w) (offsetOf (w .state)) 0 (firstChunk g address) (endChunk g address len)))
 
   all-passes : (al ignore : ℕ) → underWay w ≡ false → leb ignore 1 ≡ true → (leb (granularityOf (w .state)) al && isPower al) ≡ true → isTaken (allOf w al ignore) ≡ true
   unfolding allOf allRefusal
   all-passes al ignore h i k =
-      let z = call-passes (unless (leb ignore 1) 8 (unless (leb (granularityOf (w .state)) al && isPower al) 9 0)) h (rw (i, k)) in
+      let z = call-passes (unless (leb ignore 1) refusal.unfitNumber (unless (leb (granularityOf (w .state)) al && isPower al) refusal.unfitChunk 0)) h (rw (i, k)) in
       rw (eq-eqb (allRefusal w al ignore) 0 z) (plain-taken (allPlan w al ignore .answer) (all-plain (seenIn w) (offsetOf (w .state)) 0 al ignore 0 (spans (entriesIn (w .state)))))
 
 -- THE CLAIM of what a registrar is and takes

@@ -8,6 +8,9 @@ use Prim.Native.Nat.{ℕ, zero, suc, _+_, _-_, _*_, _/_, _%_, _^_, _≤_, _<_, m
 use lib.Dec.{eqb, leb, ltb}
 use lib.ListN.{length, getD, drop, take, List·getD-eq-default}
 use borrow.Author.Tests.{eqb-true, eq-eqb, lt-ltb, le-ltb, leb-true}
+use Rattle.abi.specs.Kinds as kind
+use Rattle.abi.specs.RegistrarPlaces as place
+use Rattle.abi.specs.Lengths.{registrarLen, wordBits}
 use Rattle.laws.specs.Bools.{and-left, and-right, or-true, lt-or-le}
 use Rattle.laws.specs.Refusal.{passed}
 use Rattle.bitmap.specs.Pages.{bitAt}
@@ -39,40 +42,40 @@ counted k = omega arith
 -- ---- marks
 
 pub marked-length : (a b : ℕ) (m : List ℕ) → length (marked a b m) ≡ length m
-marked-length a b m = length-written 64 (between a b) true m
+marked-length a b m = length-written wordBits (between a b) true m
 
 pub marked-words : (a b : ℕ) (m : List ℕ) → Words m → Words (marked a b m)
 marked-words a b m h j = ⊎-elim inside outside (lt-or-le j (length m))
   where
     inside : j < length m → getD (marked a b m) j 0 < 2 ^ 64
-    inside l = written-lt 64 (between a b) true m j l (h j)
+    inside l = written-lt wordBits (between a b) true m j l (h j)
 
     outside : length m ≤ j → getD (marked a b m) j 0 < 2 ^ 64
     outside l = rw (List·getD-eq-default (marked a b m) 0 {n = j} (omega (arith, marked-length a b m))) (omega arith)
 
 -- a chunk registered already is marked as it is
-marked-again : (c : ℕ) (m : List ℕ) → Words m → bitAt 64 m c ≡ true → marked c (c + 1) m ≡ m
+marked-again : (c : ℕ) (m : List ℕ) → Words m → bitAt wordBits m c ≡ true → marked c (c + 1) m ≡ m
 marked-again c m h t =
-    map-ext 64 (marked c (c + 1) m) m (omega arith) (marked-length c (c + 1) m) (marked-words c (c + 1) m h) h
-    (λ q l. page-written 64 (between c (c + 1)) true m q (omega arith) l ∙ same q (between c (c + 1) q) refl)
+    map-ext wordBits (marked c (c + 1) m) m (omega arith) (marked-length c (c + 1) m) (marked-words c (c + 1) m h) h
+    (λ q l. page-written wordBits (between c (c + 1)) true m q (omega arith) l ∙ same q (between c (c + 1) q) refl)
   where
-    same : (q : ℕ) (b : Bool) → between c (c + 1) q ≡ b → cond b true (bitAt 64 m q) ≡ bitAt 64 m q
+    same : (q : ℕ) (b : Bool) → between c (c + 1) q ≡ b → cond b true (bitAt wordBits m q) ≡ bitAt wordBits m q
     same q true e =
         let d : q ≡ c = omega (arith, between-from c (c + 1) q e, between-to c (c + 1) q e) in
-        sym (ap (bitAt 64 m) d ∙ t)
+        sym (ap (bitAt wordBits m) d ∙ t)
     same q false e = refl
 
 pub marked-on : (a b d : ℕ) (m : List ℕ) → a ≤ b → b ≤ d → marked b d (marked a b m) ≡ marked a d m
-marked-on a b d m h k = both 64 (between b d) (between a b) (between a d) true m (λ q. between-join a b d q h k)
+marked-on a b d m h k = both wordBits (between b d) (between a b) (between a d) true m (λ q. between-join a b d q h k)
 
 pub marked-none : (a : ℕ) (m : List ℕ) → marked a a m ≡ m
-marked-none a m = sym (run-none 64 true m a)
+marked-none a m = sym (run-none wordBits true m a)
 
 -- another chunk is registered as before
-marked-other : (c q : ℕ) (m : List ℕ) → c < q → bitAt 64 (marked c (c + 1) m) q ≡ bitAt 64 m q
+marked-other : (c q : ℕ) (m : List ℕ) → c < q → bitAt wordBits (marked c (c + 1) m) q ≡ bitAt wordBits m q
 marked-other c q m h =
-    page-law 64 (between c (c + 1)) true m q (omega arith)
-    ∙ ap (λ (b : Bool). cond (b && ltb (q / 64) (length m)) true (bitAt 64 m q)) (between-false c (c + 1) q (λ x y. omega arith))
+    page-law wordBits (between c (c + 1)) true m q (omega arith)
+    ∙ ap (λ (b : Bool). cond (b && ltb (q / wordBits) (length m)) true (bitAt wordBits m q)) (between-false c (c + 1) q (λ x y. omega arith))
 
 -- ---- tests that agree from c on are passed alike
 
@@ -134,10 +137,10 @@ module _ (tail f : List ℕ) (last : ℕ) where
 
   module _ (long : length tail ≡ 99) (f-long : length f ≡ mapWords g es) (asc : Ascend 0 rs) (low : last ≤ chunkCount g es) where
     -- no answer is refused
-    not-refused : (q : Request) (r : List ℕ) → q .kind ≡ 1 → length r ≡ mapWords g es → answerRefusal (at q r) ≡ 0
+    not-refused : (q : Request) (r : List ℕ) → q .kind ≡ kind.register → length r ≡ mapWords g es → answerRefusal (at q r) ≡ 0
     unfolding answerRefusal
     not-refused q r h l =
-        rw (eq-eqb (length (requestWords q ++ tail)) 108 (omega arith), eq-eqb (length r) (mapWords g es) l, eq-eqb (length f) (mapWords g es) f-long, h)
+        rw (eq-eqb (length (requestWords q ++ tail)) registrarLen (omega arith), eq-eqb (length r) (mapWords g es) l, eq-eqb (length f) (mapWords g es) f-long, h)
 
     -- a piece and those after it
     module _ (c : ℕ) (r : List ℕ) (r-long : length r ≡ mapWords g es) (next : List Bool → Whole)
@@ -183,12 +186,12 @@ module _ (tail f : List ℕ) (last : ℕ) where
       stopped : ℕ → ℕ → Plan
       stopped c t =
           cond (ltb t (min last (chunkCount g es)))
-          (cond (bitAt 64 f t) (ends c t (RegistrationFailed (t * g) (k % 2 ^ 64))) (asks o c t (pieceOf (k % 2 ^ 64) t (t + 1) last (ramFrom g es t (t * g)))))
+          (cond (bitAt wordBits f t) (ends c t (RegistrationFailed (t * g) (k % 2 ^ 64))) (asks o c t (pieceOf (k % 2 ^ 64) t (t + 1) last (ramFrom g es t (t * g)))))
           (ends c t (Done (k % 2 ^ 64)))
 
       moved : (r : List ℕ) (t : ℕ) → c + 1 ≤ t → carriedOut (at q r) (stopped c t) ≡ carriedOut (at q (marked c (c + 1) r)) (stopped (c + 1) t)
       unfolding stopped
-      moved r t h = go (ltb t (min last (chunkCount g es))) (bitAt 64 f t)
+      moved r t h = go (ltb t (min last (chunkCount g es))) (bitAt wordBits f t)
         where
           m : marked c t r ≡ marked (c + 1) t (marked c (c + 1) r)
           m = sym (marked-on c (c + 1) t r (omega arith) h)
@@ -213,7 +216,7 @@ module _ (tail f : List ℕ) (last : ℕ) where
           let t : ℕ = firstNot P (c + 1) last in
           let u : firstNot P c (min last (chunkCount g es)) ≡ t = walked r c ∙ first-step P c last h p in
           let v : t ≡ firstNot Q (c + 1) (min last (chunkCount g es)) =
-          first-agree P Q (last - (c + 1)) (c + 1) (λ d l. ap (λ (b : Bool). b || (not (bitAt 64 f d) && empty (ramFrom g es d (d * g)))) (sym (marked-other c d r (omega arith))))
+          first-agree P Q (last - (c + 1)) (c + 1) (λ d l. ap (λ (b : Bool). b || (not (bitAt wordBits f d) && empty (ramFrom g es d (d * g)))) (sym (marked-other c d r (omega arith))))
           ∙ sym (walked (marked c (c + 1) r) (c + 1)) in
           ap (λ (n : ℕ). carriedOut (at q r) (stopped c n)) u ∙ moved r t (first-from P (c + 1) last) ∙ ap (λ (n : ℕ). carriedOut (at q (marked c (c + 1) r)) (stopped (c + 1) n)) v
 
@@ -228,13 +231,13 @@ module _ (tail f : List ℕ) (last : ℕ) where
           ∙ ap (λ (l : List ℕ). outcome (requestWords idle ++ tail) l f (flatOf (Done (k % 2 ^ 64)))) (marked-none c r)
 
       module _ (r : List ℕ) (h : c < last) (n : passes (seen g es r f) c ≡ false) where
-        bad : bitAt 64 f c ≡ true → from q r k c ≡ outcome (requestWords idle ++ tail) r f (flatOf (RegistrationFailed (c * g) (k % 2 ^ 64)))
+        bad : bitAt wordBits f c ≡ true → from q r k c ≡ outcome (requestWords idle ++ tail) r f (flatOf (RegistrationFailed (c * g) (k % 2 ^ 64)))
         unfolding stopped
         bad b =
             here r (ends c c (RegistrationFailed (c * g) (k % 2 ^ 64))) (rw (lt-ltb c (min last (chunkCount g es)) (omega arith), b)) (first-stop (passes (seen g es r f)) c last h n)
             ∙ ap (λ (l : List ℕ). outcome (requestWords idle ++ tail) l f (flatOf (RegistrationFailed (c * g) (k % 2 ^ 64)))) (marked-none c r)
 
-        asked-for : bitAt 64 f c ≡ false → (p : MemoryRange) → ramFrom g es c (c * g) ≡ p → from q r k c ≡ asks-piece r k c p
+        asked-for : bitAt wordBits f c ≡ false → (p : MemoryRange) → ramFrom g es c (c * g) ≡ p → from q r k c ≡ asks-piece r k c p
         unfolding stopped
         asked-for b p e =
             here r (asks o c c (pieceOf (k % 2 ^ 64) c (c + 1) last p)) (rw (lt-ltb c (min last (chunkCount g es)) (omega arith), b, e)) (first-stop (passes (seen g es r f)) c last h n)
@@ -247,10 +250,10 @@ module _ (tail f : List ℕ) (last : ℕ) where
         match-told k _ _ _ (ap (λ (x : Outcome). follow x bs) (over q k c r (omega arith)) ∙ follow-ended _ bs refl)
         (record { same-asked = refl; same-registered = refl; same-failed = refl; same-reply = ap (λ (n : ℕ). flatOf (Done (n % 2 ^ 64))) (omega arith) })
     chunks-match (suc n) c k q r bs e l w =
-        go (bitAt 64 r c) refl (bitAt 64 f c) refl (pieces (c * g) ((c + 1) * g) rs) refl
+        go (bitAt wordBits r c) refl (bitAt wordBits f c) refl (pieces (c * g) ((c + 1) * g) rs) refl
         (λ k q r bs l w. chunks-match n (c + 1) k q r bs (omega arith) l w)
       where
-        go : (x : Bool) → bitAt 64 r c ≡ x → (y : Bool) → bitAt 64 f c ≡ y → (ps : List MemoryRange) → pieces (c * g) ((c + 1) * g) rs ≡ ps
+        go : (x : Bool) → bitAt wordBits r c ≡ x → (y : Bool) → bitAt wordBits f c ≡ y → (ps : List MemoryRange) → pieces (c * g) ((c + 1) * g) rs ≡ ps
             → ((k : ℕ) (q : Request) (r : List ℕ) (bs : List Bool) → length r ≡ mapWords g es → Words r → Match k (follow (from q r k (c + 1)) bs) (wholeChunks o g rs n (c + 1) r f bs))
             → Match k (follow (from q r k c) bs)
             (cond x (wholeChunks o g rs n (c + 1) r f bs) (cond y (ended r f (FailedAt (c * g))) (offer o c ps bs r f (λ bs. wholeChunks o g rs n (c + 1) (marked c (c + 1) r) f bs))))
@@ -292,11 +295,11 @@ register-at tail f r q address len bs z ord wr =
     let g : ℕ = getD tail 1 0 in
     let first : ℕ = firstChunk g address in
     let last : ℕ = endChunk g address len in
-    let a = passed (eqb (length (requestWords q ++ tail)) 108) 3 _ z in
-    let b = passed (eqb (q .kind) 0) 18 _ (a .1) in
+    let a = passed (eqb (length (requestWords q ++ tail)) registrarLen) 3 _ z in
+    let b = passed (eqb (q .kind) kind.none) 18 _ (a .1) in
     let d = passed (lengthsFit g (entriesIn (w .state)) r f) 3 _ (b .1) in
     let e = passed (chunksFit (w .state) (firstChunk (granularityOf (w .state)) address) (endChunk (granularityOf (w .state)) address len)) 8 _ (d .1) in
-    let l : length (requestWords q ++ tail) ≡ 108 = eqb-true _ _ (a .0) in
+    let l : length (requestWords q ++ tail) ≡ registrarLen = eqb-true _ _ (a .0) in
     let rl : length r ≡ mapWords g (entriesIn (w .state)) = eqb-true _ _ (and-left _ _ (d .0)) in
     let fl : length f ≡ mapWords g (entriesIn (w .state)) = eqb-true _ _ (and-right (eqb (length r) (mapWords g (entriesIn (w .state)))) _ (d .0)) in
     rw (eq-eqb (registerRefusal w address len) 0 z)
@@ -315,14 +318,14 @@ register-at tail f r q address len bs z ord wr =
 pub register-is-whole : (w : World) (address len : ℕ) (bs : List Bool) → registerRefusal w address len ≡ 0 → ordered 0 (entriesIn (w .state)) ≡ true
     → Words (w .registered) → Match 0 (follow (registerOf w address len) bs) (wholeRegister w address len bs)
 register-is-whole w address len bs z ord h =
-    let l : length (w .state) ≡ 108 = register-long w (registerRefusal w address len) z address len refl in
-    let e : w .state ≡ requestWords (requestOf (w .state)) ++ drop 9 (w .state) = split-state (w .state) (omega arith) in
+    let l : length (w .state) ≡ registrarLen = register-long w (registerRefusal w address len) z address len refl in
+    let e : w .state ≡ requestWords (requestOf (w .state)) ++ drop place.afterRequest (w .state) = split-state (w .state) (omega arith) in
     go (w .state) e z ord
   where
-    go : (s : List ℕ) → s ≡ requestWords (requestOf s) ++ drop 9 s → registerRefusal (world s (w .registered) (w .failed)) address len ≡ 0 → ordered 0 (entriesIn s) ≡ true
+    go : (s : List ℕ) → s ≡ requestWords (requestOf s) ++ drop place.afterRequest s → registerRefusal (world s (w .registered) (w .failed)) address len ≡ 0 → ordered 0 (entriesIn s) ≡ true
         → Match 0 (follow (registerOf (world s (w .registered) (w .failed)) address len) bs) (wholeRegister (world s (w .registered) (w .failed)) address len bs)
     go s e z ord =
         subst
         (λ (t : List ℕ). Match 0 (follow (registerOf (world t (w .registered) (w .failed)) address len) bs) (wholeRegister (world t (w .registered) (w .failed)) address len bs)) (sym e)
-        (register-at (drop 9 s) (w .failed) (w .registered) (requestOf s) address len bs
+        (register-at (drop place.afterRequest s) (w .failed) (w .registered) (requestOf s) address len bs
         (subst (λ (t : List ℕ). registerRefusal (world t (w .registered) (w .failed)) address len ≡ 0) e z) (subst (λ (t : List ℕ). ordered 0 (entriesIn t) ≡ true) e ord) h)

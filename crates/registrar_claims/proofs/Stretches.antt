@@ -9,6 +9,9 @@ use native.Mathlib.Nat.{div-zero, div-add-mod', div-mul-le-self, le-div-iff-mul-
 use lib.Dec.{eqb, ltb}
 use lib.ListN.{length, getD, drop, take}
 use borrow.Author.Tests.{eqb-true, eq-eqb, lt-ltb, le-ltb, ltb-true, ltb-false, leb-false}
+use Rattle.abi.specs.Kinds as kind
+use Rattle.abi.specs.RegistrarPlaces as place
+use Rattle.abi.specs.Lengths.{registrarLen, wordBits}
 use Rattle.laws.specs.Bools.{and-left, and-right, and-true, false≢true, lt-or-le}
 use Rattle.laws.specs.Refusal.{passed}
 use Rattle.bitmap.specs.Pages.{bitAt}
@@ -75,15 +78,15 @@ scan-end P x e h t = scan-to P x e e h (omega arith) t ∙ first-end P e e (omeg
 -- ---- chunks that are alike
 
 registered-not : (r f : List ℕ) (c : ℕ) → alike r f false c ≡ true → alike r f true c ≡ false
-registered-not r f c h = go (bitAt 64 f c) (bitAt 64 r c) h
+registered-not r f c h = go (bitAt wordBits f c) (bitAt wordBits r c) h
   where
     go : (x y : Bool) → (not x && not y) ≡ true → (not x && y) ≡ false
     go true y h = refl
     go false true h = false≢true h
     go false false h = refl
 
-fresh-failed : (r f : List ℕ) (c : ℕ) → alike r f false c ≡ true → bitAt 64 f c ≡ false
-fresh-failed r f c h = go (bitAt 64 f c) (bitAt 64 r c) h
+fresh-failed : (r f : List ℕ) (c : ℕ) → alike r f false c ≡ true → bitAt wordBits f c ≡ false
+fresh-failed r f c h = go (bitAt wordBits f c) (bitAt wordBits r c) h
   where
     go : (x y : Bool) → (not x && not y) ≡ true → x ≡ false
     go true y h = false≢true h
@@ -103,14 +106,14 @@ module _ (g : ℕ) (r f : List ℕ) (x a c e : ℕ) (xa : x ≤ a) (ac : a ≤ c
       let B : firstNot (alike r f false) a e ≡ c = ap (firstNot (alike r f false) a) (sym q) ∙ scan-end (alike r f false) a c ac new in
       rw (unfolding-first l, lt-ltb a e (omega arith), fresh-failed r f a (new a (omega arith) l), B, le-ltb c e (omega arith))
 
-  met-registered : a < c → c < e → bitAt 64 f c ≡ false → bitAt 64 r c ≡ true → stretchIn g r f x e ≡ Stretch a c (a * g) (c * g)
+  met-registered : a < c → c < e → bitAt wordBits f c ≡ false → bitAt wordBits r c ≡ true → stretchIn g r f x e ≡ Stretch a c (a * g) (c * g)
   unfolding AllIn
   met-registered l k hf hr =
       let B : firstNot (alike r f false) a e ≡ c = scan-stop (alike r f false) a c e ac k new (rw (hf, hr)) in
       rw (unfolding-first l, lt-ltb a e (omega arith), fresh-failed r f a (new a (omega arith) l), B, lt-ltb c e k, hf)
 
   -- a chunk that failed before
-  met-failed : c < e → bitAt 64 f c ≡ true → stretchIn g r f x e ≡ FailedBefore (c * g)
+  met-failed : c < e → bitAt wordBits f c ≡ true → stretchIn g r f x e ≡ FailedBefore (c * g)
   unfolding AllIn
   met-failed k hf = ⊎-elim stretch none (lt-or-le a c)
     where
@@ -138,7 +141,7 @@ met-nothing g r f x e h = ⊎-elim inside outside (lt-or-le x e)
 -- ---- more chunks registered than before
 
 Ext : List ℕ → List ℕ → Type 0
-Ext r r′ = (q : ℕ) → bitAt 64 r q ≡ true → bitAt 64 r′ q ≡ true
+Ext r r′ = (q : ℕ) → bitAt wordBits r q ≡ true → bitAt wordBits r′ q ≡ true
 
 ext-same : (r : List ℕ) → Ext r r
 unfolding Ext
@@ -150,15 +153,15 @@ ext-on r s t a b q h = b q (a q h)
 
 marked-ext : (a b : ℕ) (r : List ℕ) → Ext r (marked a b r)
 unfolding Ext
-marked-ext a b r q h = page-law 64 (between a b) true r q (omega arith) ∙ go (between a b q && ltb (q / 64) (length r))
+marked-ext a b r q h = page-law wordBits (between a b) true r q (omega arith) ∙ go (between a b q && ltb (q / wordBits) (length r))
   where
-    go : (t : Bool) → cond t true (bitAt 64 r q) ≡ true
+    go : (t : Bool) → cond t true (bitAt wordBits r q) ≡ true
     go true = refl
     go false = h
 
 alike-ext : (r r′ f : List ℕ) (q : ℕ) → Ext r r′ → alike r f true q ≡ true → alike r′ f true q ≡ true
 unfolding Ext
-alike-ext r r′ f q h t = and-true (not (bitAt 64 f q)) (bitAt 64 r′ q) (and-left _ _ t) (h q (and-right (not (bitAt 64 f q)) (bitAt 64 r q) t))
+alike-ext r r′ f q h t = and-true (not (bitAt wordBits f q)) (bitAt wordBits r′ q) (and-left _ _ t) (h q (and-right (not (bitAt wordBits f q)) (bitAt wordBits r q) t))
 
 -- ---- the aligned part lies in its span
 
@@ -219,10 +222,10 @@ module _ (tail f : List ℕ) (al ig : ℕ) where
   asks-stretch r k a b = outcome (requestWords (stretch k a b) ++ tail) r f (flatOf (askedOf o (stretch k a b)))
 
   module _ (long : length tail ≡ 99) (f-long : length f ≡ mapWords g es) where
-    not-refused : (q : Request) (r : List ℕ) → q .kind ≡ 2 → length r ≡ mapWords g es → answerRefusal (at q r) ≡ 0
+    not-refused : (q : Request) (r : List ℕ) → q .kind ≡ kind.registerAll → length r ≡ mapWords g es → answerRefusal (at q r) ≡ 0
     unfolding answerRefusal
     not-refused q r h l =
-        rw (eq-eqb (length (requestWords q ++ tail)) 108 (omega arith), eq-eqb (length r) (mapWords g es) l, eq-eqb (length f) (mapWords g es) f-long, h)
+        rw (eq-eqb (length (requestWords q ++ tail)) registrarLen (omega arith), eq-eqb (length r) (mapWords g es) l, eq-eqb (length f) (mapWords g es) f-long, h)
 
     module _ (a b : ℕ) (r : List ℕ) (r-long : length r ≡ mapWords g es) (next : List Bool → List ℕ → Whole)
         (on : (k : ℕ) (q : Request) (bs : List Bool) → Match k (follow (from q (marked a b r) k b) bs) (next bs (marked a b r))) where
@@ -335,10 +338,10 @@ module _ (tail f : List ℕ) (al ig : ℕ) where
               let d : a ≡ e = omega (arith, ltb-false a c t) in
               after cur k q r bs cl (passed-over r cur cur (max cur lo) h (omega arith) (omega arith) (subst (λ (y : ℕ). AllIn (alike r f true) (max cur lo) y) d old)) l
       loop (suc n) a c k q cur r bs m xa ac ce cl old new h l =
-          go (bitAt 64 f c) refl (bitAt 64 r c) refl (ltb a c) refl
+          go (bitAt wordBits f c) refl (bitAt wordBits r c) refl (ltb a c) refl
           (λ a k q cur r bs xa ac cl old new h l. loop n a (c + 1) k q cur r bs (omega arith) xa ac (omega arith) cl old new h l)
         where
-          go : (x : Bool) → bitAt 64 f c ≡ x → (y : Bool) → bitAt 64 r c ≡ y → (z : Bool) → ltb a c ≡ z
+          go : (x : Bool) → bitAt wordBits f c ≡ x → (y : Bool) → bitAt wordBits r c ≡ y → (z : Bool) → ltb a c ≡ z
               → ((a k : ℕ) (q : Request) (cur : ℕ) (r : List ℕ) (bs : List Bool) → max cur lo ≤ a → a ≤ c + 1 → cur ≤ s .end / g
               → AllIn (alike r f true) (max cur lo) a → AllIn (alike r f false) a (c + 1) → Skips r cur (s ∷ ss) → length r ≡ mapWords g es
               → Match k (follow (from q r k cur) bs) (wholeSpan o g n a (c + 1) bs r f next))
@@ -404,10 +407,10 @@ unfolding allOf allRefusal wholeAll Skips
 all-at tail f r q al ig bs z ord =
     let w : World = world (requestWords q ++ tail) r f in
     let g : ℕ = getD tail 1 0 in
-    let a = passed (eqb (length (requestWords q ++ tail)) 108) 3 _ z in
-    let b = passed (eqb (q .kind) 0) 18 _ (a .1) in
+    let a = passed (eqb (length (requestWords q ++ tail)) registrarLen) 3 _ z in
+    let b = passed (eqb (q .kind) kind.none) 18 _ (a .1) in
     let d = passed (lengthsFit g (entriesIn (w .state)) r f) 3 _ (b .1) in
-    let l : length (requestWords q ++ tail) ≡ 108 = eqb-true _ _ (a .0) in
+    let l : length (requestWords q ++ tail) ≡ registrarLen = eqb-true _ _ (a .0) in
     let rl : length r ≡ mapWords g (entriesIn (w .state)) = eqb-true _ _ (and-left _ _ (d .0)) in
     let fl : length f ≡ mapWords g (entriesIn (w .state)) = eqb-true _ _ (and-right (eqb (length r) (mapWords g (entriesIn (w .state)))) _ (d .0)) in
     rw (eq-eqb (allRefusal w al ig) 0 z)
@@ -417,12 +420,12 @@ all-at tail f r q al ig bs z ord =
 pub all-is-whole : (w : World) (al ig : ℕ) (bs : List Bool) → allRefusal w al ig ≡ 0 → ordered 0 (entriesIn (w .state)) ≡ true
     → Match 0 (follow (allOf w al ig) bs) (wholeAll w al ig bs)
 all-is-whole w al ig bs z ord =
-    let l : length (w .state) ≡ 108 = all-long w (allRefusal w al ig) z al ig refl in
+    let l : length (w .state) ≡ registrarLen = all-long w (allRefusal w al ig) z al ig refl in
     go (w .state) (split-state (w .state) (omega arith)) z ord
   where
-    go : (s : List ℕ) → s ≡ requestWords (requestOf s) ++ drop 9 s → allRefusal (world s (w .registered) (w .failed)) al ig ≡ 0 → ordered 0 (entriesIn s) ≡ true
+    go : (s : List ℕ) → s ≡ requestWords (requestOf s) ++ drop place.afterRequest s → allRefusal (world s (w .registered) (w .failed)) al ig ≡ 0 → ordered 0 (entriesIn s) ≡ true
         → Match 0 (follow (allOf (world s (w .registered) (w .failed)) al ig) bs) (wholeAll (world s (w .registered) (w .failed)) al ig bs)
     go s e z ord =
         subst (λ (t : List ℕ). Match 0 (follow (allOf (world t (w .registered) (w .failed)) al ig) bs) (wholeAll (world t (w .registered) (w .failed)) al ig bs)) (sym e)
-        (all-at (drop 9 s) (w .failed) (w .registered) (requestOf s) al ig bs (subst (λ (t : List ℕ). allRefusal (world t (w .registered) (w .failed)) al ig ≡ 0) e z)
+        (all-at (drop place.afterRequest s) (w .failed) (w .registered) (requestOf s) al ig bs (subst (λ (t : List ℕ). allRefusal (world t (w .registered) (w .failed)) al ig ≡ 0) e z)
         (subst (λ (t : List ℕ). ordered 0 (entriesIn t) ≡ true) e ord))

@@ -3,6 +3,8 @@ use mathlib.Core.Path.{_≡_}
 use mathlib.Core.Bool.{true, false}
 use mathlib.Core.List.{List}
 use Prim.Native.Nat.{ℕ, _≤_, _<_}
+use Rattle.abi.specs.Refusals as refusal
+use Rattle.abi.specs.Lengths.{wordBits}
 use Rattle.bitmap.specs.Pages.{bitAt}
 use Rattle.registrar_steps.specs.Steps.{seen, idle, passes}
 use Rattle.registrar_state.specs.World.{World, Outcome, requestOf, withRequest, granularityOf, entriesIn, marked, takenTo}
@@ -10,41 +12,45 @@ use Rattle.registrar_claims.specs.Runs.{Call, Build, RegisterRange, Regi
 
 -- the registered chunks with those that an answer takes, and the failed chunks with those that it fails
 abbrev pub withTaken : World → Call → List ℕ
-withTaken w (Build ram offset g) = w .registered
-withTaken w (RegisterRange address len) = w .registered
-withTaken w (RegisterAll al ignore) = w .registered
-withTaken w AnswerDone = marked (requestOf (w .state) .from) (takenTo (w .state)) (w .registered)
-withTaken w AnswerFailed = w .registered
+withTaken lent (Build ram offset granularity) = lent .registered
+withTaken lent (RegisterRange address len) = lent .registered
+withTaken lent (RegisterAll alignment ignore) = lent .registered
+withTaken lent AnswerDone = marked (requestOf (lent .state) .from) (takenTo (lent .state)) (lent .registered)
+withTaken lent AnswerFailed = lent .registered
 
 abbrev pub withFailed : World → Call → List ℕ
-withFailed w (Build ram offset g) = w .failed
-withFailed w (RegisterRange address len) = w .failed
-withFailed w (RegisterAll al ignore) = w .failed
-withFailed w AnswerDone = w .failed
-withFailed w AnswerFailed = marked (requestOf (w .state) .from) (requestOf (w .state) .to) (w .failed)
+withFailed lent (Build ram offset granularity) = lent .failed
+withFailed lent (RegisterRange address len) = lent .failed
+withFailed lent (RegisterAll alignment ignore) = lent .failed
+withFailed lent AnswerDone = lent .failed
+withFailed lent AnswerFailed = marked (requestOf (lent .state) .from) (requestOf (lent .state) .to) (lent .failed)
 
--- 22: nothing is asked any more, and what was registered before stays
-pub record Unaligned22 (w : World) (r : List ℕ) (o : Outcome) : Type 0 where
-  pub same-state : o .world .state ≡ withRequest idle (w .state)
-  pub same-registered : o .world .registered ≡ r
-  pub same-failed : o .world .failed ≡ w .failed
+-- nothing is asked any more, and every other word of the state block stays
+abbrev pub IdleState : World → Outcome → Type 0
+IdleState lent o = o .world .state ≡ withRequest idle (lent .state)
 
--- 23: nothing is asked any more, the failed chunks are marked, and before a chunk that failed before those that ask for nothing are passed
-pub record Failed23 (w : World) (r f : List ℕ) (o : Outcome) : Type 0 where
+-- 22: what was registered before stays
+pub record Unaligned22 (lent : World) (registered : List ℕ) (o : Outcome) : Type 0 where
+  pub same-state : IdleState lent o
+  pub same-registered : o .world .registered ≡ registered
+  pub same-failed : o .world .failed ≡ lent .failed
+
+-- 23: the failed chunks are marked, and before a chunk that failed before those that ask for nothing are passed
+pub record Failed23 (lent : World) (registered failed : List ℕ) (o : Outcome) : Type 0 where
   pub from : ℕ
   pub to : ℕ
-  pub same-state : o .world .state ≡ withRequest idle (w .state)
-  pub same-registered : o .world .registered ≡ marked from to r
-  pub passed : (c : ℕ) → from ≤ c → c < to → passes (seen (granularityOf (w .state)) (entriesIn (w .state)) r (w .failed)) c ≡ true
-  pub same-failed : o .world .failed ≡ f
+  pub same-state : IdleState lent o
+  pub same-registered : o .world .registered ≡ marked from to registered
+  pub passed : (chunk : ℕ) → from ≤ chunk → chunk < to → passes (seen (granularityOf (lent .state)) (entriesIn (lent .state)) registered (lent .failed)) chunk ≡ true
+  pub same-failed : o .world .failed ≡ failed
 
 -- every other refusal changes nothing
-pub record Kept (w : World) (r f : List ℕ) (o : Outcome) : Type 0 where
-  pub refused : notRefused (o .reply .number) ≡ false → o .world ≡ w
-  pub unaligned : o .reply .number ≡ 22 → Unaligned22 w r o
-  pub failed : o .reply .number ≡ 23 → Failed23 w r f o
+pub record Kept (lent : World) (registered marked-failed : List ℕ) (o : Outcome) : Type 0 where
+  pub refused : notRefused (o .reply .number) ≡ false → o .world ≡ lent
+  pub unaligned : o .reply .number ≡ refusal.unalignedMemory → Unaligned22 lent registered o
+  pub failed : o .reply .number ≡ refusal.registrationFailed → Failed23 lent registered marked-failed o
 
 -- a chunk that is marked registered or failed stays so
 abbrev pub Stays : World → ℕ → Outcome → Type 0
-Stays w c o =
-    (bitAt 64 (w .registered) c ≡ true → bitAt 64 (o .world .registered) c ≡ true) × (bitAt 64 (w .failed) c ≡ true → bitAt 64 (o .world .failed) c ≡ true)
+Stays lent chunk o =
+    (bitAt wordBits (lent .registered) chunk ≡ true → bitAt wordBits (o .world .registered) chunk ≡ true) × (bitAt wordBits (lent .failed) chunk ≡ true → bitAt wordBits (o .world .failed) chunk ≡ true)

@@ -5,6 +5,8 @@ use mathlib.Core.List.{List}
 use Prim.Native.Nat.{ℕ, _+_, _/_, _%_, _^_, _≤_, _<_}
 use lib.Dec.{leb}
 use lib.ListN.{length}
+use Rattle.abi.specs.Refusals as refusal
+use Rattle.abi.specs.Lengths.{registrarLen, wordBits}
 use Rattle.bitmap.specs.Pages.{bitAt}
 use Rattle.layout.specs.Layout.{range, entriesOf}
 use Rattle.chunks.specs.Chunks.{up, chunkCount, mapWords, firstChunk, endChunk, isPower}
@@ -22,13 +24,13 @@ use Rattle.registrar_claims.specs.Entries.{Unasked}
 
 -- widened to pages and then to chunks, the request touches no chunk past the last
 abbrev pub isWithin : Settings → ℕ → ℕ → Bool
-isWithin b address len =
-    let end : ℕ = endChunk (b .granularity) address len in
-    leb end (firstChunk (b .granularity) address) || leb end (chunkCount (b .granularity) (entriesOf (b .ram)))
+isWithin settings address len =
+    let end : ℕ = endChunk (settings .granularity) address len in
+    leb end (firstChunk (settings .granularity) address) || leb end (chunkCount (settings .granularity) (entriesOf (settings .ram)))
 
 -- edges are ignored or not, and the alignment is a power of two from the granularity on
 abbrev pub isAligned : Settings → ℕ → ℕ → Bool
-isAligned b al ignore = leb ignore 1 && (leb (b .granularity) al && isPower al)
+isAligned settings alignment ignore = leb ignore 1 && (leb (settings .granularity) alignment && isPower alignment)
 
 -- a registrar v that was built so, and that awaits an answer or not
 pub record Stands (v : World) (b : Settings) (awaits : Bool) : Type 0 where
@@ -37,13 +39,13 @@ pub record Stands (v : World) (b : Settings) (awaits : Bool) : Type 0 where
   pub same-granularity : granularityOf (v .state) ≡ b .granularity
   pub same-ram : ramOf (v .state) ≡ b .ram
   -- all that is lent has the length that the build asked for
-  pub state-length : length (v .state) ≡ 108
+  pub state-length : length (v .state) ≡ registrarLen
   pub registered-length : length (v .registered) ≡ mapWords (b .granularity) (entriesOf (b .ram))
   pub failed-length : length (v .failed) ≡ mapWords (b .granularity) (entriesOf (b .ram))
   -- an answer that is awaited is taken, done or failed; any other is refused by 21
   pub told : underWay v ≡ awaits
   pub answer-taken : awaits ≡ true → (isTaken (doneOf v) ≡ true) × (isTaken (failedOf v) ≡ true)
-  pub answer-refused : awaits ≡ false → (doneOf v ≡ record { world = v; reply = flatOf (Refused 21) }) × (failedOf v ≡ record { world = v; reply = flatOf (Refused 21) })
+  pub answer-refused : awaits ≡ false → (doneOf v ≡ record { world = v; reply = flatOf (Refused refusal.nothingAsked) }) × (failedOf v ≡ record { world = v; reply = flatOf (Refused refusal.nothingAsked) })
   -- where none is awaited a request within the limits is taken
   pub register-taken : awaits ≡ false → (address len : ℕ) → isWithin b address len ≡ true → isTaken (registerOf v address len) ≡ true
   pub all-taken : awaits ≡ false → (al ignore : ℕ) → isAligned b al ignore ≡ true → isTaken (allOf v al ignore) ≡ true
@@ -51,43 +53,43 @@ pub record Stands (v : World) (b : Settings) (awaits : Bool) : Type 0 where
 -- ---- a call that is taken is, under any answers, the whole call as 01 writes it
 
 abbrev pub RegisterWhole : World → Type 0
-RegisterWhole v = (address len : ℕ) (bs : List Bool) → registerRefusal v address len ≡ 0 → Match 0 (follow (registerOf v address len) bs) (wholeRegister v address len bs)
+RegisterWhole lent = (address len : ℕ) (answers : List Bool) → registerRefusal lent address len ≡ 0 → Match 0 (follow (registerOf lent address len) answers) (wholeRegister lent address len answers)
 
 abbrev pub AllWhole : World → Type 0
-AllWhole v = (al ignore : ℕ) (bs : List Bool) → allRefusal v al ignore ≡ 0 → Match 0 (follow (allOf v al ignore) bs) (wholeAll v al ignore bs)
+AllWhole lent = (alignment ignore : ℕ) (answers : List Bool) → allRefusal lent alignment ignore ≡ 0 → Match 0 (follow (allOf lent alignment ignore) answers) (wholeAll lent alignment ignore answers)
 
 -- a request whose chunks are all registered is Ok, asks for nothing and changes no word
 abbrev pub RegisteredKept : World → Type 0
-RegisteredKept v =
-    (address len : ℕ) → registerRefusal v address len ≡ 0
-    → ((c : ℕ) → firstChunk (granularityOf (v .state)) address ≤ c → c < endChunk (granularityOf (v .state)) address len → bitAt 64 (v .registered) c ≡ true)
-    → registerOf v address len ≡ record { world = v; reply = flatOf (Done 0) }
+RegisteredKept lent =
+    (address len : ℕ) → registerRefusal lent address len ≡ 0
+    → ((chunk : ℕ) → firstChunk (granularityOf (lent .state)) address ≤ chunk → chunk < endChunk (granularityOf (lent .state)) address len → bitAt wordBits (lent .registered) chunk ≡ true)
+    → registerOf lent address len ≡ record { world = lent; reply = flatOf (Done 0) }
 
 -- the chunks that a request touches, widened to pages or not, are those of its bytes
 abbrev pub ChunksPlain : World → Type 0
-ChunksPlain v =
-    let g : ℕ = granularityOf (v .state) in
-    (address len : ℕ) → (firstChunk g address ≡ address / g) × (endChunk g address len ≡ up (address + len) g)
+ChunksPlain lent =
+    let granularity : ℕ = granularityOf (lent .state) in
+    (address len : ℕ) → (firstChunk granularity address ≡ address / granularity) × (endChunk granularity address len ≡ up (address + len) granularity)
 
 -- what is asked for lies at offset + address, and no number wraps
 abbrev pub AskedPlain : World → Type 0
-AskedPlain v =
-    let o : ℕ = offsetOf (v .state) in
-    let q : Request = requestOf (v .state) in
-    askedOf o q ≡ Register (range (o + q .start) (o + q .end))
+AskedPlain lent =
+    let offset : ℕ = offsetOf (lent .state) in
+    let request : Request = requestOf (lent .state) in
+    askedOf offset request ≡ Register (range (offset + request .start) (offset + request .end))
 
 -- ---- of any words that are lent
 
 -- a refusal leaves every lent word as given, save what 22 and 23 name; what is marked stays marked until a build
 abbrev pub RefusalsKeep : World → Type 0
-RefusalsKeep w = (x : Call) → Kept w (withTaken w x) (withFailed w x) (give w x)
+RefusalsKeep lent = (call : Call) → Kept lent (withTaken lent call) (withFailed lent call) (give lent call)
 
 abbrev pub MarksStay : World → Type 0
-MarksStay w = (x : Call) (c : ℕ) → isBuild x ≡ false → Stays w c (give w x)
+MarksStay lent = (call : Call) (chunk : ℕ) → isBuild call ≡ false → Stays lent chunk (give lent call)
 
 -- a call that has ended, with Ok, 22 or 23, tells how many operations it asked for, in 64 bits
 abbrev pub Counts : Told → Type 0
-Counts t = t .last .reply .asked ≡ 0 → isTaken (t .last) ≡ true → t .last .reply .count ≡ length (t .asked) % 2 ^ 64
+Counts told = told .last .reply .asked ≡ 0 → isTaken (told .last) ≡ true → told .last .reply .count ≡ length (told .asked) % 2 ^ 64
 
 -- ---- all of it
 

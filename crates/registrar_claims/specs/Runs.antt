@@ -3,6 +3,8 @@ use mathlib.Core.Bool.{Bool, true, false, not, cond, _||_, _&&_}
 use mathlib.Core.List.{List, [], _∷_}
 use Prim.Native.Nat.{ℕ, suc, _+_, _-_, _*_, _^_}
 use lib.Dec.{eqb}
+use Rattle.abi.specs.Refusals as refusal
+use Rattle.abi.specs.Kinds as kind
 use Rattle.laws.specs.Bools.{digit}
 use Rattle.layout.specs.declared.MemoryRange.{MemoryRange}
 use Rattle.layout.specs.Layout.{range}
@@ -18,70 +20,70 @@ pub data Call : Type 0 where
   AnswerFailed : Call
 
 unfoldable pub give : World → Call → Outcome
-give w (Build ram offset g) = buildOf w ram offset g
-give w (RegisterRange address len) = registerOf w address len
-give w (RegisterAll al ignore) = allOf w al ignore
-give w AnswerDone = doneOf w
-give w AnswerFailed = failedOf w
+give lent (Build ram offset granularity) = buildOf lent ram offset granularity
+give lent (RegisterRange address len) = registerOf lent address len
+give lent (RegisterAll alignment ignore) = allOf lent alignment ignore
+give lent AnswerDone = doneOf lent
+give lent AnswerFailed = failedOf lent
 
 abbrev pub isBuild : Call → Bool
-isBuild (Build ram offset g) = true
+isBuild (Build ram offset granularity) = true
 isBuild (RegisterRange address len) = false
-isBuild (RegisterAll al ignore) = false
+isBuild (RegisterAll alignment ignore) = false
 isBuild AnswerDone = false
 isBuild AnswerFailed = false
 
 -- Ok or an operation asked for, 22, 23: every other number is a refusal that changes nothing
 abbrev pub notRefused : ℕ → Bool
-notRefused n = eqb n 0 || (eqb n 22 || eqb n 23)
+notRefused number = eqb number 0 || (eqb number refusal.unalignedMemory || eqb number refusal.registrationFailed)
 
 abbrev pub isTaken : Outcome → Bool
 isTaken o = notRefused (o .reply .number)
 
 -- something is asked for
 abbrev pub underWay : World → Bool
-underWay w = not (eqb (requestOf (w .state) .kind) 0)
+underWay lent = not (eqb (requestOf (lent .state) .kind) kind.none)
 
 -- the number that every taken answer lowers: 0 where nothing is asked
 abbrev pub leftOf : Request → ℕ
-leftOf q = cond (eqb (q .kind) 0) 0 (suc ((2 ^ 64 - q .to) * 2 ^ 65 + (2 ^ 64 - q .end)))
+leftOf request = cond (eqb (request .kind) kind.none) 0 (suc ((2 ^ 64 - request .to) * 2 ^ 65 + (2 ^ 64 - request .end)))
 
 abbrev pub left : World → ℕ
-left w = leftOf (requestOf (w .state))
+left lent = leftOf (requestOf (lent .state))
 
 -- ---- a list of calls: the world after them, and how many of them are taken
 
 unfoldable pub after : World → List Call → World
-after w [] = w
-after w (x ∷ xs) = after (give w x .world) xs
+after lent [] = lent
+after lent (call ∷ calls) = after (give lent call .world) calls
 
 unfoldable pub takenIn : World → List Call → ℕ
-takenIn w [] = 0
-takenIn w (x ∷ xs) = digit (isTaken (give w x)) + takenIn (give w x .world) xs
+takenIn lent [] = 0
+takenIn lent (call ∷ calls) = digit (isTaken (give lent call)) + takenIn (give lent call .world) calls
 
 abbrev pub isAnswer : Call → Bool
-isAnswer (Build ram offset g) = false
+isAnswer (Build ram offset granularity) = false
 isAnswer (RegisterRange address len) = false
-isAnswer (RegisterAll al ignore) = false
+isAnswer (RegisterAll alignment ignore) = false
 isAnswer AnswerDone = true
 isAnswer AnswerFailed = true
 
 -- whether no other call than an answer is taken
 unfoldable pub onlyAnswers : World → List Call → Bool
-onlyAnswers w [] = true
-onlyAnswers w (x ∷ xs) = (isAnswer x || not (isTaken (give w x))) && onlyAnswers (give w x .world) xs
+onlyAnswers lent [] = true
+onlyAnswers lent (call ∷ calls) = (isAnswer call || not (isTaken (give lent call))) && onlyAnswers (give lent call .world) calls
 
 -- how many of the calls are answers
 unfoldable pub answersIn : List Call → ℕ
 answersIn [] = 0
-answersIn (x ∷ xs) = digit (isAnswer x) + answersIn xs
+answersIn (call ∷ calls) = digit (isAnswer call) + answersIn calls
 
 -- ---- what is told of a list of calls from outside
 
 -- whether an answer is awaited, by the replies: a call that is taken tells it, a refused one leaves it as it was
 unfoldable pub awaitsAfter : World → Bool → List Call → Bool
-awaitsAfter w b [] = b
-awaitsAfter w b (x ∷ xs) = awaitsAfter (give w x .world) (cond (isTaken (give w x)) (eqb (give w x .reply .asked) 1) b) xs
+awaitsAfter lent awaits [] = awaits
+awaitsAfter lent awaits (call ∷ calls) = awaitsAfter (give lent call .world) (cond (isTaken (give lent call)) (eqb (give lent call .reply .asked) 1) awaits) calls
 
 -- what a registrar was built with: by the last build that was taken
 pub record Settings : Type 0 where
@@ -90,23 +92,23 @@ pub record Settings : Type 0 where
   pub granularity : ℕ
 
 abbrev pub builtWith : List ℕ → ℕ → ℕ → Settings
-builtWith ram offset g = record { ram = ram; offset = offset; granularity = g }
+builtWith ram offset granularity = record { ram = ram; offset = offset; granularity = granularity }
 
 abbrev pub settingsBy : Settings → Call → Settings
-settingsBy b (Build ram offset g) = builtWith ram offset g
-settingsBy b (RegisterRange address len) = b
-settingsBy b (RegisterAll al ignore) = b
-settingsBy b AnswerDone = b
-settingsBy b AnswerFailed = b
+settingsBy settings (Build ram offset granularity) = builtWith ram offset granularity
+settingsBy settings (RegisterRange address len) = settings
+settingsBy settings (RegisterAll alignment ignore) = settings
+settingsBy settings AnswerDone = settings
+settingsBy settings AnswerFailed = settings
 
 unfoldable pub settingsAfter : World → Settings → List Call → Settings
-settingsAfter w b [] = b
-settingsAfter w b (x ∷ xs) = settingsAfter (give w x .world) (cond (isTaken (give w x)) (settingsBy b x) b) xs
+settingsAfter lent settings [] = settings
+settingsAfter lent settings (call ∷ calls) = settingsAfter (give lent call .world) (cond (isTaken (give lent call)) (settingsBy settings call) settings) calls
 
 -- whether no call of a list is a build
 unfoldable pub quiet : List Call → Bool
 quiet [] = true
-quiet (x ∷ xs) = not (isBuild x) && quiet xs
+quiet (call ∷ calls) = not (isBuild call) && quiet calls
 
 -- ---- a whole call under a list of answers, done or not: the ranges that it asks for, and what it gives last
 
@@ -115,14 +117,14 @@ pub record Told : Type 0 where
   pub last : Outcome
 
 abbrev pub answerOf : Bool → World → Outcome
-answerOf b w = cond b (doneOf w) (failedOf w)
+answerOf done lent = cond done (doneOf lent) (failedOf lent)
 
 abbrev pub before : MemoryRange → Told → Told
-before r t = record { asked = r ∷ t .asked; last = t .last }
+before r told = record { asked = r ∷ told .asked; last = told .last }
 
 abbrev pub asksFor : Outcome → MemoryRange
 asksFor o = range (o .reply .start) (o .reply .end)
 
 unfoldable pub follow : Outcome → List Bool → Told
 follow o [] = record { asked = cond (eqb (o .reply .asked) 1) (asksFor o ∷ []) []; last = o }
-follow o (b ∷ bs) = cond (eqb (o .reply .asked) 1) (before (asksFor o) (follow (answerOf b (o .world)) bs)) (record { asked = []; last = o })
+follow o (done ∷ answers) = cond (eqb (o .reply .asked) 1) (before (asksFor o) (follow (answerOf done (o .world)) answers)) (record { asked = []; last = o })

@@ -5,6 +5,7 @@ use mathlib.Core.List.{List, [], _∷_}
 use Prim.Native.Nat.{ℕ, zero, suc, _+_, _-_, _*_, _/_, _%_, _^_, _<_}
 use lib.Dec.{eqb, ltb}
 use lib.ListN.{length, getD}
+use Rattle.abi.specs.Lengths.{wordBits}
 use Rattle.bitmap.specs.Pages.{bitAt}
 use Rattle.layout.specs.declared.MemoryRange.{MemoryRange}
 use Rattle.layout.specs.declared.MemoryRangeWithNode.{MemoryRangeWithNode}
@@ -32,74 +33,76 @@ pub record Whole : Type 0 where
   pub stand : Stand
 
 abbrev pub ended : List ℕ → List ℕ → Stand → Whole
-ended r f x = record { asked = []; registered = r; failed = f; stand = x }
+ended registered failed stand = record { asked = []; registered = registered; failed = failed; stand = stand }
 
 -- a range is offered at offset + address
 abbrev pub offered : ℕ → MemoryRange → MemoryRange
-offered o p = range ((o + p .start) % 2 ^ 64) ((o + p .end) % 2 ^ 64)
+offered offset piece = range ((offset + piece .start) % 2 ^ 64) ((offset + piece .end) % 2 ^ 64)
 
 abbrev pub asking : ℕ → MemoryRange → Whole → Whole
-asking o p t = record { asked = offered o p ∷ t .asked; registered = t .registered; failed = t .failed; stand = t .stand }
+asking offset piece whole = record { asked = offered offset piece ∷ whole .asked; registered = whole .registered; failed = whole .failed; stand = whole .stand }
 
--- the RAM of chunk c, one range a span: a failure marks the chunk failed and tells where the range starts; else the call goes on
+-- the RAM of a chunk, one range a span: a failure marks the chunk failed and tells where the range starts; else the call goes on
 unfoldable pub offer : ℕ → ℕ → List MemoryRange → List Bool → List ℕ → List ℕ → (List Bool → Whole) → Whole
-offer o c [] bs r f next = next bs
-offer o c (p ∷ ps) [] r f next = asking o p (ended r f Waits)
-offer o c (p ∷ ps) (true ∷ bs) r f next = asking o p (offer o c ps bs r f next)
-offer o c (p ∷ ps) (false ∷ bs) r f next = asking o p (ended r (marked c (c + 1) f) (FailedAt (p .start)))
+offer offset chunk [] answers registered failed next = next answers
+offer offset chunk (piece ∷ later) [] registered failed next = asking offset piece (ended registered failed Waits)
+offer offset chunk (piece ∷ later) (true ∷ answers) registered failed next = asking offset piece (offer offset chunk later answers registered failed next)
+offer offset chunk (piece ∷ later) (false ∷ answers) registered failed next = asking offset piece (ended registered (marked chunk (chunk + 1) failed) (FailedAt (piece .start)))
 
--- n chunks from c on: one registered is skipped, one that failed before ends the call, else its RAM is offered and it becomes registered
+-- n chunks from this one on: one registered is skipped, one that failed before ends the call, else its RAM is offered and it becomes registered
 unfoldable pub wholeChunks : ℕ → ℕ → List MemoryRange → ℕ → ℕ → List ℕ → List ℕ → List Bool → Whole
-wholeChunks o g rs zero c r f bs = ended r f Ok
-wholeChunks o g rs (suc n) c r f bs =
-    cond (bitAt 64 r c) (wholeChunks o g rs n (c + 1) r f bs)
-    (cond (bitAt 64 f c) (ended r f (FailedAt (c * g)))
-    (offer o c (pieces (c * g) ((c + 1) * g) rs) bs r f (λ bs. wholeChunks o g rs n (c + 1) (marked c (c + 1) r) f bs)))
+wholeChunks offset granularity ram zero chunk registered failed answers = ended registered failed Ok
+wholeChunks offset granularity ram (suc n) chunk registered failed answers =
+    cond (bitAt wordBits registered chunk) (wholeChunks offset granularity ram n (chunk + 1) registered failed answers)
+    (cond (bitAt wordBits failed chunk) (ended registered failed (FailedAt (chunk * granularity)))
+    (offer offset chunk (pieces (chunk * granularity) ((chunk + 1) * granularity) ram) answers registered failed (λ answers. wholeChunks offset granularity ram n (chunk + 1) (marked chunk (chunk + 1) registered) failed answers)))
 
 unfoldable pub wholeRegister : World → ℕ → ℕ → List Bool → Whole
-wholeRegister w address len bs =
-    let g : ℕ = granularityOf (w .state) in
-    wholeChunks (offsetOf (w .state)) g (spans (entriesIn (w .state))) (endChunk g address len - firstChunk g address) (firstChunk g address) (w .registered) (w .failed) bs
+wholeRegister lent address len answers =
+    let granularity : ℕ = granularityOf (lent .state) in
+    wholeChunks (offsetOf (lent .state)) granularity (spans (entriesIn (lent .state))) (endChunk granularity address len - firstChunk granularity address) (firstChunk granularity address) (lent .registered) (lent .failed) answers
 
 -- ---- register_all_aligned
 
--- the chunks from a to before b are one range: done marks them registered, a failure marks them failed
+-- the chunks from `from` to before `to` are one range: done marks them registered, a failure marks them failed
 unfoldable pub offerStretch : ℕ → ℕ → ℕ → ℕ → List Bool → List ℕ → List ℕ → (List Bool → List ℕ → Whole) → Whole
-offerStretch o g a b [] r f next = asking o (range (a * g) (b * g)) (ended r f Waits)
-offerStretch o g a b (true ∷ bs) r f next = asking o (range (a * g) (b * g)) (next bs (marked a b r))
-offerStretch o g a b (false ∷ bs) r f next = asking o (range (a * g) (b * g)) (ended r (marked a b f) (FailedAt (a * g)))
+offerStretch offset granularity from to [] registered failed next = asking offset (range (from * granularity) (to * granularity)) (ended registered failed Waits)
+offerStretch offset granularity from to (true ∷ answers) registered failed next = asking offset (range (from * granularity) (to * granularity)) (next answers (marked from to registered))
+offerStretch offset granularity from to (false ∷ answers) registered failed next = asking offset (range (from * granularity) (to * granularity)) (ended registered (marked from to failed) (FailedAt (from * granularity)))
 
--- n chunks of an aligned part from c on; those from a to before c are a stretch, neither registered nor offered so far. A chunk that failed earlier ends the call
+-- n chunks of an aligned part from this one on; those from `from` to before it are a stretch, neither registered nor offered so far. A chunk that failed earlier ends the call
 -- with that stretch left out; a registered chunk closes it, and so does the end of the part
 unfoldable pub wholeSpan : ℕ → ℕ → ℕ → ℕ → ℕ → List Bool → List ℕ → List ℕ → (List Bool → List ℕ → Whole) → Whole
-wholeSpan o g zero a c bs r f next = cond (ltb a c) (offerStretch o g a c bs r f next) (next bs r)
-wholeSpan o g (suc n) a c bs r f next =
-    cond (bitAt 64 f c) (ended r f (FailedAt (c * g)))
-    (cond (bitAt 64 r c)
-    (cond (ltb a c) (offerStretch o g a c bs r f (λ bs r. wholeSpan o g n (c + 1) (c + 1) bs r f next)) (wholeSpan o g n (c + 1) (c + 1) bs r f next))
-    (wholeSpan o g n a (c + 1) bs r f next))
+wholeSpan offset granularity zero from chunk answers registered failed next = cond (ltb from chunk) (offerStretch offset granularity from chunk answers registered failed next) (next answers registered)
+wholeSpan offset granularity (suc n) from chunk answers registered failed next =
+    cond (bitAt wordBits failed chunk) (ended registered failed (FailedAt (chunk * granularity)))
+    (cond (bitAt wordBits registered chunk)
+    (cond (ltb from chunk)
+    (offerStretch offset granularity from chunk answers registered failed (λ answers registered. wholeSpan offset granularity n (chunk + 1) (chunk + 1) answers registered failed next))
+    (wholeSpan offset granularity n (chunk + 1) (chunk + 1) answers registered failed next))
+    (wholeSpan offset granularity n from (chunk + 1) answers registered failed next))
 
 -- by span: its edge unless edges are ignored, else the stretches of its aligned part
 unfoldable pub wholeSpans : ℕ → ℕ → List MemoryRangeWithNode → ℕ → ℕ → List MemoryRange → List Bool → List ℕ → List ℕ → Whole
-wholeSpans o g es al ignore [] bs r f = ended r f Ok
-wholeSpans o g es al ignore (s ∷ ss) bs r f =
-    let p : MemoryRange = alignedPart al s in
-    cond (eqb ignore 0 && not (empty (edgeOf al s))) (ended r f (UnalignedAt (unalignedAt es al s (edgeOf al s))))
-    (cond (empty p) (wholeSpans o g es al ignore ss bs r f)
-    (wholeSpan o g (p .end / g - p .start / g) (p .start / g) (p .start / g) bs r f (λ bs r. wholeSpans o g es al ignore ss bs r f)))
+wholeSpans offset granularity entries alignment ignore [] answers registered failed = ended registered failed Ok
+wholeSpans offset granularity entries alignment ignore (span ∷ later) answers registered failed =
+    let p : MemoryRange = alignedPart alignment span in
+    cond (eqb ignore 0 && not (empty (edgeOf alignment span))) (ended registered failed (UnalignedAt (unalignedAt entries alignment span (edgeOf alignment span))))
+    (cond (empty p) (wholeSpans offset granularity entries alignment ignore later answers registered failed)
+    (wholeSpan offset granularity (p .end / granularity - p .start / granularity) (p .start / granularity) (p .start / granularity) answers registered failed (λ answers registered. wholeSpans offset granularity entries alignment ignore later answers registered failed)))
 
 unfoldable pub wholeAll : World → ℕ → ℕ → List Bool → Whole
-wholeAll w al ignore bs =
-    wholeSpans (offsetOf (w .state)) (granularityOf (w .state)) (entriesIn (w .state)) al ignore (spans (entriesIn (w .state))) bs (w .registered) (w .failed)
+wholeAll lent alignment ignore answers =
+    wholeSpans (offsetOf (lent .state)) (granularityOf (lent .state)) (entriesIn (lent .state)) alignment ignore (spans (entriesIn (lent .state))) answers (lent .registered) (lent .failed)
 
 -- ---- what the steps of a call tell
 
 -- what a call replies that stands so after n operations
 abbrev pub Says : ℕ → Reply → Stand → Type 0
-Says n r Waits = r .asked ≡ 1
-Says n r Ok = r ≡ flatOf (Done (n % 2 ^ 64))
-Says n r (FailedAt x) = r ≡ flatOf (RegistrationFailed x (n % 2 ^ 64))
-Says n r (UnalignedAt u) = r ≡ flatOf (UnalignedMemory u (n % 2 ^ 64))
+Says count reply Waits = reply .asked ≡ 1
+Says count reply Ok = reply ≡ flatOf (Done (count % 2 ^ 64))
+Says count reply (FailedAt address) = reply ≡ flatOf (RegistrationFailed address (count % 2 ^ 64))
+Says count reply (UnalignedAt unaligned) = reply ≡ flatOf (UnalignedMemory unaligned (count % 2 ^ 64))
 
 -- words of 64 bits
 abbrev pub Words : List ℕ → Type 0

@@ -9,9 +9,14 @@ use lib.Dec.{eqb, leb, ltb}
 use lib.ListN.{length, getD, drop, take, set, length-drop}
 use lib.Seq.{take-all}
 use borrow.Author.Tests.{eqb-true, eq-eqb, ne-eqb, lt-ltb, le-ltb, le-leb, lt-leb, leb-true, ltb-true}
+use Rattle.abi.specs.Kinds as kind
+use Rattle.abi.specs.Refusals as refusal
+use Rattle.abi.specs.RegistrarPlaces as place
+use Rattle.abi.specs.Limits as limit
+use Rattle.abi.specs.Lengths.{pageSize, ramEntryWords, registrarLen, wordBits}
 use Rattle.laws.specs.Bools.{and-left, and-right, and-ends, both-true, or-left}
 use Rattle.laws.specs.Ranges.{between, between-from, between-to}
-use Rattle.laws.specs.Refusal.{unless, passed}
+use Rattle.laws.specs.Refusal.{unless, passed, when-passed}
 use Rattle.bitmap.specs.Pages.{bit, bitAt}
 use Rattle.bitmap.proofs.Map.{already}
 use Rattle.layout.specs.declared.MemoryRange.{MemoryRange}
@@ -29,21 +34,8 @@ use Rattle.registrar_state.specs.World.{World, outcome, requestOf, reque
 
 -- ---- the request's words
 
-module _ (a0 a1 a2 a3 a4 a5 a6 a7 a8 : ℕ) where
-  pub saved : (s : List ℕ) → 9 ≤ length s → set (set (set (set (set (set (set (set (set s 0 a0) 1 a1) 2 a2) 3 a3) 4 a4) 5 a5) 6 a6) 7 a7) 8 a8 ≡ a0 ∷ a1 ∷ a2 ∷ a3 ∷ a4 ∷ a5 ∷ a6 ∷ a7 ∷ a8 ∷ drop 9 s
-  saved [] h = absurd (omega arith)
-  saved (x0 ∷ []) h = absurd (omega arith)
-  saved (x0 ∷ x1 ∷ []) h = absurd (omega arith)
-  saved (x0 ∷ x1 ∷ x2 ∷ []) h = absurd (omega arith)
-  saved (x0 ∷ x1 ∷ x2 ∷ x3 ∷ []) h = absurd (omega arith)
-  saved (x0 ∷ x1 ∷ x2 ∷ x3 ∷ x4 ∷ []) h = absurd (omega arith)
-  saved (x0 ∷ x1 ∷ x2 ∷ x3 ∷ x4 ∷ x5 ∷ []) h = absurd (omega arith)
-  saved (x0 ∷ x1 ∷ x2 ∷ x3 ∷ x4 ∷ x5 ∷ x6 ∷ []) h = absurd (omega arith)
-  saved (x0 ∷ x1 ∷ x2 ∷ x3 ∷ x4 ∷ x5 ∷ x6 ∷ x7 ∷ []) h = absurd (omega arith)
-  saved (x0 ∷ x1 ∷ x2 ∷ x3 ∷ x4 ∷ x5 ∷ x6 ∷ x7 ∷ x8 ∷ s) h = refl
-
 -- a state block of its length is its request's words and the rest
-pub split-state : (s : List ℕ) → 9 ≤ length s → s ≡ requestWords (requestOf s) ++ drop 9 s
+pub split-state : (s : List ℕ) → place.afterRequest ≤ length s → s ≡ requestWords (requestOf s) ++ drop place.afterRequest s
 split-state [] h = absurd (omega arith)
 split-state (x0 ∷ []) h = absurd (omega arith)
 split-state (x0 ∷ x1 ∷ []) h = absurd (omega arith)
@@ -55,14 +47,20 @@ split-state (x0 ∷ x1 ∷ x2 ∷ x3 ∷ x4 ∷ x5 ∷ x6 ∷ []) h = absurd (om
 split-state (x0 ∷ x1 ∷ x2 ∷ x3 ∷ x4 ∷ x5 ∷ x6 ∷ x7 ∷ []) h = absurd (omega arith)
 split-state (x0 ∷ x1 ∷ x2 ∷ x3 ∷ x4 ∷ x5 ∷ x6 ∷ x7 ∷ x8 ∷ s) h = refl
 
+-- so nine words stored are nine words and the rest
+pub saved : (a0 a1 a2 a3 a4 a5 a6 a7 a8 : ℕ) (s : List ℕ) → place.afterRequest ≤ length s
+    → set (set (set (set (set (set (set (set (set s 0 a0) 1 a1) 2 a2) 3 a3) 4 a4) 5 a5) 6 a6) 7 a7) 8 a8 ≡ a0 ∷ a1 ∷ a2 ∷ a3 ∷ a4 ∷ a5 ∷ a6 ∷ a7 ∷ a8 ∷ drop place.afterRequest s
+saved a0 a1 a2 a3 a4 a5 a6 a7 a8 s h =
+    ap (λ (l : List ℕ). set (set (set (set (set (set (set (set (set l 0 a0) 1 a1) 2 a2) 3 a3) 4 a4) 5 a5) 6 a6) 7 a7) 8 a8) (split-state s h)
+
 -- ---- the layout's words
 
-pub ram-is : (s : List ℕ) (n : ℕ) → length s ≡ 108 → n ≡ min (getD s 11 0) 32 → take (12 + 3 * n - 12) (drop 12 s) ≡ ramOf s
-ram-is s n h e = elim (decLt (getD s 11 0) 32) [
-  | yes d ↦ let q : 12 + 3 * n - 12 ≡ 3 * getD s 11 0 = omega arith in ap (λ (k : ℕ). take k (drop 12 s)) q
+pub ram-is : (s : List ℕ) (n : ℕ) → length s ≡ registrarLen → n ≡ min (getD s place.entries 0) limit.ramEntries → take (place.ram + ramEntryWords * n - place.ram) (drop place.ram s) ≡ ramOf s
+ram-is s n h e = elim (decLt (getD s place.entries 0) limit.ramEntries) [
+  | yes d ↦ let q : place.ram + ramEntryWords * n - place.ram ≡ ramEntryWords * getD s place.entries 0 = omega arith in ap (λ (k : ℕ). take k (drop place.ram s)) q
   | no d ↦
-      take-all (12 + 3 * n - 12) (drop 12 s) (omega (arith, length-drop 12 s))
-      ∙ sym (take-all (3 * getD s 11 0) (drop 12 s) (omega (arith, length-drop 12 s)))
+      take-all (place.ram + ramEntryWords * n - place.ram) (drop place.ram s) (omega (arith, length-drop place.ram s))
+      ∙ sym (take-all (ramEntryWords * getD s place.entries 0) (drop place.ram s) (omega (arith, length-drop place.ram s)))
 ]
 
 -- ---- lengths
@@ -70,26 +68,26 @@ ram-is s n h e = elim (decLt (getD s 11 0) 32) [
 module _ (registered failed : List ℕ) (n : ℕ) where
   -- both are of n chunks
   abbrev pub bothOf : ℕ → Bool
-  bothOf n = eqb (length registered) (up n 64) && eqb (length failed) (up n 64)
+  bothOf n = eqb (length registered) (up n wordBits) && eqb (length failed) (up n wordBits)
 
-  pub lengths-both : (k : ℕ) → k ≡ up n 64 → length registered ≡ k → eqb (length failed) k ≡ bothOf n
-  lengths-both k e h = rw (eq-eqb (length registered) (up n 64) (h ∙ e)) (ap (eqb (length failed)) e)
+  pub lengths-both : (k : ℕ) → k ≡ up n wordBits → length registered ≡ k → eqb (length failed) k ≡ bothOf n
+  lengths-both k e h = rw (eq-eqb (length registered) (up n wordBits) (h ∙ e)) (ap (eqb (length failed)) e)
 
-  pub lengths-not : (k : ℕ) → k ≡ up n 64 → (length registered ≡ k → ⊥) → false ≡ bothOf n
-  lengths-not k e h = rw (ne-eqb (length registered) (up n 64) (λ q. h (q ∙ sym e)))
+  pub lengths-not : (k : ℕ) → k ≡ up n wordBits → (length registered ≡ k → ⊥) → false ≡ bothOf n
+  lengths-not k e h = rw (ne-eqb (length registered) (up n wordBits) (λ q. h (q ∙ sym e)))
 
   pub lengths-fit : (g : ℕ) (es : List MemoryRangeWithNode) (t : Bool) → n ≡ chunkCount g es → t ≡ bothOf n → t ≡ lengthsFit g es registered failed
   lengths-fit g es t e q = q ∙ ap bothOf e
 
 -- ---- refusals of a call
 
-more-refused : (a b d : Bool) (n rest : ℕ) → n ≡ unless a 4 (unless b 19 (unless d 4 0)) → (n ≡ 0 → ⊥) → n ≡ unless a 4 (unless b 19 (unless d 4 rest))
+more-refused : (a b d : Bool) (n rest : ℕ) → n ≡ unless a refusal.wrongLength (unless b refusal.busy (unless d refusal.wrongLength 0)) → (n ≡ 0 → ⊥) → n ≡ unless a refusal.wrongLength (unless b refusal.busy (unless d refusal.wrongLength rest))
 more-refused false b d n rest e h = e
 more-refused true false d n rest e h = e
 more-refused true true false n rest e h = e
 more-refused true true true n rest e h = absurd (h e)
 
-none-refused : (a b d : Bool) (n rest : ℕ) → n ≡ unless a 4 (unless b 19 (unless d 4 0)) → n ≡ 0 → (a ≡ true) × (unless a 4 (unless b 19 (unless d 4 rest)) ≡ rest)
+none-refused : (a b d : Bool) (n rest : ℕ) → n ≡ unless a refusal.wrongLength (unless b refusal.busy (unless d refusal.wrongLength 0)) → n ≡ 0 → (a ≡ true) × (unless a refusal.wrongLength (unless b refusal.busy (unless d refusal.wrongLength rest)) ≡ rest)
 none-refused false b d n rest e h = absurd (omega arith)
 none-refused true false d n rest e h = absurd (omega arith)
 none-refused true true false n rest e h = absurd (omega arith)
@@ -97,10 +95,10 @@ none-refused true true true n rest e h = (refl, refl)
 
 module _ (w : World) where
   abbrev long : Bool
-  long = eqb (length (w .state)) 108
+  long = eqb (length (w .state)) registrarLen
 
   abbrev free : Bool
-  free = eqb (requestOf (w .state) .kind) 0
+  free = eqb (requestOf (w .state) .kind) kind.none
 
   abbrev lengths : Bool
   lengths = lengthsFit (granularityOf (w .state)) (entriesIn (w .state)) (w .registered) (w .failed)
@@ -113,7 +111,7 @@ module _ (w : World) where
     pub call-passed : (rest x : ℕ) → n ≡ 0 → x ≡ rest → x ≡ callRefusal w rest
     call-passed rest x h q = q ∙ sym (none-refused long free lengths n rest e h .1)
 
-    pub call-long : n ≡ 0 → length (w .state) ≡ 108
+    pub call-long : n ≡ 0 → length (w .state) ≡ registrarLen
     call-long h = eqb-true _ _ (none-refused long free lengths n 0 e h .0)
 
 module _ (first end n : ℕ) where
@@ -129,68 +127,70 @@ module _ (first end n : ℕ) where
 -- ---- refusals of a build
 
 module _ (w : World) (ram : List ℕ) (o g n : ℕ) (e : n ≡ refusalOf ram) where
-  pub build-unfit : n ≡ 1 → 1 ≡ buildRefusal w ram o g
+  pub build-unfit : n ≡ refusal.unfitLayout → refusal.unfitLayout ≡ buildRefusal w ram o g
   unfolding buildRefusal
-  build-unfit h = rw (eq-eqb (refusalOf ram) 1 (sym e ∙ h))
+  build-unfit h = rw (eq-eqb (refusalOf ram) refusal.unfitLayout (sym e ∙ h))
 
-  module _ (a : n ≡ 1 → ⊥) where
-    pub build-ragged : (o % 4096 ≡ 0 → ⊥) → 1 ≡ buildRefusal w ram o g
+  module _ (a : n ≡ refusal.unfitLayout → ⊥) where
+    pub build-ragged : (o % pageSize ≡ 0 → ⊥) → refusal.unfitLayout ≡ buildRefusal w ram o g
     unfolding buildRefusal
-    build-ragged h = rw (ne-eqb (refusalOf ram) 1 (λ q. a (e ∙ q)), ne-eqb (o % 4096) 0 h)
+    build-ragged h = rw (ne-eqb (refusalOf ram) refusal.unfitLayout (λ q. a (e ∙ q)), ne-eqb (o % pageSize) 0 h)
 
-    module _ (b : o % 4096 ≡ 0) where
-      pub build-high : 2 ^ 64 ≤ o + lastEnd (entriesOf ram) → 1 ≡ buildRefusal w ram o g
+    module _ (b : o % pageSize ≡ 0) where
+      pub build-high : 2 ^ 64 ≤ o + lastEnd (entriesOf ram) → refusal.unfitLayout ≡ buildRefusal w ram o g
       unfolding buildRefusal
-      build-high h = rw (ne-eqb (refusalOf ram) 1 (λ q. a (e ∙ q)), eq-eqb (o % 4096) 0 b, le-ltb (o + lastEnd (entriesOf ram)) (2 ^ 64) h)
+      build-high h = rw (ne-eqb (refusalOf ram) refusal.unfitLayout (λ q. a (e ∙ q)), eq-eqb (o % pageSize) 0 b, le-ltb (o + lastEnd (entriesOf ram)) (2 ^ 64) h)
 
       module _ (d : o + lastEnd (entriesOf ram) < 2 ^ 64) where
-        pub build-edge : (n ≡ 0 → ⊥) → 2 ≡ buildRefusal w ram o g
+        pub build-edge : (n ≡ 0 → ⊥) → refusal.badAlignment ≡ buildRefusal w ram o g
         unfolding buildRefusal
         build-edge h =
-            rw (ne-eqb (refusalOf ram) 1 (λ q. a (e ∙ q)), eq-eqb (o % 4096) 0 b, lt-ltb (o + lastEnd (entriesOf ram)) (2 ^ 64) d, ne-eqb (refusalOf ram) 0 (λ q. h (e ∙ q)))
+            rw (ne-eqb (refusalOf ram) refusal.unfitLayout (λ q. a (e ∙ q)), eq-eqb (o % pageSize) 0 b, lt-ltb (o + lastEnd (entriesOf ram)) (2 ^ 64) d, ne-eqb (refusalOf ram) 0 (λ q. h (e ∙ q)))
 
         module _ (f : n ≡ 0) where
           -- what is tested last
           left : ℕ
-          left = unless (eqb (length (w .state)) 108) 4 (unless (leb 4096 g && isPower g) 9 (unless (lengthsFit g (entriesOf ram) (w .registered) (w .failed)) 4 0))
+          left =
+              unless (eqb (length (w .state)) registrarLen) refusal.wrongLength
+              (unless (leb pageSize g && isPower g) refusal.unfitChunk (unless (lengthsFit g (entriesOf ram) (w .registered) (w .failed)) refusal.wrongLength 0))
 
           build-left : left ≡ buildRefusal w ram o g
           unfolding buildRefusal left
           build-left =
-              rw (ne-eqb (refusalOf ram) 1 (λ q. a (e ∙ q)), eq-eqb (o % 4096) 0 b, lt-ltb (o + lastEnd (entriesOf ram)) (2 ^ 64) d, eq-eqb (refusalOf ram) 0 (sym e ∙ f))
+              rw (ne-eqb (refusalOf ram) refusal.unfitLayout (λ q. a (e ∙ q)), eq-eqb (o % pageSize) 0 b, lt-ltb (o + lastEnd (entriesOf ram)) (2 ^ 64) d, eq-eqb (refusalOf ram) 0 (sym e ∙ f))
 
-          pub build-state : (length (w .state) ≡ 108 → ⊥) → 4 ≡ buildRefusal w ram o g
+          pub build-state : (length (w .state) ≡ registrarLen → ⊥) → refusal.wrongLength ≡ buildRefusal w ram o g
           unfolding left
-          build-state h = sym (rw (ne-eqb (length (w .state)) 108 h)) ∙ build-left
+          build-state h = sym (rw (ne-eqb (length (w .state)) registrarLen h)) ∙ build-left
 
-          module _ (i : length (w .state) ≡ 108) where
-            pub build-power : (leb 4096 g && isPower g) ≡ false → 9 ≡ buildRefusal w ram o g
+          module _ (i : length (w .state) ≡ registrarLen) where
+            pub build-power : (leb pageSize g && isPower g) ≡ false → refusal.unfitChunk ≡ buildRefusal w ram o g
             unfolding left
-            build-power h = sym (rw (eq-eqb (length (w .state)) 108 i, h)) ∙ build-left
+            build-power h = sym (rw (eq-eqb (length (w .state)) registrarLen i, h)) ∙ build-left
 
-            pub build-last : (leb 4096 g && isPower g) ≡ true → unless (lengthsFit g (entriesOf ram) (w .registered) (w .failed)) 4 0 ≡ buildRefusal w ram o g
+            pub build-last : (leb pageSize g && isPower g) ≡ true → unless (lengthsFit g (entriesOf ram) (w .registered) (w .failed)) refusal.wrongLength 0 ≡ buildRefusal w ram o g
             unfolding left
-            build-last h = sym (rw (eq-eqb (length (w .state)) 108 i, h)) ∙ build-left
+            build-last h = sym (rw (eq-eqb (length (w .state)) registrarLen i, h)) ∙ build-left
 
 -- what a build that is taken was given
 pub record BuildFits (w : World) (ram : List ℕ) (o g : ℕ) : Type 0 where
   pub layout : refusalOf ram ≡ 0
   pub room : o + lastEnd (entriesOf ram) < 2 ^ 64
-  pub block : length (w .state) ≡ 108
-  pub fine : leb 4096 g ≡ true
+  pub block : length (w .state) ≡ registrarLen
+  pub fine : leb pageSize g ≡ true
   pub power : isPower g ≡ true
   pub lengths : lengthsFit g (entriesOf ram) (w .registered) (w .failed) ≡ true
 
 pub build-fits : (w : World) (ram : List ℕ) (o g : ℕ) → buildRefusal w ram o g ≡ 0 → BuildFits w ram o g
 unfolding buildRefusal
 build-fits w ram o g z =
-    let a = passed (not (eqb (refusalOf ram) 1)) 0 _ z in
-    let b = passed (eqb (o % 4096) 0) 0 _ (a .1) in
+    let a = when-passed (eqb (refusalOf ram) refusal.unfitLayout) 0 _ z in
+    let b = passed (eqb (o % pageSize) 0) 0 _ (a .1) in
     let c = passed (ltb (o + lastEnd (entriesOf ram)) (2 ^ 64)) 0 _ (b .1) in
     let d = passed (eqb (refusalOf ram) 0) 1 _ (c .1) in
-    let e = passed (eqb (length (w .state)) 108) 3 _ (d .1) in
-    let f = passed (leb 4096 g && isPower g) 8 _ (e .1) in
-    let p = both-true (leb 4096 g) (isPower g) (f .0) in
+    let e = passed (eqb (length (w .state)) registrarLen) 3 _ (d .1) in
+    let f = passed (leb pageSize g && isPower g) 8 _ (e .1) in
+    let p = both-true (leb pageSize g) (isPower g) (f .0) in
     let l = passed (lengthsFit g (entriesOf ram) (w .registered) (w .failed)) 3 _ (f .1) in
     record { layout = eqb-true _ _ (d .0); room = ltb-true (o + lastEnd (entriesOf ram)) (2 ^ 64) (c .0); block = eqb-true _ _ (e .0); fine = p .0; power = p .1; lengths = l .0 }
 
@@ -207,21 +207,21 @@ module _ (w : World) (ram : List ℕ) (e : ram ≡ ramOf (w .state)) where
       → p ≡ allFrom (seenIn w) (offsetOf (w .state)) n al ignore c (spans (entriesIn (w .state)))
   all-planned p n al ignore c q = q ∙ ap (λ (r : List ℕ). allFrom (seenOver r) (offsetOf (w .state)) n al ignore c (spans (entriesOf r))) e
 
-pub rest-is : (s ram : List ℕ) (r : MemoryRange) → ram ≡ ramOf s → r ≡ ramFrom (granularityOf s) (entriesOf ram) (getD s 2 0) (getD s 5 0) → r ≡ restOf s
-rest-is s ram r h f = f ∙ ap (λ (l : List ℕ). ramFrom (granularityOf s) (entriesOf l) (getD s 2 0) (getD s 5 0)) h
+pub rest-is : (s ram : List ℕ) (r : MemoryRange) → ram ≡ ramOf s → r ≡ ramFrom (granularityOf s) (entriesOf ram) (getD s place.from 0) (getD s place.end 0) → r ≡ restOf s
+rest-is s ram r h f = f ∙ ap (λ (l : List ℕ). ramFrom (granularityOf s) (entriesOf l) (getD s place.from 0) (getD s place.end 0)) h
 
 -- the count, of the layout's words
 pub count-is : (s ram : List ℕ) (n : ℕ) → ram ≡ ramOf s → n ≡ chunkCount (granularityOf s) (entriesOf ram) → n ≡ chunkCount (granularityOf s) (entriesIn s)
 count-is s ram n h e = e ∙ ap (λ (l : List ℕ). chunkCount (granularityOf s) (entriesOf l)) h
 
-pub count-in : (s : List ℕ) (n : ℕ) → n ≡ countIn s → length s ≡ 108 → n ≡ chunkCount (granularityOf s) (entriesIn s)
-count-in s n e h = e ∙ ap (λ (b : Bool). cond b (chunkCount (granularityOf s) (entriesIn s)) 0) (eq-eqb (length s) 108 h)
+pub count-in : (s : List ℕ) (n : ℕ) → n ≡ countIn s → length s ≡ registrarLen → n ≡ chunkCount (granularityOf s) (entriesIn s)
+count-in s n e h = e ∙ ap (λ (b : Bool). cond b (chunkCount (granularityOf s) (entriesIn s)) 0) (eq-eqb (length s) registrarLen h)
 
-pub count-known : (s : List ℕ) (n : ℕ) → length s ≡ 108 → n ≡ chunkCount (granularityOf s) (entriesIn s) → n ≡ countIn s
-count-known s n h e = e ∙ sym (ap (λ (b : Bool). cond b (chunkCount (granularityOf s) (entriesIn s)) 0) (eq-eqb (length s) 108 h))
+pub count-known : (s : List ℕ) (n : ℕ) → length s ≡ registrarLen → n ≡ chunkCount (granularityOf s) (entriesIn s) → n ≡ countIn s
+count-known s n h e = e ∙ sym (ap (λ (b : Bool). cond b (chunkCount (granularityOf s) (entriesIn s)) 0) (eq-eqb (length s) registrarLen h))
 
-pub count-none : (s : List ℕ) → (length s ≡ 108 → ⊥) → 0 ≡ countIn s
-count-none s h = sym (ap (λ (b : Bool). cond b (chunkCount (granularityOf s) (entriesIn s)) 0) (ne-eqb (length s) 108 h))
+pub count-none : (s : List ℕ) → (length s ≡ registrarLen → ⊥) → 0 ≡ countIn s
+count-none s h = sym (ap (λ (b : Bool). cond b (chunkCount (granularityOf s) (entriesIn s)) 0) (ne-eqb (length s) registrarLen h))
 
 pub count-of : (s ram : List ℕ) (n : ℕ) → ram ≡ ramOf s → n ≡ chunkCount (granularityOf s) (entriesIn s) → n ≡ chunkCount (granularityOf s) (entriesOf ram)
 count-of s ram n h e = e ∙ ap (λ (l : List ℕ). chunkCount (granularityOf s) (entriesOf l)) (sym h)
@@ -232,7 +232,7 @@ module _ (s registered : List ℕ) (first end : ℕ) (q : Request) (t : Bool) (e
   pub known-not : t ≡ false → false ≡ isKnown s registered first end
   known-not k = and-ends (isIdle (requestOf s)) _ (sym (ap isIdle e) ∙ sym h ∙ k)
 
-  pub known-is : (c : ℕ) → t ≡ true → c ≡ firstNot (bitAt 64 registered) first end → leb end c ≡ isKnown s registered first end
+  pub known-is : (c : ℕ) → t ≡ true → c ≡ firstNot (bitAt wordBits registered) first end → leb end c ≡ isKnown s registered first end
   known-is c k hc = ap (leb end) hc ∙ sym (rw (sym (ap isIdle e) ∙ sym h ∙ k))
 
 zeros : (a b c d e f g h i : ℕ) → a ≡ 0 → b ≡ 0 → c ≡ 0 → d ≡ 0 → e ≡ 0 → f ≡ 0 → g ≡ 0 → h ≡ 0 → i ≡ 0
@@ -251,7 +251,7 @@ idle-is q h =
     let i = both-true (eqb (q .alignment) 0) _ (g .1) in
     zeros _ _ _ _ _ _ _ _ _ (eqb-true _ _ (a .0)) (eqb-true _ _ (b .0)) (eqb-true _ _ (c .0)) (eqb-true _ _ (d .0)) (eqb-true _ _ (e .0)) (eqb-true _ _ (f .0)) (eqb-true _ _ (g .0)) (eqb-true _ _ (i .0)) (eqb-true _ _ (i .1))
 
-module _ (w : World) (address len : ℕ) (h : length (w .state) ≡ 108)
+module _ (w : World) (address len : ℕ) (h : length (w .state) ≡ registrarLen)
     (k : isKnown (w .state) (w .registered) (firstChunk (granularityOf (w .state)) address) (endChunk (granularityOf (w .state)) address len) ≡ true) where
   abbrev first : ℕ
   first = firstChunk (granularityOf (w .state)) address
@@ -265,22 +265,22 @@ module _ (w : World) (address len : ℕ) (h : length (w .state) ≡ 108)
   abbrev stop : ℕ
   stop = firstNot (passes (seenIn w)) first to
 
-  known-at : (q : ℕ) → first ≤ q → q < end → bitAt 64 (w .registered) q ≡ true
+  known-at : (q : ℕ) → first ≤ q → q < end → bitAt wordBits (w .registered) q ≡ true
   known-at q a b =
-      first-holds (bitAt 64 (w .registered)) first end q a
-      (omega (arith, leb-true end (firstNot (bitAt 64 (w .registered)) first end) (and-right (isIdle (requestOf (w .state))) _ k)))
+      first-holds (bitAt wordBits (w .registered)) first end q a
+      (omega (arith, leb-true end (firstNot (bitAt wordBits (w .registered)) first end) (and-right (isIdle (requestOf (w .state))) _ k)))
 
   known-stop : stop ≡ max first to
-  known-stop = first-all (passes (seenIn w)) first to (λ q a b. or-left (bitAt 64 (w .registered) q) _ (known-at q a (omega arith)))
+  known-stop = first-all (passes (seenIn w)) first to (λ q a b. or-left (bitAt wordBits (w .registered) q) _ (known-at q a (omega arith)))
 
   known-marks : w .registered ≡ marked first stop (w .registered)
   known-marks =
-      already 64 (between first stop) true (w .registered)
+      already wordBits (between first stop) true (w .registered)
       (λ j c l b p.
-      let at-word : (j * 64 + c) / 64 ≡ j = omega arith in
-      let at-bit : (j * 64 + c) % 64 ≡ c = omega arith in
+      let at-word : (j * wordBits + c) / wordBits ≡ j = omega arith in
+      let at-bit : (j * wordBits + c) % wordBits ≡ c = omega arith in
       sym (ap₂ (λ (x y : ℕ). bit (getD (w .registered) x 0) y) at-word at-bit)
-      ∙ known-at (j * 64 + c) (between-from first stop (j * 64 + c) p) (omega (arith, known-stop, between-from first stop (j * 64 + c) p, between-to first stop (j * 64 + c) p)))
+      ∙ known-at (j * wordBits + c) (between-from first stop (j * wordBits + c) p) (omega (arith, known-stop, between-from first stop (j * wordBits + c) p, between-to first stop (j * wordBits + c) p)))
 
   known-plan : ends first stop (Done 0) ≡ registerPlan w address len
   known-plan = register-done (seenIn w) (offsetOf (w .state)) 0 first end to stop refl refl (ends first stop (Done 0)) (omega (arith, known-stop)) refl

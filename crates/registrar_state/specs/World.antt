@@ -4,7 +4,11 @@ use mathlib.Core.List.{List, [], _∷_, _++_}
 use Prim.Native.Nat.{ℕ, _+_, _-_, _*_, _%_, _^_}
 use lib.Dec.{eqb, leb, ltb}
 use lib.ListN.{length, getD, drop, take, replicate}
-use Rattle.laws.specs.Refusal.{unless}
+use Rattle.abi.specs.Kinds as kind
+use Rattle.abi.specs.Refusals as refusal
+use Rattle.abi.specs.RegistrarPlaces as place
+use Rattle.abi.specs.Lengths.{pageSize, ramEntryWords, ramLen, registrarLen, wordBits}
+use Rattle.laws.specs.Refusal.{unless, when}
 use Rattle.laws.specs.Ranges.{between}
 use Rattle.bitmap.specs.Pages.{bitAt, written}
 use Rattle.layout.specs.declared.MemoryRange.{MemoryRange}
@@ -26,7 +30,7 @@ pub record World : Type 0 where
   pub failed : List ℕ
 
 abbrev pub world : List ℕ → List ℕ → List ℕ → World
-world s r f = record { state = s; registered = r; failed = f }
+world state registered failed = record { state = state; registered = registered; failed = failed }
 
 -- what a call gives: all that is lent as it is then, and the reply
 pub record Outcome : Type 0 where
@@ -34,60 +38,60 @@ pub record Outcome : Type 0 where
   pub reply : Reply
 
 abbrev pub outcome : List ℕ → List ℕ → List ℕ → Reply → Outcome
-outcome s r f a = record { world = world s r f; reply = a }
+outcome state registered failed reply = record { world = world state registered failed; reply = reply }
 
 -- ---- the state block: the request under way in words 0 to 8, offset, granularity, number of entries, up to 32 entries
 
 abbrev pub requestOf : List ℕ → Request
-requestOf s =
-    record { kind = getD s 0 0; count = getD s 1 0; from = getD s 2 0; to = getD s 3 0; start = getD s 4 0; end = getD s 5 0; until = getD s 6 0; alignment = getD s 7 0; ignore = getD s 8 0 }
+requestOf state =
+    record { kind = getD state place.kind 0; count = getD state place.count 0; from = getD state place.from 0; to = getD state place.to 0; start = getD state place.start 0; end = getD state place.end 0; until = getD state place.until 0; alignment = getD state place.alignment 0; ignore = getD state place.ignore 0 }
 
 abbrev pub requestWords : Request → List ℕ
-requestWords q =
-    q .kind ∷ q .count ∷ q .from ∷ q .to ∷ q .start ∷ q .end ∷ q .until ∷ q .alignment ∷ q .ignore ∷ []
+requestWords request =
+    request .kind ∷ request .count ∷ request .from ∷ request .to ∷ request .start ∷ request .end ∷ request .until ∷ request .alignment ∷ request .ignore ∷ []
 
 abbrev pub withRequest : Request → List ℕ → List ℕ
-withRequest q s = requestWords q ++ drop 9 s
+withRequest request state = requestWords request ++ drop place.afterRequest state
 
 abbrev pub offsetOf : List ℕ → ℕ
-offsetOf s = getD s 9 0
+offsetOf state = getD state place.offset 0
 
 abbrev pub granularityOf : List ℕ → ℕ
-granularityOf s = getD s 10 0
+granularityOf state = getD state place.granularity 0
 
 abbrev pub ramOf : List ℕ → List ℕ
-ramOf s = take (3 * getD s 11 0) (drop 12 s)
+ramOf state = take (ramEntryWords * getD state place.entries 0) (drop place.ram state)
 
 abbrev pub entriesIn : List ℕ → List MemoryRangeWithNode
-entriesIn s = entriesOf (ramOf s)
+entriesIn state = entriesOf (ramOf state)
 
 -- what a build leaves in it
 abbrev pub builtState : List ℕ → ℕ → ℕ → List ℕ
-builtState ram offset g =
-    requestWords idle ++ (offset ∷ g ∷ length (entriesOf ram) ∷ ram) ++ replicate (96 - length ram) 0
+builtState ram offset granularity =
+    requestWords idle ++ (offset ∷ granularity ∷ length (entriesOf ram) ∷ ram) ++ replicate (ramLen - length ram) 0
 
 abbrev pub seenIn : World → Seen
-seenIn w = seen (granularityOf (w .state)) (entriesIn (w .state)) (w .registered) (w .failed)
+seenIn lent = seen (granularityOf (lent .state)) (entriesIn (lent .state)) (lent .registered) (lent .failed)
 
 -- ---- the reply: 01's number and values for each case of the answer
 
 abbrev pub flatUnaligned : Unaligned → ℕ → Reply
-flatUnaligned u n =
+flatUnaligned unaligned count =
     record {
-      number = 22;
+      number = refusal.unalignedMemory;
       asked = 0;
-      count = n;
+      count = count;
       start = 0;
       end = 0;
       address = 0;
-      «span_start» = u .span .start;
-      «span_end» = u .span .end;
-      «edge_start» = u .edge .start;
-      «edge_end» = u .edge .end;
-      vnode = u .vnode;
-      «node_start» = u .«node_range» .start;
-      «node_end» = u .«node_range» .end;
-      alignment = u .alignment;
+      «span_start» = unaligned .span .start;
+      «span_end» = unaligned .span .end;
+      «edge_start» = unaligned .edge .start;
+      «edge_end» = unaligned .edge .end;
+      vnode = unaligned .vnode;
+      «node_start» = unaligned .«node_range» .start;
+      «node_end» = unaligned .«node_range» .end;
+      alignment = unaligned .alignment;
     }
 
 abbrev pub simple : ℕ → ℕ → ℕ → ℕ → ℕ → ℕ → Reply
@@ -95,128 +99,128 @@ simple number asked count start end address =
     record { number = number; asked = asked; count = count; start = start; end = end; address = address; «span_start» = 0; «span_end» = 0; «edge_start» = 0; «edge_end» = 0; vnode = 0; «node_start» = 0; «node_end» = 0; alignment = 0 }
 
 abbrev pub flatOf : Answer → Reply
-flatOf (Done n) = simple 0 0 n 0 0 0
+flatOf (Done count) = simple 0 0 count 0 0 0
 flatOf (Register r) = simple 0 1 0 (r .start) (r .end) 0
-flatOf (RegistrationFailed x n) = simple 23 0 n 0 0 x
-flatOf (UnalignedMemory u n) = flatUnaligned u n
-flatOf (Refused k) = simple k 0 0 0 0 0
+flatOf (RegistrationFailed address count) = simple refusal.registrationFailed 0 count 0 0 address
+flatOf (UnalignedMemory unaligned count) = flatUnaligned unaligned count
+flatOf (Refused number) = simple number 0 0 0 0 0
 
 -- a call is refused by its number and changes nothing, or is answered where that is 0
 abbrev pub decided : World → ℕ → Outcome → Outcome
-decided w n taken = cond (eqb n 0) taken (record { world = w; reply = flatOf (Refused n) })
+decided lent number taken = cond (eqb number 0) taken (record { world = lent; reply = flatOf (Refused number) })
 
 -- ---- build
 
 abbrev pub lengthsFit : ℕ → List MemoryRangeWithNode → List ℕ → List ℕ → Bool
-lengthsFit g es registered failed = eqb (length registered) (mapWords g es) && eqb (length failed) (mapWords g es)
+lengthsFit granularity entries registered failed = eqb (length registered) (mapWords granularity entries) && eqb (length failed) (mapWords granularity entries)
 
 -- 1 for the layout and the offset, 2, then by number: 4 for the state block, 9 for the granularity; 4 for the bitmaps after it, since their length hangs on it
 unfoldable pub buildRefusal : World → List ℕ → ℕ → ℕ → ℕ
-buildRefusal w ram offset g =
-    unless (not (eqb (refusalOf ram) 1)) 1
-    (unless (eqb (offset % 4096) 0) 1
-    (unless (ltb (offset + lastEnd (entriesOf ram)) (2 ^ 64)) 1
-    (unless (eqb (refusalOf ram) 0) 2
-    (unless (eqb (length (w .state)) 108) 4
-    (unless (leb 4096 g && isPower g) 9
-    (unless (lengthsFit g (entriesOf ram) (w .registered) (w .failed)) 4
+buildRefusal lent ram offset granularity =
+    when (eqb (refusalOf ram) refusal.unfitLayout) refusal.unfitLayout
+    (unless (eqb (offset % pageSize) 0) refusal.unfitLayout
+    (unless (ltb (offset + lastEnd (entriesOf ram)) (2 ^ 64)) refusal.unfitLayout
+    (unless (eqb (refusalOf ram) 0) refusal.badAlignment
+    (unless (eqb (length (lent .state)) registrarLen) refusal.wrongLength
+    (unless (leb pageSize granularity && isPower granularity) refusal.unfitChunk
+    (unless (lengthsFit granularity (entriesOf ram) (lent .registered) (lent .failed)) refusal.wrongLength
     0))))))
 
 unfoldable pub buildOf : World → List ℕ → ℕ → ℕ → Outcome
-buildOf w ram offset g =
-    decided w (buildRefusal w ram offset g)
-    (outcome (builtState ram offset g) (replicate (length (w .registered)) 0) (replicate (length (w .failed)) 0) (flatOf (Done 0)))
+buildOf lent ram offset granularity =
+    decided lent (buildRefusal lent ram offset granularity)
+    (outcome (builtState ram offset granularity) (replicate (length (lent .registered)) 0) (replicate (length (lent .failed)) 0) (flatOf (Done 0)))
 
 -- ---- register and register_all_aligned
 
 -- 4 for the state block, 19, 4 for the bitmaps
 abbrev pub callRefusal : World → ℕ → ℕ
-callRefusal w rest =
-    unless (eqb (length (w .state)) 108) 4
-    (unless (eqb (requestOf (w .state) .kind) 0) 19
-    (unless (lengthsFit (granularityOf (w .state)) (entriesIn (w .state)) (w .registered) (w .failed)) 4
+callRefusal lent rest =
+    unless (eqb (length (lent .state)) registrarLen) refusal.wrongLength
+    (unless (eqb (requestOf (lent .state) .kind) kind.none) refusal.busy
+    (unless (lengthsFit (granularityOf (lent .state)) (entriesIn (lent .state)) (lent .registered) (lent .failed)) refusal.wrongLength
     rest))
 
 -- how many chunks there are, by the state block; a block of another length has none
 abbrev pub countIn : List ℕ → ℕ
-countIn s = cond (eqb (length s) 108) (chunkCount (granularityOf s) (entriesIn s)) 0
+countIn state = cond (eqb (length state) registrarLen) (chunkCount (granularityOf state) (entriesIn state)) 0
 
 -- of the chunks from first to before end: there are none, or none past the last
 abbrev pub chunksFit : List ℕ → ℕ → ℕ → Bool
-chunksFit s first end = leb end first || leb end (chunkCount (granularityOf s) (entriesIn s))
+chunksFit state first end = leb end first || leb end (chunkCount (granularityOf state) (entriesIn state))
 
 unfoldable pub registerRefusal : World → ℕ → ℕ → ℕ
-registerRefusal w address len =
-    let g : ℕ = granularityOf (w .state) in
-    callRefusal w (unless (chunksFit (w .state) (firstChunk g address) (endChunk g address len)) 9 0)
+registerRefusal lent address len =
+    let granularity : ℕ = granularityOf (lent .state) in
+    callRefusal lent (unless (chunksFit (lent .state) (firstChunk granularity address) (endChunk granularity address len)) refusal.unfitChunk 0)
 
 unfoldable pub allRefusal : World → ℕ → ℕ → ℕ
-allRefusal w al ignore =
-    callRefusal w (unless (leb ignore 1) 8 (unless (leb (granularityOf (w .state)) al && isPower al) 9 0))
+allRefusal lent alignment ignore =
+    callRefusal lent (unless (leb ignore 1) refusal.unfitNumber (unless (leb (granularityOf (lent .state)) alignment && isPower alignment) refusal.unfitChunk 0))
 
 -- a plan carried out
 abbrev pub marked : ℕ → ℕ → List ℕ → List ℕ
-marked a b m = written 64 (between a b) true m
+marked from to map = written wordBits (between from to) true map
 
 abbrev pub carriedOut : World → Plan → Outcome
-carriedOut w p =
-    outcome (withRequest (p .request) (w .state)) (marked (p .from) (p .to) (w .registered)) (w .failed) (flatOf (p .answer))
+carriedOut lent plan =
+    outcome (withRequest (plan .request) (lent .state)) (marked (plan .from) (plan .to) (lent .registered)) (lent .failed) (flatOf (plan .answer))
 
 abbrev pub registerPlan : World → ℕ → ℕ → Plan
-registerPlan w address len =
-    let g : ℕ = granularityOf (w .state) in
-    registerFrom (seenIn w) (offsetOf (w .state)) 0 (firstChunk g address) (endChunk g address len)
+registerPlan lent address len =
+    let granularity : ℕ = granularityOf (lent .state) in
+    registerFrom (seenIn lent) (offsetOf (lent .state)) 0 (firstChunk granularity address) (endChunk granularity address len)
 
 abbrev pub allPlan : World → ℕ → ℕ → Plan
-allPlan w al ignore = allFrom (seenIn w) (offsetOf (w .state)) 0 al ignore 0 (spans (entriesIn (w .state)))
+allPlan lent alignment ignore = allFrom (seenIn lent) (offsetOf (lent .state)) 0 alignment ignore 0 (spans (entriesIn (lent .state)))
 
 -- nothing is left of an earlier request, and the chunks from first to before end are registered
 abbrev pub isKnown : List ℕ → List ℕ → ℕ → ℕ → Bool
-isKnown s registered first end = isIdle (requestOf s) && leb end (firstNot (bitAt 64 registered) first end)
+isKnown state registered first end = isIdle (requestOf state) && leb end (firstNot (bitAt wordBits registered) first end)
 
 unfoldable pub registerOf : World → ℕ → ℕ → Outcome
-registerOf w address len = decided w (registerRefusal w address len) (carriedOut w (registerPlan w address len))
+registerOf lent address len = decided lent (registerRefusal lent address len) (carriedOut lent (registerPlan lent address len))
 
 unfoldable pub allOf : World → ℕ → ℕ → Outcome
-allOf w al ignore = decided w (allRefusal w al ignore) (carriedOut w (allPlan w al ignore))
+allOf lent alignment ignore = decided lent (allRefusal lent alignment ignore) (carriedOut lent (allPlan lent alignment ignore))
 
 -- ---- the answer
 
 unfoldable pub answerRefusal : World → ℕ
-answerRefusal w =
-    unless (eqb (length (w .state)) 108) 4
-    (unless (lengthsFit (granularityOf (w .state)) (entriesIn (w .state)) (w .registered) (w .failed)) 4
-    (unless (not (eqb (requestOf (w .state) .kind) 0)) 21
+answerRefusal lent =
+    unless (eqb (length (lent .state)) registrarLen) refusal.wrongLength
+    (unless (lengthsFit (granularityOf (lent .state)) (entriesIn (lent .state)) (lent .registered) (lent .failed)) refusal.wrongLength
+    (when (eqb (requestOf (lent .state) .kind) kind.none) refusal.nothingAsked
     0))
 
 -- failed: the chunks under way are marked failed, and 23 tells where the range starts
 unfoldable pub failedOf : World → Outcome
-failedOf w =
-    let q : Request = requestOf (w .state) in
-    decided w (answerRefusal w)
-    (outcome (withRequest idle (w .state)) (w .registered) (marked (q .from) (q .to) (w .failed)) (flatOf (RegistrationFailed (q .start) (q .count))))
+failedOf lent =
+    let request : Request = requestOf (lent .state) in
+    decided lent (answerRefusal lent)
+    (outcome (withRequest idle (lent .state)) (lent .registered) (marked (request .from) (request .to) (lent .failed)) (flatOf (RegistrationFailed (request .start) (request .count))))
 
 -- done: of a chunk of `register`, its RAM after what was taken
 abbrev pub restOf : List ℕ → MemoryRange
-restOf s = ramFrom (granularityOf s) (entriesIn s) (requestOf s .from) (requestOf s .end)
+restOf state = ramFrom (granularityOf state) (entriesIn state) (requestOf state .from) (requestOf state .end)
 
 abbrev pub hasRest : List ℕ → Bool
-hasRest s = eqb (requestOf s .kind) 1 && not (empty (restOf s))
+hasRest state = eqb (requestOf state .kind) kind.register && not (empty (restOf state))
 
 -- the chunks under way become registered, unless some of that RAM is left
 abbrev pub takenTo : List ℕ → ℕ
-takenTo s = cond (hasRest s) (requestOf s .from) (requestOf s .to)
+takenTo state = cond (hasRest state) (requestOf state .from) (requestOf state .to)
 
 -- then that RAM is asked for, or the call goes on after the chunks that were under way
 abbrev pub donePlan : World → Plan
-donePlan w =
-    let q : Request = requestOf (w .state) in
-    cond (hasRest (w .state)) (asks (offsetOf (w .state)) 0 0 (pieceOf (q .count) (q .from) (q .to) (q .until) (restOf (w .state))))
-    (cond (eqb (q .kind) 1) (registerFrom (seenIn w) (offsetOf (w .state)) (q .count) (q .to) (q .until))
-    (allFrom (seenIn w) (offsetOf (w .state)) (q .count) (q .alignment) (q .ignore) (q .to) (spans (entriesIn (w .state)))))
+donePlan lent =
+    let request : Request = requestOf (lent .state) in
+    cond (hasRest (lent .state)) (asks (offsetOf (lent .state)) 0 0 (pieceOf (request .count) (request .from) (request .to) (request .until) (restOf (lent .state))))
+    (cond (eqb (request .kind) kind.register) (registerFrom (seenIn lent) (offsetOf (lent .state)) (request .count) (request .to) (request .until))
+    (allFrom (seenIn lent) (offsetOf (lent .state)) (request .count) (request .alignment) (request .ignore) (request .to) (spans (entriesIn (lent .state)))))
 
 abbrev pub afterTaken : World → World
-afterTaken w = world (w .state) (marked (requestOf (w .state) .from) (takenTo (w .state)) (w .registered)) (w .failed)
+afterTaken lent = world (lent .state) (marked (requestOf (lent .state) .from) (takenTo (lent .state)) (lent .registered)) (lent .failed)
 
 unfoldable pub doneOf : World → Outcome
-doneOf w = decided w (answerRefusal w) (carriedOut (afterTaken w) (donePlan (afterTaken w)))
+doneOf lent = decided lent (answerRefusal lent) (carriedOut (afterTaken lent) (donePlan (afterTaken lent)))

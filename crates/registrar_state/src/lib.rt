@@ -4,11 +4,22 @@ ghost use Prim.Native.Nat.{_*_, _<_, _^_, min};
 ghost use mathlib.Core.Bool.{_||_, _&&_};
 ghost use lib.Dec.{eqb, leb};
 ghost use lib.ListN.{length};
-ghost use Rattle.layout.specs.Layout.{spans};
+ghost use Rattle.abi.specs.Refusals as refusal;
+ghost use Rattle.abi.specs.Lengths.{registrarLen, wordBits};
+ghost use Rattle.layout.specs.Layout.{range, spans};
+ghost use Rattle.registrar_steps.specs.declared.Answer.the-variants.{Done, Register, RegistrationFailed, Refused};
 ghost use Rattle.chunks.specs.Chunks.{up, chunkCount, isPower};
 ghost use Rattle.registrar_state.specs.World.{world, simple, flatUnaligned, requestOf, withRequest, offsetOf, granularityOf, ramOf, entriesIn, seenIn, flatOf, buildRefusal, callRefusal, countIn, chunksFit, allRefusal, isKnown, answerRefusal, restOf};
 ghost use Rattle.registrar_steps.specs.Steps.{stopAt, allFrom};
 ghost use Rattle.laws.specs.Refusal.{unless};
+use abi::FULL_WORD;
+use abi::PAGE_SIZE;
+use abi::RAM_ENTRY_WORDS;
+use abi::REGISTRAR_WORDS;
+use abi::kind;
+use abi::limit;
+use abi::refusal;
+use abi::registrar_place as place;
 use layout::MemoryRange;
 use registrar_steps::Answer;
 use registrar_steps::Plan;
@@ -36,7 +47,8 @@ pub struct Reply {
     pub alignment: u64,
 }
 
-pub fn simple(number: u64, asked: u64, count: u64, start: u64, end: u64, address: u64) -> Reply
+// A reply without the fields of 22.
+fn simple(number: u64, asked: u64, count: u64, start: u64, end: u64, address: u64) -> Reply
     ensures { λ r. ⌜ r ≡ simple number asked count start end address ⌝ }
 {
     Reply {
@@ -57,14 +69,43 @@ pub fn simple(number: u64, asked: u64, count: u64, start: u64, end: u64, address
     }
 }
 
-fn unaligned_reply(u: Unaligned, count: u64) -> Reply
-    ensures { λ r. ⌜ r ≡ flatUnaligned u count ⌝ }
+// The reply of a call that asked `count` times and is done.
+pub fn done(count: u64) -> Reply
+    ensures { λ r. ⌜ r ≡ flatOf (Done count) ⌝ }
 {
-    let span = u.span;
-    let edge = u.edge;
-    let node = u.node_range;
+    simple(0, 0, count, 0, 0, 0)
+}
+
+// The reply that asks for a Register of `start` to before `end`, offset added.
+pub fn asked(start: u64, end: u64) -> Reply
+    ensures { λ r. ⌜ r ≡ flatOf (Register (range start end)) ⌝ }
+{
+    simple(0, 1, 0, start, end, 0)
+}
+
+// The reply of 23, for a call that asked `count` times.
+pub fn registration_failed(address: u64, count: u64) -> Reply
+    ensures { λ r. ⌜ r ≡ flatOf (RegistrationFailed address count) ⌝ }
+{
+    simple(refusal::REGISTRATION_FAILED, 0, count, 0, 0, address)
+}
+
+// The reply of a refused call.
+pub fn refused(number: u64) -> Reply
+    ensures { λ r. ⌜ r ≡ flatOf (Refused number) ⌝ }
+{
+    simple(number, 0, 0, 0, 0, 0)
+}
+
+// The reply of 22.
+fn unaligned_reply(unaligned: Unaligned, count: u64) -> Reply
+    ensures { λ r. ⌜ r ≡ flatUnaligned unaligned count ⌝ }
+{
+    let span = unaligned.span;
+    let edge = unaligned.edge;
+    let node = unaligned.node_range;
     Reply {
-        number: 22,
+        number: refusal::UNALIGNED_MEMORY,
         asked: 0,
         count: count,
         start: 0,
@@ -74,73 +115,75 @@ fn unaligned_reply(u: Unaligned, count: u64) -> Reply
         span_end: span.end,
         edge_start: edge.start,
         edge_end: edge.end,
-        vnode: u.vnode,
+        vnode: unaligned.vnode,
         node_start: node.start,
         node_end: node.end,
-        alignment: u.alignment,
+        alignment: unaligned.alignment,
     }
 }
 
-pub fn flatten(a: Answer) -> Reply
-    ensures { λ r. ⌜ r ≡ flatOf a ⌝ }
+// The reply that an answer crosses as.
+pub fn to_reply(answer: Answer) -> Reply
+    ensures { λ r. ⌜ r ≡ flatOf answer ⌝ }
 {
-    match a {
-        Answer::Done(count) => simple(0, 0, count, 0, 0, 0),
-        Answer::Register(r) => simple(0, 1, 0, r.start, r.end, 0),
-        Answer::RegistrationFailed { address, count } => simple(23, 0, count, 0, 0, address),
+    match answer {
+        Answer::Done(count) => done(count),
+        Answer::Register(r) => asked(r.start, r.end),
+        Answer::RegistrationFailed { address, count } => registration_failed(address, count),
         Answer::UnalignedMemory(u, count) => unaligned_reply(u, count),
-        Answer::Refused(number) => simple(number, 0, 0, 0, 0, 0),
+        Answer::Refused(number) => refused(number),
     }
 }
 
-// The request under way.
+// The request under way, as the state block has it.
 pub fn load(state: &[u64]) -> Request
-    requires { ⌜ length (now state) ≡ 108 ⌝ }
+    requires { ⌜ length (now state) ≡ registrarLen ⌝ }
     ensures { λ r. ⌜ r ≡ requestOf (now (state .entry)) ⌝ }
 {
     Request {
-        kind: state[0],
-        count: state[1],
-        from: state[2],
-        to: state[3],
-        start: state[4],
-        end: state[5],
-        until: state[6],
-        alignment: state[7],
-        ignore: state[8],
+        kind: state[place::KIND],
+        count: state[place::COUNT],
+        from: state[place::FROM],
+        to: state[place::TO],
+        start: state[place::START],
+        end: state[place::END],
+        until: state[place::UNTIL],
+        alignment: state[place::ALIGNMENT],
+        ignore: state[place::IGNORE],
     }
 }
 
-pub fn save(state: &mut [u64], q: Request)
-    requires { ⌜ length (now state) ≡ 108 ⌝ }
-    ensures { λ _. ⌜ now (state .exit) ≡ withRequest q (now (state .entry)) ⌝ }
+// Stores the request under way; the other words of the state block stay.
+pub fn save(state: &mut [u64], request: Request)
+    requires { ⌜ length (now state) ≡ registrarLen ⌝ }
+    ensures { λ _. ⌜ now (state .exit) ≡ withRequest request (now (state .entry)) ⌝ }
 {
-    state[0] = q.kind;
-    state[1] = q.count;
-    state[2] = q.from;
-    state[3] = q.to;
-    state[4] = q.start;
-    state[5] = q.end;
-    state[6] = q.until;
-    state[7] = q.alignment;
-    state[8] = q.ignore;
+    state[place::KIND] = request.kind;
+    state[place::COUNT] = request.count;
+    state[place::FROM] = request.from;
+    state[place::TO] = request.to;
+    state[place::START] = request.start;
+    state[place::END] = request.end;
+    state[place::UNTIL] = request.until;
+    state[place::ALIGNMENT] = request.alignment;
+    state[place::IGNORE] = request.ignore;
 }
 
 // The words of the layout.
 fn ram_of(state: &[u64]) -> &[u64]
-    requires { ⌜ length (now state) ≡ 108 ⌝ }
+    requires { ⌜ length (now state) ≡ registrarLen ⌝ }
     ensures { λ r. ⌜ now r ≡ ramOf (now (state .entry)) ⌝ }
 {
-    let n = numbers::least(state[11], 32) as usize;
-    let end = 12 + 3 * n;
-    &state[12..end]
+    let n = numbers::least(state[place::ENTRIES], limit::RAM_ENTRIES) as usize;
+    let end = place::RAM + RAM_ENTRY_WORDS * n;
+    &state[place::RAM..end]
 }
 
-// Whether the bitmaps are of n chunks.
-fn lengths_fit(n: u64, registered: &[u64], failed: &[u64]) -> bool
-    ensures { λ r. ⌜ r ≡ (eqb (length (now (registered .entry))) (up n 64) && eqb (length (now (failed .entry))) (up n 64)) ⌝ }
+// Whether both bitmaps have the words of so many chunks.
+fn lengths_fit(total: u64, registered: &[u64], failed: &[u64]) -> bool
+    ensures { λ r. ⌜ r ≡ (eqb (length (now (registered .entry))) (up total wordBits) && eqb (length (now (failed .entry))) (up total wordBits)) ⌝ }
 {
-    let words = chunks::map_words(n);
+    let words = chunks::map_words(total);
     if registered.len() as u64 == words {
         failed.len() as u64 == words
     } else {
@@ -152,65 +195,70 @@ fn lengths_fit(n: u64, registered: &[u64], failed: &[u64]) -> bool
 pub fn chunk_count(state: &[u64]) -> u64
     ensures { λ r. ⌜ r ≡ countIn (now (state .entry)) ⌝ }
 {
-    if state.len() != 108 {
+    if state.len() != REGISTRAR_WORDS {
         return 0;
     }
-    chunks::chunk_count(ram_of(state), state[10])
+    chunks::chunk_count(ram_of(state), state[place::GRANULARITY])
 }
 
-// 4, 19, 4 for a call, else 0.
-fn call_refusal(state: &[u64], registered: &[u64], failed: &[u64], n: u64) -> u64
-    requires { ⌜ n ≡ countIn (now state) ⌝ }
+// What refuses both requests alike: 4 of the state block, 19, 4 of the bitmaps.
+fn call_refusal(state: &[u64], registered: &[u64], failed: &[u64], total: u64) -> u64
+    requires { ⌜ total ≡ countIn (now state) ⌝ }
     ensures { λ r. ⌜ r ≡ callRefusal (world (now (state .entry)) (now (registered .entry)) (now (failed .entry))) 0 ⌝ }
 {
-    if state.len() != 108 {
-        return 4;
+    if state.len() != REGISTRAR_WORDS {
+        return refusal::WRONG_LENGTH;
     }
-    if state[0] != 0 {
-        return 19;
+    if state[place::KIND] != kind::NONE {
+        return refusal::BUSY;
     }
-    if !lengths_fit(n, registered, failed) {
-        return 4;
+    if !lengths_fit(total, registered, failed) {
+        return refusal::WRONG_LENGTH;
     }
     0
 }
 
-// Whether none of the chunks from `first` to before `end` is past the last of n.
-fn chunks_fit(n: u64, first: u64, end: u64) -> bool
-    ensures { λ r. ⌜ r ≡ (leb end first || leb end n) ⌝ }
+// Whether none of the chunks from `first` to before `end` is past the last.
+fn chunks_fit(total: u64, first: u64, end: u64) -> bool
+    ensures { λ r. ⌜ r ≡ (leb end first || leb end total) ⌝ }
 {
     if end <= first {
         return true;
     }
-    end <= n
+    end <= total
 }
 
-// 0 where the state block is too short.
+// The granularity: 0 where the state block is too short.
 pub fn granularity(state: &[u64]) -> u64
     ensures { λ r. ⌜ r ≡ granularityOf (now (state .entry)) ⌝ }
 {
-    numbers::word_at(state, 10)
+    numbers::word_at(state, place::GRANULARITY as u64)
 }
 
-// For a request that touches the chunks from `first` to before `end`.
+// What refuses a `register` that touches the chunks from `first` to before `end`.
 pub fn register_refusal(
     state: &[u64],
     registered: &[u64],
     failed: &[u64],
-    n: u64,
+    total: u64,
     first: u64,
     end: u64,
 ) -> u64
-    requires { ⌜ n ≡ countIn (now state) ⌝ }
-    ensures { λ r. ⌜ r ≡ callRefusal (world (now (state .entry)) (now (registered .entry)) (now (failed .entry))) (unless (chunksFit (now (state .entry)) first end) 9 0) ⌝ }
+    requires { ⌜ total ≡ countIn (now state) ⌝ }
+    ensures { λ r. ⌜ r ≡ callRefusal (world (now (state .entry)) (now (registered .entry)) (now (failed .entry))) (unless (chunksFit (now (state .entry)) first end) refusal.unfitChunk 0) ⌝ }
 {
-    let k = call_refusal(state, registered, failed, n);
-    if k != 0 {
-        return k;
+    let number = call_refusal(state, registered, failed, total);
+    if number != 0 {
+        return number;
     }
-    if chunks_fit(n, first, end) { 0 } else { 9 }
+    if chunks_fit(total, first, end) {
+        0
+    } else {
+        refusal::UNFIT_CHUNK
+    }
 }
 
+// Whether a number is a power of two from `least` on.
 fn is_power_from(least: u64, n: u64) -> bool
     ensures { λ r. ⌜ r ≡ (leb least n && isPower n) ⌝ }
 {
@@ -221,86 +269,89 @@ fn is_power_from(least: u64, n: u64) -> bool
     }
 }
 
+// What refuses a `register_all_aligned`.
 pub fn all_refusal(
     state: &[u64],
     registered: &[u64],
     failed: &[u64],
-    n: u64,
+    total: u64,
     alignment: u64,
     ignore: u64,
 ) -> u64
-    requires { ⌜ n ≡ countIn (now state) ⌝ }
+    requires { ⌜ total ≡ countIn (now state) ⌝ }
     ensures { λ r. ⌜ r ≡ allRefusal (world (now (state .entry)) (now (registered .entry)) (now (failed .entry))) alignment ignore ⌝ }
 {
-    let k = call_refusal(state, registered, failed, n);
-    if k != 0 {
-        return k;
+    let number = call_refusal(state, registered, failed, total);
+    if number != 0 {
+        return number;
     }
     if 1 < ignore {
-        return 8;
+        return refusal::UNFIT_NUMBER;
     }
-    if is_power_from(state[10], alignment) {
+    if is_power_from(state[place::GRANULARITY], alignment) {
         0
     } else {
-        9
+        refusal::UNFIT_CHUNK
     }
 }
 
-pub fn answer_refusal(state: &[u64], registered: &[u64], failed: &[u64], n: u64) -> u64
-    requires { ⌜ n ≡ countIn (now state) ⌝ }
+// What refuses an answer, done or failed.
+pub fn answer_refusal(state: &[u64], registered: &[u64], failed: &[u64], total: u64) -> u64
+    requires { ⌜ total ≡ countIn (now state) ⌝ }
     ensures { λ r. ⌜ r ≡ answerRefusal (world (now (state .entry)) (now (registered .entry)) (now (failed .entry))) ⌝ }
 {
-    if state.len() != 108 {
-        return 4;
+    if state.len() != REGISTRAR_WORDS {
+        return refusal::WRONG_LENGTH;
     }
-    if !lengths_fit(n, registered, failed) {
-        return 4;
+    if !lengths_fit(total, registered, failed) {
+        return refusal::WRONG_LENGTH;
     }
-    if state[0] == 0 {
-        return 21;
+    if state[place::KIND] == kind::NONE {
+        return refusal::NOTHING_ASKED;
     }
     0
 }
 
+// What refuses a build: the bitmaps' 4 comes last, since their length hangs on the granularity.
 pub fn build_refusal(
     ram: &[u64],
     offset: u64,
-    g: u64,
+    granularity: u64,
     state: &[u64],
     registered: &[u64],
     failed: &[u64],
 ) -> u64
-    ensures { λ r. ⌜ r ≡ buildRefusal (world (now (state .entry)) (now (registered .entry)) (now (failed .entry))) (now (ram .entry)) offset g ⌝ }
+    ensures { λ r. ⌜ r ≡ buildRefusal (world (now (state .entry)) (now (registered .entry)) (now (failed .entry))) (now (ram .entry)) offset granularity ⌝ }
 {
     let unfit = layout::refusal(ram);
-    if unfit == 1 {
-        return 1;
+    if unfit == refusal::UNFIT_LAYOUT {
+        return refusal::UNFIT_LAYOUT;
     }
-    if offset % 4096 != 0 {
-        return 1;
+    if offset % PAGE_SIZE != 0 {
+        return refusal::UNFIT_LAYOUT;
     }
-    if 0xffff_ffff_ffff_ffff - offset < layout::last_end(ram) {
-        return 1;
+    if FULL_WORD - offset < layout::last_end(ram) {
+        return refusal::UNFIT_LAYOUT;
     }
     if unfit != 0 {
-        return 2;
+        return refusal::BAD_ALIGNMENT;
     }
-    if state.len() != 108 {
-        return 4;
+    if state.len() != REGISTRAR_WORDS {
+        return refusal::WRONG_LENGTH;
     }
-    if !is_power_from(4096, g) {
-        return 9;
+    if !is_power_from(PAGE_SIZE, granularity) {
+        return refusal::UNFIT_CHUNK;
     }
-    if lengths_fit(chunks::chunk_count(ram, g), registered, failed) {
+    if lengths_fit(chunks::chunk_count(ram, granularity), registered, failed) {
         0
     } else {
-        4
+        refusal::WRONG_LENGTH
     }
 }
 
 // Whether a request finds its chunks registered, and the state as a finished call leaves it.
 pub fn is_known(state: &[u64], registered: &[u64], first: u64, end: u64) -> bool
-    requires { ⌜ length (now state) ≡ 108 ⌝ }
+    requires { ⌜ length (now state) ≡ registrarLen ⌝ }
     ensures { λ r. ⌜ r ≡ isKnown (now (state .entry)) (now (registered .entry)) first end ⌝ }
 {
     if !registrar_steps::is_idle(load(state)) {
@@ -314,17 +365,25 @@ pub fn register_stop(
     state: &[u64],
     registered: &[u64],
     failed: &[u64],
-    n: u64,
+    total: u64,
     from: u64,
     until: u64,
 ) -> Stop
-    requires { ⌜ (length (now state) ≡ 108) × (n ≡ chunkCount (granularityOf (now state)) (entriesIn (now state))) ⌝ }
-    ensures { λ r. ⌜ (r ≡ stopAt (seenIn (world (now (state .entry)) (now (registered .entry)) (now (failed .entry)))) from (min until n)) × (r .chunk < min until n → r .chunk * granularityOf (now (state .entry)) < 2 ^ 64) ⌝ }
+    requires { ⌜ (length (now state) ≡ registrarLen) × (total ≡ chunkCount (granularityOf (now state)) (entriesIn (now state))) ⌝ }
+    ensures { λ r. ⌜ (r ≡ stopAt (seenIn (world (now (state .entry)) (now (registered .entry)) (now (failed .entry)))) from (min until total)) × (r .chunk < min until total → r .chunk * granularityOf (now (state .entry)) < 2 ^ 64) ⌝ }
 {
-    registrar_steps::stop_from(ram_of(state), state[10], registered, failed, n, from, until)
+    registrar_steps::stop_from(
+        ram_of(state),
+        state[place::GRANULARITY],
+        registered,
+        failed,
+        total,
+        from,
+        until,
+    )
 }
 
-// From chunk c on, of a call that has asked `count` times.
+// What `register_all_aligned` does next, from a chunk on, of a call that has asked `count` times.
 pub fn all_plan(
     state: &[u64],
     registered: &[u64],
@@ -332,28 +391,34 @@ pub fn all_plan(
     count: u64,
     alignment: u64,
     ignore: u64,
-    c: u64,
+    chunk: u64,
 ) -> Plan
-    requires { ⌜ length (now state) ≡ 108 ⌝ }
-    ensures { λ r. ⌜ r ≡ allFrom (seenIn (world (now (state .entry)) (now (registered .entry)) (now (failed .entry)))) (offsetOf (now (state .entry))) count alignment ignore c (spans (entriesIn (now (state .entry)))) ⌝ }
+    requires { ⌜ length (now state) ≡ registrarLen ⌝ }
+    ensures { λ r. ⌜ r ≡ allFrom (seenIn (world (now (state .entry)) (now (registered .entry)) (now (failed .entry)))) (offsetOf (now (state .entry))) count alignment ignore chunk (spans (entriesIn (now (state .entry)))) ⌝ }
 {
     registrar_steps::all_from(
         ram_of(state),
-        state[9],
-        state[10],
+        state[place::OFFSET],
+        state[place::GRANULARITY],
         registered,
         failed,
         count,
         alignment,
         ignore,
-        c,
+        chunk,
     )
 }
 
-// Of a chunk of `register`, its RAM after what was taken.
-pub fn rest_of(state: &[u64], n: u64) -> MemoryRange
-    requires { ⌜ (length (now state) ≡ 108) × (n ≡ chunkCount (granularityOf (now state)) (entriesIn (now state))) ⌝ }
+// The first RAM of the chunk under way after what was taken: empty where none is left.
+pub fn rest_of(state: &[u64], total: u64) -> MemoryRange
+    requires { ⌜ (length (now state) ≡ registrarLen) × (total ≡ chunkCount (granularityOf (now state)) (entriesIn (now state))) ⌝ }
     ensures { λ r. ⌜ r ≡ restOf (now (state .entry)) ⌝ }
 {
-    registrar_steps::rest_of(ram_of(state), state[10], n, state[2], state[5])
+    registrar_steps::rest_of(
+        ram_of(state),
+        state[place::GRANULARITY],
+        total,
+        state[place::FROM],
+        state[place::END],
+    )
 }

@@ -8,7 +8,9 @@ use Prim.Native.Nat.{ℕ, _+_, _-_, _*_, _/_, _^_, _≤_, _<_, min, max}
 use native.Mathlib.Nat.{add-mul, mul-le-mul-right}
 use lib.Dec.{eqb, ltb}
 use lib.ListN.{length, getD, drop}
-use borrow.Author.Tests.{eq-eqb, ne-eqb, lt-ltb, le-ltb, le-leb, lt-leb}
+use borrow.Author.Tests.{lt-ltb, le-ltb, le-leb, lt-leb}
+use Rattle.abi.specs.Lengths.{wordBits}
+use Rattle.laws.specs.Bools.{false≢true}
 use Rattle.bitmap.specs.Pages.{bitAt}
 use Rattle.layout.specs.declared.MemoryRange.{MemoryRange}
 use Rattle.layout.specs.declared.MemoryRangeWithNode.{MemoryRangeWithNode}
@@ -21,11 +23,13 @@ use Rattle.chunks.proofs.Scan.{first-step, first-stop, first-end, first-to}
 use Rattle.registrar_steps.specs.declared.Request.{Request}
 use Rattle.registrar_steps.specs.declared.Unaligned.{Unaligned}
 use Rattle.registrar_steps.specs.declared.Answer.the-variants.{Done, RegistrationFailed, UnalignedMemory}
+use Rattle.registrar_steps.specs.declared.Why.{Why}
+use Rattle.registrar_steps.specs.declared.Why.the-variants as why
 use Rattle.registrar_steps.specs.declared.Stop.{Stop}
 use Rattle.registrar_steps.specs.declared.Look.{Look}
 use Rattle.registrar_steps.specs.declared.Look.the-variants.{Nothing, Edge, FailedBefore, Stretch}
 use Rattle.registrar_steps.specs.declared.Plan.{Plan}
-use Rattle.registrar_steps.specs.Steps.{Seen, asks, ends, ramFrom, passes, pieceOf, registerFrom, stop, offerOf, stopAt, stopPlan, stretchIn, lookAt, unalignedAt, stretchOf, isNothing, found, allFrom}
+use Rattle.registrar_steps.specs.Steps.{Seen, asks, ends, ramFrom, passes, pieceOf, registerFrom, isEnd, hasRam, stop, offerOf, stopAt, planAt, stopPlan, stretchIn, lookAt, unalignedAt, stretchOf, isNothing, found, allFrom}
 
 -- ---- register, from a chunk on
 
@@ -51,7 +55,7 @@ module _ (s : Seen) (o n c until e t : ℕ) (he : e ≡ min until (chunkCount (s
   stopped : ℕ → ℕ → Plan
   stopped e t =
       cond (ltb t e)
-      (cond (bitAt 64 (s .failed) t) (ends c t (RegistrationFailed (t * s .granularity) n))
+      (cond (bitAt wordBits (s .failed) t) (ends c t (RegistrationFailed (t * s .granularity) n))
       (asks o c t (pieceOf n t (t + 1) until (ramFrom (s .granularity) (s .entries) t (t * s .granularity)))))
       (ends c t (Done n))
 
@@ -66,33 +70,39 @@ module _ (s : Seen) (o n c until e t : ℕ) (he : e ≡ min until (chunkCount (s
   pub register-stopped : (a : Stop) → a ≡ stopAt s c e → stopPlan o n c until a ≡ registerFrom s o n c until
   unfolding stopAt stopped
   register-stopped a h =
-      ap (stopPlan o n c until) (h ∙ ap numbers (sym ht)) ∙ go (ltb t e) (bitAt 64 (s .failed) t) ∙ from-stopped
+      ap (stopPlan o n c until) (h ∙ ap numbers (sym ht)) ∙ go (ltb t e) (bitAt wordBits (s .failed) t) ∙ from-stopped
     where
       numbers : ℕ → Stop
       numbers t =
-          cond (ltb t e) (cond (bitAt 64 (s .failed) t) (stop 2 t (t * s .granularity) 0) (stop 1 t (ramFrom (s .granularity) (s .entries) t (t * s .granularity) .start) (ramFrom (s .granularity) (s .entries) t (t * s .granularity) .end)))
-          (stop 0 t 0 0)
+          cond (ltb t e) (cond (bitAt wordBits (s .failed) t) (stop why.Failed t (t * s .granularity) 0) (stop why.Ram t (ramFrom (s .granularity) (s .entries) t (t * s .granularity) .start) (ramFrom (s .granularity) (s .entries) t (t * s .granularity) .end)))
+          (stop why.End t 0 0)
 
       go : (a b : Bool)
-          → stopPlan o n c until (cond a (cond b (stop 2 t (t * s .granularity) 0) (stop 1 t (ramFrom (s .granularity) (s .entries) t (t * s .granularity) .start) (ramFrom (s .granularity) (s .entries) t (t * s .granularity) .end))) (stop 0 t 0 0))
+          → stopPlan o n c until (cond a (cond b (stop why.Failed t (t * s .granularity) 0) (stop why.Ram t (ramFrom (s .granularity) (s .entries) t (t * s .granularity) .start) (ramFrom (s .granularity) (s .entries) t (t * s .granularity) .end))) (stop why.End t 0 0))
           ≡ cond a (cond b (ends c t (RegistrationFailed (t * s .granularity) n)) (asks o c t (pieceOf n t (t + 1) until (ramFrom (s .granularity) (s .entries) t (t * s .granularity))))) (ends c t (Done n))
       go true true = refl
       go true false = refl
       go false b = refl
 
+-- the plan of a stop at RAM to ask for
+pub ram-plan : (o n c until : ℕ) (a : Stop) (x : Why) → hasRam x ≡ true → planAt o n c until a x ≡ asks o c (a .chunk) (pieceOf n (a .chunk) (a .chunk + 1) until (range (a .start) (a .end)))
+ram-plan o n c until a why.End h = false≢true h
+ram-plan o n c until a why.Ram h = refl
+ram-plan o n c until a why.Failed h = false≢true h
+
 -- what a chunk asks for, one law for each case of it
 module _ (s : Seen) (c : ℕ) (a : Stop) where
-  pub offer-registered : bitAt 64 (s .registered) c ≡ true → a ≡ stop 0 c 0 0 → a ≡ offerOf s c
+  pub offer-registered : bitAt wordBits (s .registered) c ≡ true → a ≡ stop why.End c 0 0 → a ≡ offerOf s c
   offer-registered t q = q ∙ sym (rw t)
 
-  module _ (t : bitAt 64 (s .registered) c ≡ false) where
-    pub offer-failed : bitAt 64 (s .failed) c ≡ true → a ≡ stop 2 c (c * s .granularity) 0 → a ≡ offerOf s c
+  module _ (t : bitAt wordBits (s .registered) c ≡ false) where
+    pub offer-failed : bitAt wordBits (s .failed) c ≡ true → a ≡ stop why.Failed c (c * s .granularity) 0 → a ≡ offerOf s c
     offer-failed f q = q ∙ sym (rw (t, f))
 
-    module _ (f : bitAt 64 (s .failed) c ≡ false) (r : MemoryRange)
+    module _ (f : bitAt wordBits (s .failed) c ≡ false) (r : MemoryRange)
         (e : r ≡ firstOf (pieces (c * s .granularity) (c * s .granularity + s .granularity) (spans (s .entries)))) where
       asks-for : MemoryRange → Stop
-      asks-for r = cond (empty r) (stop 0 c 0 0) (stop 1 c (r .start) (r .end))
+      asks-for r = cond (empty r) (stop why.End c 0 0) (stop why.Ram c (r .start) (r .end))
 
       ram-is : r ≡ ramFrom (s .granularity) (s .entries) c (c * s .granularity)
       ram-is = e ∙ ap (λ (y : ℕ). firstOf (pieces (c * s .granularity) y (spans (s .entries)))) (sym (add-mul c 1 (s .granularity) ∙ omega arith))
@@ -101,20 +111,20 @@ module _ (s : Seen) (c : ℕ) (a : Stop) where
       unfolding asks-for
       offer-left = ap asks-for ram-is ∙ sym (rw (t, f))
 
-      pub offer-none : r .end ≤ r .start → a ≡ stop 0 c 0 0 → a ≡ offerOf s c
+      pub offer-none : r .end ≤ r .start → a ≡ stop why.End c 0 0 → a ≡ offerOf s c
       unfolding asks-for
       offer-none h q = q ∙ sym (rw (le-leb (r .end) (r .start) h)) ∙ offer-left
 
-      pub offer-some : r .start < r .end → a ≡ stop 1 c (r .start) (r .end) → a ≡ offerOf s c
+      pub offer-some : r .start < r .end → a ≡ stop why.Ram c (r .start) (r .end) → a ≡ offerOf s c
       unfolding asks-for
       offer-some h q = q ∙ sym (rw (lt-leb (r .end) (r .start) h)) ∙ offer-left
 
 -- a chunk that asks for nothing
-offer-passes : (s : Seen) (c : ℕ) → eqb (offerOf s c .what) 0 ≡ passes s c
-offer-passes s c = go (bitAt 64 (s .registered) c) (bitAt 64 (s .failed) c) (empty (ramFrom (s .granularity) (s .entries) c (c * s .granularity)))
+offer-passes : (s : Seen) (c : ℕ) → isEnd (offerOf s c .why) ≡ passes s c
+offer-passes s c = go (bitAt wordBits (s .registered) c) (bitAt wordBits (s .failed) c) (empty (ramFrom (s .granularity) (s .entries) c (c * s .granularity)))
   where
     go : (a b d : Bool)
-        → eqb (cond a (stop 0 c 0 0) (cond b (stop 2 c (c * s .granularity) 0) (cond d (stop 0 c 0 0) (stop 1 c (ramFrom (s .granularity) (s .entries) c (c * s .granularity) .start) (ramFrom (s .granularity) (s .entries) c (c * s .granularity) .end)))) .what) 0
+        → isEnd (cond a (stop why.End c 0 0) (cond b (stop why.Failed c (c * s .granularity) 0) (cond d (stop why.End c 0 0) (stop why.Ram c (ramFrom (s .granularity) (s .entries) c (c * s .granularity) .start) (ramFrom (s .granularity) (s .entries) c (c * s .granularity) .end)))) .why)
         ≡ (a || (not b && d))
     go true b d = refl
     go false true d = refl
@@ -123,45 +133,45 @@ offer-passes s c = go (bitAt 64 (s .registered) c) (bitAt 64 (s .failed) c) (emp
 
 module _ (s : Seen) (c e : ℕ) where
   module _ (a : Stop) (q : a ≡ offerOf s c) (l : c < e) where
-    pub stop-hit : (a .what ≡ 0 → ⊥) → a ≡ stopAt s c e
+    pub stop-hit : isEnd (a .why) ≡ false → a ≡ stopAt s c e
     unfolding stopAt
-    stop-hit h = q ∙ asked (bitAt 64 (s .registered) c) (bitAt 64 (s .failed) c) (empty (ramFrom (s .granularity) (s .entries) c (c * s .granularity))) (λ z. h (ap (λ (k : Stop). k .what) q ∙ z)) ∙ sym (rw (first-stop (passes s) c e l fails, lt-ltb c e l))
+    stop-hit h = q ∙ asked (bitAt wordBits (s .registered) c) (bitAt wordBits (s .failed) c) (empty (ramFrom (s .granularity) (s .entries) c (c * s .granularity))) (sym (ap (λ (k : Stop). isEnd (k .why)) q) ∙ h) ∙ sym (rw (first-stop (passes s) c e l fails, lt-ltb c e l))
       where
         fails : passes s c ≡ false
-        fails = sym (offer-passes s c) ∙ ne-eqb (offerOf s c .what) 0 (λ z. h (ap (λ (k : Stop). k .what) q ∙ z))
+        fails = sym (offer-passes s c) ∙ sym (ap (λ (k : Stop). isEnd (k .why)) q) ∙ h
 
         two : Stop
-        two = stop 2 c (c * s .granularity) 0
+        two = stop why.Failed c (c * s .granularity) 0
 
         one : Stop
-        one = stop 1 c (ramFrom (s .granularity) (s .entries) c (c * s .granularity) .start) (ramFrom (s .granularity) (s .entries) c (c * s .granularity) .end)
+        one = stop why.Ram c (ramFrom (s .granularity) (s .entries) c (c * s .granularity) .start) (ramFrom (s .granularity) (s .entries) c (c * s .granularity) .end)
 
-        asked : (x y d : Bool) → (cond x (stop 0 c 0 0) (cond y two (cond d (stop 0 c 0 0) one)) .what ≡ 0 → ⊥)
-            → cond x (stop 0 c 0 0) (cond y two (cond d (stop 0 c 0 0) one)) ≡ cond y two one
-        asked true y d k = absurd (k refl)
+        asked : (x y d : Bool) → isEnd (cond x (stop why.End c 0 0) (cond y two (cond d (stop why.End c 0 0) one)) .why) ≡ false
+            → cond x (stop why.End c 0 0) (cond y two (cond d (stop why.End c 0 0) one)) ≡ cond y two one
+        asked true y d k = false≢true (sym k)
         asked false true d k = refl
-        asked false false true k = absurd (k refl)
+        asked false false true k = false≢true (sym k)
         asked false false false k = refl
 
-    pub stop-miss : a .what ≡ 0 → stopAt s c e ≡ stopAt s (c + 1) e
+    pub stop-miss : isEnd (a .why) ≡ true → stopAt s c e ≡ stopAt s (c + 1) e
     unfolding stopAt
-    stop-miss h = rw (first-step (passes s) c e l (sym (offer-passes s c) ∙ eq-eqb (offerOf s c .what) 0 (sym (ap (λ (k : Stop). k .what) q) ∙ h)))
+    stop-miss h = rw (first-step (passes s) c e l (sym (offer-passes s c) ∙ (sym (ap (λ (k : Stop). isEnd (k .why)) q) ∙ h)))
 
-  pub stop-end : e ≤ c → stop 0 c 0 0 ≡ stopAt s c e
+  pub stop-end : e ≤ c → stop why.End c 0 0 ≡ stopAt s c e
   unfolding stopAt
   stop-end h = sym (rw (first-end (passes s) c e h, le-ltb c e h))
 
 -- a chunk whose RAM is asked for is one before e
-pub stop-below : (s : Seen) (c e : ℕ) (a : Stop) → a ≡ stopAt s c e → a .what ≡ 1 → a .chunk < e
+pub stop-below : (s : Seen) (c e : ℕ) (a : Stop) → a ≡ stopAt s c e → hasRam (a .why) ≡ true → a .chunk < e
 unfolding stopAt
 stop-below s c e a q h = elim (decLt (firstNot (passes s) c e) e) [
   | yes d ↦
       let t : ℕ = firstNot (passes s) c e in
       let r : MemoryRange = ramFrom (s .granularity) (s .entries) t (t * s .granularity) in
-      omega (arith, below (bitAt 64 (s .failed) t) (stop 2 t (t * s .granularity) 0) (stop 1 t (r .start) (r .end)) refl refl (q ∙ rw (lt-ltb t e d)), d)
+      omega (arith, below (bitAt wordBits (s .failed) t) (stop why.Failed t (t * s .granularity) 0) (stop why.Ram t (r .start) (r .end)) refl refl (q ∙ rw (lt-ltb t e d)), d)
   | no d ↦
-      let ended : a ≡ stop 0 (firstNot (passes s) c e) 0 0 = q ∙ rw (le-ltb (firstNot (passes s) c e) e (omega arith)) in
-      absurd (omega (arith, ap (λ (k : Stop). k .what) ended))
+      let ended : a ≡ stop why.End (firstNot (passes s) c e) 0 0 = q ∙ rw (le-ltb (firstNot (passes s) c e) e (omega arith)) in
+      false≢true (sym (ap (λ (k : Stop). hasRam (k .why)) ended) ∙ h)
 ]
   where
     below : (b : Bool) (x y : Stop) → x .chunk ≡ firstNot (passes s) c e → y .chunk ≡ firstNot (passes s) c e → a ≡ cond b x y → a .chunk ≡ firstNot (passes s) c e
@@ -174,7 +184,7 @@ module _ (g : ℕ) (registered failed : List ℕ) (c e a : ℕ) (ha : a ≡ firs
   met : ℕ → ℕ → Look
   met a b =
       cond (ltb a e)
-      (cond (bitAt 64 failed a) (FailedBefore (a * g)) (cond (ltb b e && bitAt 64 failed b) (FailedBefore (b * g)) (Stretch a b (a * g) (b * g))))
+      (cond (bitAt wordBits failed a) (FailedBefore (a * g)) (cond (ltb b e && bitAt wordBits failed b) (FailedBefore (b * g)) (Stretch a b (a * g) (b * g))))
       Nothing
 
   from-met : met a (firstNot (alike registered failed false) a e) ≡ stretchIn g registered failed c e
@@ -186,19 +196,19 @@ module _ (g : ℕ) (registered failed : List ℕ) (c e a : ℕ) (ha : a ≡ firs
   stretch-nothing h = sym (rw (le-ltb a e h)) ∙ from-met
 
   module _ (h : a < e) where
-    pub stretch-failed : bitAt 64 failed a ≡ true → FailedBefore (a * g) ≡ stretchIn g registered failed c e
+    pub stretch-failed : bitAt wordBits failed a ≡ true → FailedBefore (a * g) ≡ stretchIn g registered failed c e
     unfolding met
     stretch-failed f = sym (rw (lt-ltb a e h, f)) ∙ from-met
 
-    module _ (f : bitAt 64 failed a ≡ false) (b : ℕ) (hb : b ≡ firstNot (alike registered failed false) a e) where
+    module _ (f : bitAt wordBits failed a ≡ false) (b : ℕ) (hb : b ≡ firstNot (alike registered failed false) a e) where
       from-both : met a b ≡ stretchIn g registered failed c e
       from-both = ap (met a) hb ∙ from-met
 
-      pub stretch-ended : (ltb b e && bitAt 64 failed b) ≡ true → FailedBefore (b * g) ≡ stretchIn g registered failed c e
+      pub stretch-ended : (ltb b e && bitAt wordBits failed b) ≡ true → FailedBefore (b * g) ≡ stretchIn g registered failed c e
       unfolding met
       stretch-ended k = sym (rw (lt-ltb a e h, f, k)) ∙ from-both
 
-      pub stretch-found : (ltb b e && bitAt 64 failed b) ≡ false → Stretch a b (a * g) (b * g) ≡ stretchIn g registered failed c e
+      pub stretch-found : (ltb b e && bitAt wordBits failed b) ≡ false → Stretch a b (a * g) (b * g) ≡ stretchIn g registered failed c e
       unfolding met
       stretch-found k = sym (rw (lt-ltb a e h, f, k)) ∙ from-both
 

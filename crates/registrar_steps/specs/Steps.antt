@@ -3,6 +3,8 @@ use mathlib.Core.Bool.{Bool, true, false, not, cond, _||_, _&&_}
 use mathlib.Core.List.{List, [], _∷_}
 use Prim.Native.Nat.{ℕ, _+_, _*_, _/_, _%_, _^_, min, max}
 use lib.Dec.{eqb, ltb}
+use Rattle.abi.specs.Kinds as kind
+use Rattle.abi.specs.Lengths.{wordBits}
 use Rattle.bitmap.specs.Pages.{bitAt}
 use Rattle.layout.specs.declared.MemoryRange.{MemoryRange}
 use Rattle.layout.specs.declared.MemoryRangeWithNode.{MemoryRangeWithNode}
@@ -12,6 +14,8 @@ use Rattle.registrar_steps.specs.declared.Request.{Request}
 use Rattle.registrar_steps.specs.declared.Unaligned.{Unaligned}
 use Rattle.registrar_steps.specs.declared.Answer.{Answer}
 use Rattle.registrar_steps.specs.declared.Answer.the-variants.{Done, Register, RegistrationFailed, UnalignedMemory}
+use Rattle.registrar_steps.specs.declared.Why.{Why}
+use Rattle.registrar_steps.specs.declared.Why.the-variants as why
 use Rattle.registrar_steps.specs.declared.Stop.{Stop}
 use Rattle.registrar_steps.specs.declared.Look.{Look}
 use Rattle.registrar_steps.specs.declared.Look.the-variants.{Nothing, Edge, FailedBefore, Stretch}
@@ -25,26 +29,26 @@ pub record Seen : Type 0 where
   pub failed : List ℕ
 
 abbrev pub seen : ℕ → List MemoryRangeWithNode → List ℕ → List ℕ → Seen
-seen g es r f = record { granularity = g; entries = es; registered = r; failed = f }
+seen granularity entries registered failed = record { granularity = granularity; entries = entries; registered = registered; failed = failed }
 
 -- nothing asked
 abbrev pub idle : Request
-idle = record { kind = 0; count = 0; from = 0; to = 0; start = 0; end = 0; until = 0; alignment = 0; ignore = 0 }
+idle = record { kind = kind.none; count = 0; from = 0; to = 0; start = 0; end = 0; until = 0; alignment = 0; ignore = 0 }
 
 abbrev pub isIdle : Request → Bool
-isIdle q =
-    eqb (q .kind) 0 && (eqb (q .count) 0 && (eqb (q .from) 0 && (eqb (q .to) 0 && (eqb (q .start) 0 && (eqb (q .end) 0 && (eqb (q .until) 0 && (eqb (q .alignment) 0 && eqb (q .ignore) 0)))))))
+isIdle request =
+    eqb (request .kind) kind.none && (eqb (request .count) 0 && (eqb (request .from) 0 && (eqb (request .to) 0 && (eqb (request .start) 0 && (eqb (request .end) 0 && (eqb (request .until) 0 && (eqb (request .alignment) 0 && eqb (request .ignore) 0)))))))
 
 -- the operation that a request asks for, at offset + address in 64 bits
 abbrev pub askedOf : ℕ → Request → Answer
-askedOf offset q = Register (range ((offset + q .start) % 2 ^ 64) ((offset + q .end) % 2 ^ 64))
+askedOf offset request = Register (range ((offset + request .start) % 2 ^ 64) ((offset + request .end) % 2 ^ 64))
 
--- a plan: the chunks from a to before b become registered, and this is asked or answered
+-- a plan: the chunks from `from` to before `to` become registered, and this is asked or answered
 abbrev pub asks : ℕ → ℕ → ℕ → Request → Plan
-asks offset a b q = record { from = a; to = b; request = q; answer = askedOf offset q }
+asks offset from to request = record { from = from; to = to; request = request; answer = askedOf offset request }
 
 abbrev pub ends : ℕ → ℕ → Answer → Plan
-ends a b r = record { from = a; to = b; request = idle; answer = r }
+ends from to answer = record { from = from; to = to; request = idle; answer = answer }
 
 -- one operation more, in 64 bits
 abbrev pub more : ℕ → ℕ
@@ -52,92 +56,104 @@ more n = (n + 1) % 2 ^ 64
 
 -- ---- register
 
--- the first of a chunk's RAM from address x on
+-- the first of a chunk's RAM from an address on
 abbrev pub ramFrom : ℕ → List MemoryRangeWithNode → ℕ → ℕ → MemoryRange
-ramFrom g es c x = firstOf (pieces x ((c + 1) * g) (spans es))
+ramFrom granularity entries chunk from = firstOf (pieces from ((chunk + 1) * granularity) (spans entries))
 
 -- a chunk that asks for nothing: it is registered, or has not failed and has no RAM
 abbrev pub passes : Seen → ℕ → Bool
-passes s c =
-    bitAt 64 (s .registered) c || (not (bitAt 64 (s .failed) c) && empty (ramFrom (s .granularity) (s .entries) c (c * s .granularity)))
+passes view chunk =
+    bitAt wordBits (view .registered) chunk || (not (bitAt wordBits (view .failed) chunk) && empty (ramFrom (view .granularity) (view .entries) chunk (chunk * view .granularity)))
 
--- a piece of RAM of the chunks from a to before b, for a request that ends before chunk `until` and has asked n times
+-- a piece of RAM of the chunks from `from` to before `to`, for a request that ends before chunk `until` and has asked `count` times
 abbrev pub pieceOf : ℕ → ℕ → ℕ → ℕ → MemoryRange → Request
-pieceOf n a b until r =
-    record { kind = 1; count = more n; from = a; to = b; start = r .start; end = r .end; until = until; alignment = 0; ignore = 0 }
+pieceOf count from to until r =
+    record { kind = kind.register; count = more count; from = from; to = to; start = r .start; end = r .end; until = until; alignment = 0; ignore = 0 }
 
--- from chunk c on: chunks that ask for nothing become registered; one that failed before ends it with 23; else its RAM is offered
+-- from a chunk on: chunks that ask for nothing become registered; one that failed before ends it with 23; else its RAM is offered
 unfoldable pub registerFrom : Seen → ℕ → ℕ → ℕ → ℕ → Plan
-registerFrom s offset n c until =
-    let e : ℕ = min until (chunkCount (s .granularity) (s .entries)) in
-    let t : ℕ = firstNot (passes s) c e in
-    cond (ltb t e)
-    (cond (bitAt 64 (s .failed) t) (ends c t (RegistrationFailed (t * s .granularity) n))
-    (asks offset c t (pieceOf n t (t + 1) until (ramFrom (s .granularity) (s .entries) t (t * s .granularity)))))
-    (ends c t (Done n))
+registerFrom view offset count from until =
+    let to : ℕ = min until (chunkCount (view .granularity) (view .entries)) in
+    let at : ℕ = firstNot (passes view) from to in
+    cond (ltb at to)
+    (cond (bitAt wordBits (view .failed) at) (ends from at (RegistrationFailed (at * view .granularity) count))
+    (asks offset from at (pieceOf count at (at + 1) until (ramFrom (view .granularity) (view .entries) at (at * view .granularity)))))
+    (ends from at (Done count))
 
--- the same in numbers, as the code finds it: 0 at the end (of one chunk: nothing to ask for), 1 at a chunk with RAM to ask for, 2 at one that
--- failed before
-abbrev pub stop : ℕ → ℕ → ℕ → ℕ → Stop
-stop what c x y = record { what = what; chunk = c; start = x; end = y }
+-- the same as the code finds it: a stop at the end (of one chunk: nothing to ask for), at a chunk with RAM to ask for, or at one that failed before
+abbrev pub isEnd : Why → Bool
+isEnd why.End = true
+isEnd why.Ram = false
+isEnd why.Failed = false
 
--- what chunk c asks for
+abbrev pub hasRam : Why → Bool
+hasRam why.End = false
+hasRam why.Ram = true
+hasRam why.Failed = false
+
+abbrev pub stop : Why → ℕ → ℕ → ℕ → Stop
+stop reason chunk start end = record { why = reason; chunk = chunk; start = start; end = end }
+
+-- what a chunk asks for
 abbrev pub offerOf : Seen → ℕ → Stop
-offerOf s c =
-    let r : MemoryRange = ramFrom (s .granularity) (s .entries) c (c * s .granularity) in
-    cond (bitAt 64 (s .registered) c) (stop 0 c 0 0)
-    (cond (bitAt 64 (s .failed) c) (stop 2 c (c * s .granularity) 0)
-    (cond (empty r) (stop 0 c 0 0) (stop 1 c (r .start) (r .end))))
+offerOf view chunk =
+    let r : MemoryRange = ramFrom (view .granularity) (view .entries) chunk (chunk * view .granularity) in
+    cond (bitAt wordBits (view .registered) chunk) (stop why.End chunk 0 0)
+    (cond (bitAt wordBits (view .failed) chunk) (stop why.Failed chunk (chunk * view .granularity) 0)
+    (cond (empty r) (stop why.End chunk 0 0) (stop why.Ram chunk (r .start) (r .end))))
 
--- where a walk from chunk c to before e stops
+-- where a walk over chunks stops
 unfoldable pub stopAt : Seen → ℕ → ℕ → Stop
-stopAt s c e =
-    let t : ℕ = firstNot (passes s) c e in
-    let r : MemoryRange = ramFrom (s .granularity) (s .entries) t (t * s .granularity) in
-    cond (ltb t e) (cond (bitAt 64 (s .failed) t) (stop 2 t (t * s .granularity) 0) (stop 1 t (r .start) (r .end))) (stop 0 t 0 0)
+stopAt view from to =
+    let at : ℕ = firstNot (passes view) from to in
+    let r : MemoryRange = ramFrom (view .granularity) (view .entries) at (at * view .granularity) in
+    cond (ltb at to) (cond (bitAt wordBits (view .failed) at) (stop why.Failed at (at * view .granularity) 0) (stop why.Ram at (r .start) (r .end))) (stop why.End at 0 0)
 
 -- the plan of such a stop
+abbrev pub planAt : ℕ → ℕ → ℕ → ℕ → Stop → Why → Plan
+planAt offset count from until at why.End = ends from (at .chunk) (Done count)
+planAt offset count from until at why.Ram = asks offset from (at .chunk) (pieceOf count (at .chunk) (at .chunk + 1) until (range (at .start) (at .end)))
+planAt offset count from until at why.Failed = ends from (at .chunk) (RegistrationFailed (at .start) count)
+
 abbrev pub stopPlan : ℕ → ℕ → ℕ → ℕ → Stop → Plan
-stopPlan offset n c until a =
-    cond (eqb (a .what) 1) (asks offset c (a .chunk) (pieceOf n (a .chunk) (a .chunk + 1) until (range (a .start) (a .end))))
-    (cond (eqb (a .what) 2) (ends c (a .chunk) (RegistrationFailed (a .start) n)) (ends c (a .chunk) (Done n)))
+stopPlan offset count from until at = planAt offset count from until at (at .why)
 
 -- ---- register_all_aligned
 
--- the chunks from c to before e: the next unregistered stretch, or the start of a chunk that failed before
+-- of the chunks from `from` to before `to`: the next unregistered stretch, or the start of a chunk that failed before
 abbrev pub stretchIn : ℕ → List ℕ → List ℕ → ℕ → ℕ → Look
-stretchIn g registered failed c e =
-    let a : ℕ = firstNot (alike registered failed true) c e in
-    let b : ℕ = firstNot (alike registered failed false) a e in
-    cond (ltb a e)
-    (cond (bitAt 64 failed a) (FailedBefore (a * g)) (cond (ltb b e && bitAt 64 failed b) (FailedBefore (b * g)) (Stretch a b (a * g) (b * g))))
+stretchIn granularity registered failed from to =
+    let first : ℕ = firstNot (alike registered failed true) from to in
+    let after : ℕ = firstNot (alike registered failed false) first to in
+    cond (ltb first to)
+    (cond (bitAt wordBits failed first) (FailedBefore (first * granularity)) (cond (ltb after to && bitAt wordBits failed after) (FailedBefore (after * granularity)) (Stretch first after (first * granularity) (after * granularity))))
     Nothing
 
--- a span: its edge unless edges are ignored, else what its aligned part has from chunk c on
+-- a span: its edge unless edges are ignored, else what its aligned part has from a chunk on
 unfoldable pub lookAt : ℕ → List ℕ → List ℕ → ℕ → ℕ → ℕ → MemoryRange → Look
-lookAt g registered failed al ignore c r =
-    let p : MemoryRange = alignedPart al r in
-    cond (eqb ignore 0 && not (empty (edgeOf al r))) (Edge (edgeOf al r))
+lookAt granularity registered failed alignment ignore chunk span =
+    let p : MemoryRange = alignedPart alignment span in
+    cond (eqb ignore 0 && not (empty (edgeOf alignment span))) (Edge (edgeOf alignment span))
     (cond (empty p) Nothing
-    (stretchIn g registered failed (max c (p .start / g)) (p .end / g)))
+    (stretchIn granularity registered failed (max chunk (p .start / granularity)) (p .end / granularity)))
 
 -- 22 with its fields
 abbrev pub unalignedAt : List MemoryRangeWithNode → ℕ → MemoryRange → MemoryRange → Unaligned
-unalignedAt es al r edge =
-    let e : MemoryRangeWithNode = entryWith edge es in
-    record { span = r; edge = edge; vnode = e .vnode; «node_range» = range (e .start) (e .end); alignment = al }
+unalignedAt entries alignment span edge =
+    let entry : MemoryRangeWithNode = entryWith edge entries in
+    record { span = span; edge = edge; vnode = entry .vnode; «node_range» = range (entry .start) (entry .end); alignment = alignment }
 
--- the chunks from a to before b, bytes x to before y, for a call that has asked n times
+-- a stretch of chunks and its bytes, for a call that has asked `count` times
 abbrev pub stretchOf : ℕ → ℕ → ℕ → ℕ → ℕ → ℕ → ℕ → Request
-stretchOf n al ignore a b x y =
-    record { kind = 2; count = more n; from = a; to = b; start = x; end = y; until = 0; alignment = al; ignore = ignore }
+stretchOf count alignment ignore from to start end =
+    record { kind = kind.registerAll; count = more count; from = from; to = to; start = start; end = end; until = 0; alignment = alignment; ignore = ignore }
 
 -- what is found in a span ends the step, save nothing
 abbrev pub found : List MemoryRangeWithNode → ℕ → ℕ → ℕ → ℕ → MemoryRange → Look → Plan → Plan
-found es offset n al ignore r Nothing rest = rest
-found es offset n al ignore r (Edge edge) rest = ends 0 0 (UnalignedMemory (unalignedAt es al r edge) n)
-found es offset n al ignore r (FailedBefore x) rest = ends 0 0 (RegistrationFailed x n)
-found es offset n al ignore r (Stretch a b x y) rest = asks offset 0 0 (stretchOf n al ignore a b x y)
+found entries offset count alignment ignore span Nothing rest = rest
+found entries offset count alignment ignore span (Edge edge) rest = ends 0 0 (UnalignedMemory (unalignedAt entries alignment span edge) count)
+found entries offset count alignment ignore span (FailedBefore address) rest = ends 0 0 (RegistrationFailed address count)
+found entries offset count alignment ignore span (Stretch from to start end) rest = asks offset 0 0 (stretchOf count alignment ignore from to start end)
 
 abbrev pub isNothing : Look → Bool
 isNothing Nothing = true
@@ -146,5 +162,5 @@ isNothing (FailedBefore x) = false
 isNothing (Stretch a b x y) = false
 
 unfoldable pub allFrom : Seen → ℕ → ℕ → ℕ → ℕ → ℕ → List MemoryRange → Plan
-allFrom s offset n al ignore c [] = ends 0 0 (Done n)
-allFrom s offset n al ignore c (r ∷ rs) = found (s .entries) offset n al ignore r (lookAt (s .granularity) (s .registered) (s .failed) al ignore c r) (allFrom s offset n al ignore c rs)
+allFrom view offset count alignment ignore chunk [] = ends 0 0 (Done count)
+allFrom view offset count alignment ignore chunk (span ∷ later) = found (view .entries) offset count alignment ignore span (lookAt (view .granularity) (view .registered) (view .failed) alignment ignore chunk span) (allFrom view offset count alignment ignore chunk later)

@@ -3,10 +3,12 @@ ghost use mathlib.Core.Path.{_≡_};
 ghost use Prim.Native.Nat.{ℕ, _+_, _*_, _≤_, _<_, _^_, min};
 ghost use mathlib.Core.Bool.{true, not, _&&_};
 ghost use lib.Dec.{eqb, ltb};
+ghost use Rattle.abi.specs.Lengths.{wordBits};
 ghost use Rattle.bitmap.specs.Pages.{bitAt};
 ghost use Rattle.layout.specs.Layout.{entriesOf, spans};
 ghost use Rattle.chunks.specs.Chunks.{chunkCount, empty};
-ghost use Rattle.registrar_steps.specs.Steps.{seen, ramFrom, idle, isIdle, askedOf, asks, ends, pieceOf, stop, offerOf, stopAt, stretchIn, lookAt, unalignedAt, stretchOf, isNothing, found, allFrom};
+ghost use Rattle.registrar_steps.specs.Steps.{seen, ramFrom, idle, isIdle, askedOf, asks, ends, pieceOf, isEnd, hasRam, stop, offerOf, stopAt, stretchIn, lookAt, unalignedAt, stretchOf, isNothing, found, allFrom};
+use abi::kind;
 use layout::MemoryRange;
 
 // The request under way. kind: 0 nothing asked, 1 register, else register_all_aligned. The chunks from `from` to before
@@ -41,10 +43,17 @@ pub enum Answer {
     Refused(u64),
 }
 
-// Where `register` stops: 0 at the end, 1 at a chunk with RAM to ask for, 2 at one that failed before, with its address. Of one
-// chunk 0 is that it asks for nothing.
+// Why `register` stops: at the end, at a chunk with RAM to ask for, at one that failed before. Of one chunk End is that it
+// asks for nothing.
+pub enum Why {
+    End,
+    Ram,
+    Failed,
+}
+
+// Where `register` stops, with the address of a chunk that failed before, or of the RAM to ask for.
 pub struct Stop {
-    pub what: u64,
+    pub why: Why,
     pub chunk: u64,
     pub start: u64,
     pub end: u64,
@@ -71,122 +80,162 @@ pub struct Plan {
     pub answer: Answer,
 }
 
-fn stop_of(what: u64, chunk: u64, start: u64, end: u64) -> Stop
-    ensures { λ r. ⌜ r ≡ stop what chunk start end ⌝ }
+// A stop of its parts.
+fn stop_of(why: Why, chunk: u64, start: u64, end: u64) -> Stop
+    ensures { λ r. ⌜ r ≡ stop why chunk start end ⌝ }
 {
     Stop {
-        what: what,
+        why: why,
         chunk: chunk,
         start: start,
         end: end,
     }
 }
 
-// What chunk c asks for.
-fn offer_of(ram: &[u64], g: u64, registered: &[u64], failed: &[u64], c: u64) -> Stop
-    requires { ⌜ c * g < 2 ^ 64 ⌝ }
-    ensures { λ r. ⌜ r ≡ offerOf (seen g (entriesOf (now (ram .entry))) (now (registered .entry)) (now (failed .entry))) c ⌝ }
+// What a chunk asks for.
+fn offer_of(ram: &[u64], granularity: u64, registered: &[u64], failed: &[u64], chunk: u64) -> Stop
+    requires { ⌜ chunk * granularity < 2 ^ 64 ⌝ }
+    ensures { λ r. ⌜ r ≡ offerOf (seen granularity (entriesOf (now (ram .entry))) (now (registered .entry)) (now (failed .entry))) chunk ⌝ }
 {
-    if bitmap::get(registered, c) {
-        return stop_of(0, c, 0, 0);
+    if bitmap::get(registered, chunk) {
+        return stop_of(Why::End, chunk, 0, 0);
     }
-    let start = c * g;
-    let failed_before = bitmap::get(failed, c);
+    let start = chunk * granularity;
+    let failed_before = bitmap::get(failed, chunk);
     if failed_before {
-        return stop_of(2, c, start, 0);
+        return stop_of(Why::Failed, chunk, start, 0);
     }
-    let first = chunks::chunk_ram(ram, g, start);
+    let first = chunks::chunk_ram(ram, granularity, start);
     if first.end <= first.start {
-        return stop_of(0, c, 0, 0);
+        return stop_of(Why::End, chunk, 0, 0);
     }
-    stop_of(1, c, first.start, first.end)
+    stop_of(Why::Ram, chunk, first.start, first.end)
+}
+
+// Whether a stop is at the end.
+fn is_end(stop: Stop) -> bool
+    ensures { λ r. ⌜ r ≡ isEnd (stop .why) ⌝ }
+{
+    let why = stop.why;
+    match why {
+        Why::End => true,
+        Why::Ram => false,
+        Why::Failed => false,
+    }
+}
+
+// Whether a stop is at RAM to ask for.
+pub fn has_ram(stop: Stop) -> bool
+    ensures { λ r. ⌜ r ≡ hasRam (stop .why) ⌝ }
+{
+    let why = stop.why;
+    match why {
+        Why::End => false,
+        Why::Ram => true,
+        Why::Failed => false,
+    }
 }
 
 // The first chunk from `from` to before `to` that asks for something, and what it asks for.
-fn walk(ram: &[u64], g: u64, registered: &[u64], failed: &[u64], from: u64, to: u64) -> Stop
-    requires { ⌜ ((c : ℕ) → c < to → c * g < 2 ^ 64) ⌝ }
-    ensures { λ r. ⌜ r ≡ stopAt (seen g (entriesOf (now (ram .entry))) (now (registered .entry)) (now (failed .entry))) from to ⌝ }
+fn walk(
+    ram: &[u64],
+    granularity: u64,
+    registered: &[u64],
+    failed: &[u64],
+    from: u64,
+    to: u64,
+) -> Stop
+    requires { ⌜ ((c : ℕ) → c < to → c * granularity < 2 ^ 64) ⌝ }
+    ensures { λ r. ⌜ r ≡ stopAt (seen granularity (entriesOf (now (ram .entry))) (now (registered .entry)) (now (failed .entry))) from to ⌝ }
 {
     let mut c = from;
     while c < to {
-        let offer = offer_of(ram, g, registered, failed, c);
-        if offer.what != 0 {
+        let offer = offer_of(ram, granularity, registered, failed, c);
+        if !is_end(offer) {
             return offer;
         }
         c += 1;
     }
-    stop_of(0, c, 0, 0)
+    stop_of(Why::End, c, 0, 0)
 }
 
-// Where `register` stops, from chunk `from` on, of a request that ends before chunk `until`, where there are n chunks.
+// Where `register` stops, from chunk `from` on, of a request that ends before chunk `until`, where there are `total` chunks.
 pub fn stop_from(
     ram: &[u64],
-    g: u64,
+    granularity: u64,
     registered: &[u64],
     failed: &[u64],
-    n: u64,
+    total: u64,
     from: u64,
     until: u64,
 ) -> Stop
-    requires { ⌜ n ≡ chunkCount g (entriesOf (now ram)) ⌝ }
-    ensures { λ r. ⌜ (r ≡ stopAt (seen g (entriesOf (now (ram .entry))) (now (registered .entry)) (now (failed .entry))) from (min until n)) × (r .chunk < min until n → r .chunk * g < 2 ^ 64) ⌝ }
+    requires { ⌜ total ≡ chunkCount granularity (entriesOf (now ram)) ⌝ }
+    ensures { λ r. ⌜ (r ≡ stopAt (seen granularity (entriesOf (now (ram .entry))) (now (registered .entry)) (now (failed .entry))) from (min until total)) × (r .chunk < min until total → r .chunk * granularity < 2 ^ 64) ⌝ }
 {
-    walk(ram, g, registered, failed, from, numbers::least(until, n))
+    walk(
+        ram,
+        granularity,
+        registered,
+        failed,
+        from,
+        numbers::least(until, total),
+    )
 }
 
-// Whether chunk c, of n, ends at address x or before. Is false where c isn't one of the n.
-fn is_whole(c: u64, g: u64, n: u64, x: u64) -> bool
-    requires { ⌜ (c < n → c * g < 2 ^ 64) ⌝ }
-    ensures { λ r. ⌜ (r ≡ true → (c + 1) * g ≤ x) ⌝ }
+// Whether a chunk ends at an address or before it. Is false of a chunk past the last.
+fn is_whole(chunk: u64, granularity: u64, total: u64, address: u64) -> bool
+    requires { ⌜ (chunk < total → chunk * granularity < 2 ^ 64) ⌝ }
+    ensures { λ r. ⌜ (r ≡ true → (chunk + 1) * granularity ≤ address) ⌝ }
 {
-    if n <= c {
+    if total <= chunk {
         return false;
     }
-    let start = c * g;
-    if x < start {
+    let start = chunk * granularity;
+    if address < start {
         return false;
     }
-    g <= x - start
+    granularity <= address - start
 }
 
-// The RAM of chunk c from address x on, where there are n chunks.
-pub fn rest_of(ram: &[u64], g: u64, n: u64, c: u64, x: u64) -> MemoryRange
-    requires { ⌜ n ≡ chunkCount g (entriesOf (now ram)) ⌝ }
-    ensures { λ r. ⌜ r ≡ ramFrom g (entriesOf (now (ram .entry))) c x ⌝ }
+// The first RAM of a chunk from an address on, where there are `total` chunks: empty where there is none.
+pub fn rest_of(ram: &[u64], granularity: u64, total: u64, chunk: u64, from: u64) -> MemoryRange
+    requires { ⌜ total ≡ chunkCount granularity (entriesOf (now ram)) ⌝ }
+    ensures { λ r. ⌜ r ≡ ramFrom granularity (entriesOf (now (ram .entry))) chunk from ⌝ }
 {
-    if is_whole(c, g, n, x) {
+    if is_whole(chunk, granularity, total, from) {
         return MemoryRange { start: 0, end: 0 };
     }
-    chunks::next_ram(ram, g, c, x)
+    chunks::next_ram(ram, granularity, chunk, from)
 }
 
 // The operation that a request asks for.
-pub fn asked(offset: u64, q: Request) -> Answer
-    ensures { λ r. ⌜ r ≡ askedOf offset q ⌝ }
+fn asked(offset: u64, request: Request) -> Answer
+    ensures { λ r. ⌜ r ≡ askedOf offset request ⌝ }
 {
     Answer::Register(MemoryRange {
-        start: std::num::wrapping_add_u64(offset, q.start),
-        end: std::num::wrapping_add_u64(offset, q.end),
+        start: std::num::wrapping_add_u64(offset, request.start),
+        end: std::num::wrapping_add_u64(offset, request.end),
     })
 }
 
-pub fn ask(offset: u64, from: u64, to: u64, q: Request) -> Plan
-    ensures { λ r. ⌜ r ≡ asks offset from to q ⌝ }
+// The plan that asks for a request's operation, once the chunks from `from` to before `to` are registered.
+fn ask(offset: u64, from: u64, to: u64, request: Request) -> Plan
+    ensures { λ r. ⌜ r ≡ asks offset from to request ⌝ }
 {
     Plan {
         from: from,
         to: to,
-        request: q,
-        answer: asked(offset, q),
+        request: request,
+        answer: asked(offset, request),
     }
 }
 
-// Nothing asked.
+// The request where nothing is asked: all its words are 0.
 pub fn idle() -> Request
     ensures { λ q. ⌜ q ≡ idle ⌝ }
 {
     Request {
-        kind: 0,
+        kind: kind::NONE,
         count: 0,
         from: 0,
         to: 0,
@@ -198,36 +247,38 @@ pub fn idle() -> Request
     }
 }
 
-pub fn is_idle(q: Request) -> bool
-    ensures { λ r. ⌜ r ≡ isIdle q ⌝ }
+// Whether all words of a request are 0.
+pub fn is_idle(request: Request) -> bool
+    ensures { λ r. ⌜ r ≡ isIdle request ⌝ }
 {
-    if q.kind != 0 {
+    if request.kind != kind::NONE {
         return false;
     }
-    if q.count != 0 {
+    if request.count != 0 {
         return false;
     }
-    if q.from != 0 {
+    if request.from != 0 {
         return false;
     }
-    if q.to != 0 {
+    if request.to != 0 {
         return false;
     }
-    if q.start != 0 {
+    if request.start != 0 {
         return false;
     }
-    if q.end != 0 {
+    if request.end != 0 {
         return false;
     }
-    if q.until != 0 {
+    if request.until != 0 {
         return false;
     }
-    if q.alignment != 0 {
+    if request.alignment != 0 {
         return false;
     }
-    q.ignore == 0
+    request.ignore == 0
 }
 
+// The plan that ends a call with an answer, once the chunks from `from` to before `to` are registered.
 fn end(from: u64, to: u64, answer: Answer) -> Plan
     ensures { λ r. ⌜ r ≡ ends from to answer ⌝ }
 {
@@ -240,57 +291,59 @@ fn end(from: u64, to: u64, answer: Answer) -> Plan
 }
 
 // The request for a piece of RAM of the chunks from `from` to before `to`.
-pub fn piece(count: u64, from: u64, to: u64, until: u64, r: MemoryRange) -> Request
-    ensures { λ q. ⌜ q ≡ pieceOf count from to until r ⌝ }
+pub fn piece(count: u64, from: u64, to: u64, until: u64, range: MemoryRange) -> Request
+    ensures { λ q. ⌜ q ≡ pieceOf count from to until range ⌝ }
 {
     Request {
-        kind: 1,
+        kind: kind::REGISTER,
         count: std::num::wrapping_add_u64(count, 1),
         from: from,
         to: to,
-        start: r.start,
-        end: r.end,
+        start: range.start,
+        end: range.end,
         until: until,
         alignment: 0,
         ignore: 0,
     }
 }
 
-fn is_failed_before(failed: &[u64], c: u64, to: u64) -> bool
-    ensures { λ r. ⌜ r ≡ (ltb c to && bitAt 64 (now (failed .entry)) c) ⌝ }
+// Whether a chunk is before `to` and has failed.
+fn is_failed_before(failed: &[u64], chunk: u64, to: u64) -> bool
+    ensures { λ r. ⌜ r ≡ (ltb chunk to && bitAt wordBits (now (failed .entry)) chunk) ⌝ }
 {
-    if c < to {
-        bitmap::get(failed, c)
+    if chunk < to {
+        bitmap::get(failed, chunk)
     } else {
         false
     }
 }
 
 // The next unregistered stretch, or a chunk that failed before.
-fn stretch_in(registered: &[u64], failed: &[u64], g: u64, from: u64, to: u64) -> Look
-    requires { ⌜ to * g < 2 ^ 64 ⌝ }
-    ensures { λ r. ⌜ r ≡ stretchIn g (now (registered .entry)) (now (failed .entry)) from to ⌝ }
+fn stretch_in(registered: &[u64], failed: &[u64], granularity: u64, from: u64, to: u64) -> Look
+    requires { ⌜ to * granularity < 2 ^ 64 ⌝ }
+    ensures { λ r. ⌜ r ≡ stretchIn granularity (now (registered .entry)) (now (failed .entry)) from to ⌝ }
 {
     let a = chunks::run_end(registered, failed, true, from, to);
     if to <= a {
         return Look::Nothing;
     }
     if bitmap::get(failed, a) {
-        return Look::FailedBefore(a * g);
+        return Look::FailedBefore(a * granularity);
     }
     let b = chunks::run_end(registered, failed, false, a, to);
     if is_failed_before(failed, b, to) {
-        return Look::FailedBefore(b * g);
+        return Look::FailedBefore(b * granularity);
     }
     Look::Stretch {
         from: a,
         to: b,
-        start: a * g,
-        end: b * g,
+        start: a * granularity,
+        end: b * granularity,
     }
 }
 
-fn is_barred(ignore: u64, edge: MemoryRange) -> bool
+// Whether an edge refuses the call: there is one, and edges aren't ignored.
+fn edge_refused(ignore: u64, edge: MemoryRange) -> bool
     ensures { λ r. ⌜ r ≡ (eqb ignore 0 && not (empty edge)) ⌝ }
 {
     if ignore == 0 {
@@ -300,41 +353,42 @@ fn is_barred(ignore: u64, edge: MemoryRange) -> bool
     }
 }
 
-// What is next in a span from chunk c on.
+// What is next in a span from a chunk on.
 fn look_at(
-    g: u64,
+    granularity: u64,
     registered: &[u64],
     failed: &[u64],
     alignment: u64,
     ignore: u64,
-    c: u64,
-    r: MemoryRange,
+    chunk: u64,
+    span: MemoryRange,
 ) -> Look
-    ensures { λ l. ⌜ l ≡ lookAt g (now (registered .entry)) (now (failed .entry)) alignment ignore c r ⌝ }
+    ensures { λ l. ⌜ l ≡ lookAt granularity (now (registered .entry)) (now (failed .entry)) alignment ignore chunk span ⌝ }
 {
-    let edge = chunks::unaligned_edge(alignment, r);
-    if is_barred(ignore, edge) {
+    let edge = chunks::unaligned_edge(alignment, span);
+    if edge_refused(ignore, edge) {
         return Look::Edge(edge);
     }
-    let p = chunks::aligned_subrange(alignment, r);
+    let p = chunks::aligned_subrange(alignment, span);
     if p.end <= p.start {
         return Look::Nothing;
     }
     stretch_in(
         registered,
         failed,
-        g,
-        numbers::greatest(c, chunks::div(p.start, g)),
-        chunks::div(p.end, g),
+        granularity,
+        numbers::greatest(chunk, chunks::div(p.start, granularity)),
+        chunks::div(p.end, granularity),
     )
 }
 
-fn unaligned_fields(ram: &[u64], alignment: u64, r: MemoryRange, edge: MemoryRange) -> Unaligned
-    ensures { λ u. ⌜ u ≡ unalignedAt (entriesOf (now (ram .entry))) alignment r edge ⌝ }
+// The fields of UnalignedMemory: the entry is the first that has a byte of the edge.
+fn unaligned_fields(ram: &[u64], alignment: u64, span: MemoryRange, edge: MemoryRange) -> Unaligned
+    ensures { λ u. ⌜ u ≡ unalignedAt (entriesOf (now (ram .entry))) alignment span edge ⌝ }
 {
     let e = chunks::entry_with(ram, edge);
     Unaligned {
-        span: r,
+        span: span,
         edge: edge,
         vnode: e.vnode,
         node_range: MemoryRange {
@@ -345,6 +399,7 @@ fn unaligned_fields(ram: &[u64], alignment: u64, r: MemoryRange, edge: MemoryRan
     }
 }
 
+// Whether a span has nothing to ask for and nothing that ends the call.
 fn is_nothing(look: Look) -> bool
     ensures { λ b. ⌜ b ≡ isNothing look ⌝ }
 {
@@ -374,7 +429,7 @@ fn stretch_request(
     ensures { λ q. ⌜ q ≡ stretchOf count alignment ignore from to start end ⌝ }
 {
     Request {
-        kind: 2,
+        kind: kind::REGISTER_ALL,
         count: std::num::wrapping_add_u64(count, 1),
         from: from,
         to: to,
@@ -393,17 +448,17 @@ fn act(
     count: u64,
     alignment: u64,
     ignore: u64,
-    r: MemoryRange,
+    span: MemoryRange,
     look: Look,
 ) -> Plan
-    ensures { λ p. ⌜ p ≡ found (entriesOf (now (ram .entry))) offset count alignment ignore r look (ends 0 0 (Answer.Done count)) ⌝ }
+    ensures { λ p. ⌜ p ≡ found (entriesOf (now (ram .entry))) offset count alignment ignore span look (ends 0 0 (Answer.Done count)) ⌝ }
 {
     match look {
         Look::Nothing => end(0, 0, Answer::Done(count)),
         Look::Edge(edge) => end(
             0,
             0,
-            Answer::UnalignedMemory(unaligned_fields(ram, alignment, r, edge), count),
+            Answer::UnalignedMemory(unaligned_fields(ram, alignment, span, edge), count),
         ),
         Look::FailedBefore(address) => end(0, 0, Answer::RegistrationFailed { address, count }),
         Look::Stretch {
@@ -420,19 +475,19 @@ fn act(
     }
 }
 
-// From chunk c on, of a call that has asked `count` times.
+// What `register_all_aligned` does next, from a chunk on, of a call that has asked `count` times.
 pub fn all_from(
     ram: &[u64],
     offset: u64,
-    g: u64,
+    granularity: u64,
     registered: &[u64],
     failed: &[u64],
     count: u64,
     alignment: u64,
     ignore: u64,
-    c: u64,
+    chunk: u64,
 ) -> Plan
-    ensures { λ r. ⌜ r ≡ allFrom (seen g (entriesOf (now (ram .entry))) (now (registered .entry)) (now (failed .entry))) offset count alignment ignore c (spans (entriesOf (now (ram .entry)))) ⌝ }
+    ensures { λ r. ⌜ r ≡ allFrom (seen granularity (entriesOf (now (ram .entry))) (now (registered .entry)) (now (failed .entry))) offset count alignment ignore chunk (spans (entriesOf (now (ram .entry)))) ⌝ }
 {
     let n = layout::entry_count(ram);
     let mut i: u64 = 0;
@@ -442,7 +497,15 @@ pub fn all_from(
             start: at.start,
             end: at.end,
         };
-        let look = look_at(g, registered, failed, alignment, ignore, c, span);
+        let look = look_at(
+            granularity,
+            registered,
+            failed,
+            alignment,
+            ignore,
+            chunk,
+            span,
+        );
         if !is_nothing(look) {
             return act(ram, offset, count, alignment, ignore, span, look);
         }

@@ -12,16 +12,16 @@ div-requires : tie.Need-div-requires
 div-requires c κs = search needs
 
 mul-t7 : tie.Need-mul-t7
-mul-t7 c = omega (arith, laws.aligned-fits (c .before .before .before .args .alignment) (c .before .before .before .args .r) (c .before .before .div-ceil .result) (c .before .div .result) (c .before .before .div-ceil .ensures) (c .before .div .ensures) (omega arith))
+mul-t7 c = omega (arith, laws.aligned-fits (c .before .before .before .args .alignment) (c .before .before .before .args .span) (c .before .before .div-ceil .result) (c .before .div .result) (c .before .before .div-ceil .ensures) (c .before .div .ensures) (omega arith))
 
 mul-t8 : tie.Need-mul-t8
-mul-t8 c = omega (arith, laws.quotient-fits (c .before .before .before .args .r .end) (c .before .before .before .args .alignment) (c .before .div .result) (c .before .div .ensures))
+mul-t8 c = omega (arith, laws.quotient-fits (c .before .before .before .args .span .end) (c .before .before .before .args .alignment) (c .before .div .result) (c .before .div .ensures))
 
 returns : tie.Need-returns
-returns c = laws.aligned-some (c .before .before .before .args .alignment) (c .before .before .before .args .r) (c .before .before .div-ceil .result) (c .before .div .result) (c .before .before .div-ceil .ensures) (c .before .div .ensures) (c .if1 .taken)
+returns c = laws.aligned-some (c .before .before .before .args .alignment) (c .before .before .before .args .span) (c .before .before .div-ceil .result) (c .before .div .result) (c .before .before .div-ceil .ensures) (c .before .div .ensures) (c .if1 .taken)
 
 returns-2 : tie.Need-returns-2
-returns-2 c = laws.aligned-none (c .before .before .before .args .alignment) (c .before .before .before .args .r) (c .before .before .div-ceil .result) (c .before .div .result) (c .before .before .div-ceil .ensures) (c .before .div .ensures) (c .if1 .left)
+returns-2 c = laws.aligned-none (c .before .before .before .args .alignment) (c .before .before .before .args .span) (c .before .before .div-ceil .result) (c .before .div .result) (c .before .before .div-ceil .ensures) (c .before .div .ensures) (c .if1 .left)
 
 pub aligned-subrange-spec : {M : Type 1} → statement M
 aligned-subrange-spec =

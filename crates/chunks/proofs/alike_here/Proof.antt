@@ -15,16 +15,22 @@ is-alike-word-requires : tie.Need-is-alike-word-requires
 is-alike-word-requires c κs = search needs
 
 returns : tie.Need-returns
-returns c = laws.alike-word (c .before .before .before .before .before .before .args .registered .now) (c .before .before .before .before .before .before .args .failed .now) (c .before .before .before .before .before .before .args .set) (c .before .before .before .before .before .before .args .c) (c .before .before .before .before .before .before .args .to) (c .before .before .before .if1 .taken) (omega arith) (sym (c .before .is-alike-word .ensures) ∙ c .if3 .taken)
+returns c =
+    let a = c .before .before .before .before .before .before .args in
+    laws.alike-word (a .registered .now) (a .failed .now) (a .set) (a .chunk) (a .to) (c .before .before .before .if1 .taken) (omega arith) (sym (c .before .is-alike-word .ensures) ∙ c .if3 .taken)
 
 is-alike-requires : tie.Need-is-alike-requires
 is-alike-requires c κs = search needs
 
 returns-2 : tie.Need-returns-2
-returns-2 c = scan.ahead-one (alike (c .before .before .before .before .before .args .registered .now) (c .before .before .before .before .before .args .failed .now) (c .before .before .before .before .before .args .set)) (c .before .before .before .before .before .args .c) (c .before .before .before .before .before .args .to) (c .before .before .before .before .before .pre) (sym (c .before .is-alike .ensures) ∙ c .if4 .taken)
+returns-2 c =
+    let a = c .before .before .before .before .before .args in
+    scan.ahead-one (alike (a .registered .now) (a .failed .now) (a .set)) (a .chunk) (a .to) (c .before .before .before .before .before .pre) (sym (c .before .is-alike .ensures) ∙ c .if4 .taken)
 
 returns-3 : tie.Need-returns-3
-returns-3 c = scan.ahead-none (alike (c .before .before .before .before .before .args .registered .now) (c .before .before .before .before .before .args .failed .now) (c .before .before .before .before .before .args .set)) (c .before .before .before .before .before .args .c) (c .before .before .before .before .before .args .to) (c .before .before .before .before .before .pre) (sym (c .before .is-alike .ensures) ∙ c .if4 .left)
+returns-3 c =
+    let a = c .before .before .before .before .before .args in
+    scan.ahead-none (alike (a .registered .now) (a .failed .now) (a .set)) (a .chunk) (a .to) (c .before .before .before .before .before .pre) (sym (c .before .is-alike .ensures) ∙ c .if4 .left)
 
 pub alike-here-spec : {M : Type 1} → statement M
 alike-here-spec =

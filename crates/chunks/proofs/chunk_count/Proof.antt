@@ -13,7 +13,7 @@ div-ceil-requires : tie.Need-div-ceil-requires
 div-ceil-requires c κs = search needs
 
 returns : tie.Need-returns
-returns c = c .div-ceil .ensures ∙ ap (λ (k : ℕ). up k (c .before .before .before .args .g)) (c .before .last-end .ensures)
+returns c = c .div-ceil .ensures ∙ ap (λ (k : ℕ). up k (c .before .before .before .args .granularity)) (c .before .last-end .ensures)
 
 pub chunk-count-spec : {M : Type 1} → statement M
 chunk-count-spec = tie.close (tie.spec last-end-requires div-ceil-requires returns)

@@ -1,6 +1,5 @@
 -- `chunks::chunk_ram` meets its contract. Assumes nothing.
 use borrow.Author.Needs.{needs}
-use Prim.Native.Nat.{_+_}
 use Rattle.chunks.proofs.chunk_ram.Statement.{statement}
 use Rattle.chunks.proofs.chunk_ram.Tie as tie
 

@@ -5,7 +5,7 @@ use Rattle.chunks.proofs.div.Statement.{statement}
 use Rattle.chunks.proofs.div.Tie as tie
 
 returns : tie.Need-returns
-returns c = laws.div-none (c .before .args .n) (c .before .args .g) (c .if1 .taken)
+returns c = laws.div-none (c .before .args .n) (c .before .args .divisor) (c .if1 .taken)
 
 cast-if3 : tie.Need-cast-if3
 cast-if3 c = search needs
@@ -20,7 +20,7 @@ shr-result : tie.Need-shr-result
 shr-result c = search needs
 
 returns-2 : tie.Need-returns-2
-returns-2 c = laws.div-shift (c .before .before .before .args .n) (c .before .before .before .args .g) _ (c .before .if2 .taken) (c .if3 .taken)
+returns-2 c = laws.div-shift (c .before .before .before .args .n) (c .before .before .before .args .divisor) _ (c .before .if2 .taken) (c .if3 .taken)
 
 div-result : tie.Need-div-result
 div-result c = search needs

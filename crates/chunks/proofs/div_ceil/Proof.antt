@@ -9,16 +9,16 @@ div-requires : tie.Need-div-requires
 div-requires c κs = search needs
 
 mul-if1 : tie.Need-mul-if1
-mul-if1 c = omega (arith, laws.quotient-fits (c .before .args .n) (c .before .args .g) (c .div .result) (c .div .ensures))
+mul-if1 c = omega (arith, laws.quotient-fits (c .before .args .n) (c .before .args .divisor) (c .div .result) (c .div .ensures))
 
 add-result : tie.Need-add-result
-add-result c = omega (arith, laws.up-fits (c .before .before .args .n) (c .before .before .args .g) (c .before .div .result) (c .before .div .ensures) (c .if1 .left))
+add-result c = omega (arith, laws.up-fits (c .before .before .args .n) (c .before .before .args .divisor) (c .before .div .result) (c .before .div .ensures) (c .if1 .left))
 
 returns : tie.Need-returns
-returns c = laws.up-whole (c .before .before .args .n) (c .before .before .args .g) (c .before .div .result) (c .before .div .ensures) (c .if1 .taken)
+returns c = laws.up-whole (c .before .before .args .n) (c .before .before .args .divisor) (c .before .div .result) (c .before .div .ensures) (c .if1 .taken)
 
 returns-2 : tie.Need-returns-2
-returns-2 c = laws.up-over (c .before .before .args .n) (c .before .before .args .g) (c .before .div .result) (c .before .div .ensures) (c .if1 .left)
+returns-2 c = laws.up-over (c .before .before .args .n) (c .before .before .args .divisor) (c .before .div .result) (c .before .div .ensures) (c .if1 .left)
 
 pub div-ceil-spec : {M : Type 1} → statement M
 div-ceil-spec = tie.close (tie.spec div-requires mul-if1 add-result returns returns-2)

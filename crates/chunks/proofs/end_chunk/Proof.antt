@@ -2,6 +2,7 @@
 use borrow.Author.Needs.{needs}
 use mathlib.Core.Path.{ap, _∙_}
 use Prim.Native.Nat.{ℕ, _/_}
+use Rattle.abi.specs.Lengths.{pageSize}
 use Rattle.chunks.specs.Chunks.{up}
 use Rattle.chunks.proofs.end_chunk.Statement.{statement}
 use Rattle.chunks.proofs.end_chunk.Tie as tie
@@ -13,7 +14,7 @@ div-ceil-requires : tie.Need-div-ceil-requires
 div-ceil-requires c κs = search needs
 
 returns : tie.Need-returns
-returns c = c .div-ceil .ensures ∙ ap (λ (k : ℕ). up k (c .before .before .args .g / 4096)) (c .before .page-end .ensures)
+returns c = c .div-ceil .ensures ∙ ap (λ (k : ℕ). up k (c .before .before .args .granularity / pageSize)) (c .before .page-end .ensures)
 
 pub end-chunk-spec : {M : Type 1} → statement M
 end-chunk-spec = tie.close (tie.spec page-end-requires div-ceil-requires returns)

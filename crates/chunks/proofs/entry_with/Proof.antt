@@ -33,7 +33,7 @@ returns c =
     let es = entriesOf (c .before .before .before .before .before .before .before .args .ram .now) in
     let h = c .before .before .before .before .loop in
     let e = c .before .before .entry-at in
-    sym (laws.with-hit es (h .i) (c .before .before .before .before .before .before .before .args .r) (e .result) (omega arith) (e .ensures) (sym (c .before .overlaps .ensures) ∙ c .if1 .taken)) ∙ h .inv
+    sym (laws.with-hit es (h .i) (c .before .before .before .before .before .before .before .args .range) (e .result) (omega arith) (e .ensures) (sym (c .before .overlaps .ensures) ∙ c .if1 .taken)) ∙ h .inv
 
 add-i : tie.Need-add-i Inv-loop μ-loop
 add-i c = search needs
@@ -46,13 +46,13 @@ loop-again c =
     let es = entriesOf (c .before .before .before .before .before .before .before .args .ram .now) in
     let h = c .before .before .before .before .loop in
     let e = c .before .before .entry-at in
-    sym (laws.with-miss es (h .i) (c .before .before .before .before .before .before .before .args .r) (e .result) (omega arith) (e .ensures) (sym (c .before .overlaps .ensures) ∙ c .if1 .left)) ∙ h .inv
+    sym (laws.with-miss es (h .i) (c .before .before .before .before .before .before .before .args .range) (e .result) (omega arith) (e .ensures) (sym (c .before .overlaps .ensures) ∙ c .if1 .left)) ∙ h .inv
 
 returns-2 : tie.Need-returns-2 Inv-loop μ-loop
 returns-2 c =
     let es = entriesOf (c .before .before .before .before .args .ram .now) in
     let h = c .before .loop in
-    sym (laws.with-end es (h .i) (c .before .before .before .before .args .r) (omega arith)) ∙ h .inv
+    sym (laws.with-end es (h .i) (c .before .before .before .before .args .range) (omega arith)) ∙ h .inv
 
 pub entry-with-spec : {M : Type 1} → statement M
 entry-with-spec =

@@ -4,6 +4,7 @@ use borrow.Author.Needs.{needs}
 use mathlib.Core.Path.{ap, _∙_}
 use mathlib.Core.Bool.{true}
 use lib.ListN.{set}
+use Rattle.abi.specs.Lengths.{wordBits}
 use Rattle.chunks.proofs.Laws as laws
 use Rattle.bitmap.proofs.Map.{filled}
 use Rattle.chunks.proofs.fill_word.Statement.{statement}
@@ -22,10 +23,10 @@ same-length : tie.Need-same-length
 same-length c = search needs
 
 returns : tie.Need-returns
-returns c = ap (set (c .before .before .before .args .map .now) (c .before .before .before .args .i)) (c .full .ensures) ∙ filled 64 true (c .before .before .before .args .map .now) (c .before .before .before .args .i) (omega arith) (c .before .before .slice-known .given (c .before .before .before .args .i) .fits)
+returns c = ap (set (c .before .before .before .args .map .now) (c .before .before .before .args .word)) (c .full .ensures) ∙ filled wordBits true (c .before .before .before .args .map .now) (c .before .before .before .args .word) (omega arith) (c .before .before .slice-known .given (c .before .before .before .args .word) .fits)
 
 returns-2 : tie.Need-returns-2
-returns-2 c = laws.word-past (c .before .before .args .map .now) (c .before .before .args .i) (omega arith)
+returns-2 c = laws.word-past (c .before .before .args .map .now) (c .before .before .args .word) (omega arith)
 
 pub fill-word-spec : {M : Type 1} → statement M
 fill-word-spec =

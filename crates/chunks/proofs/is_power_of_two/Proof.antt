@@ -3,16 +3,17 @@ use native.Mathlib.Omega.{arith}
 use borrow.Author.Needs.{needs}
 use mathlib.Core.Path.{_≡_, refl, sym, _∙_}
 use Prim.Native.Nat.{_-_}
+use Rattle.abi.specs.Lengths.{wordBits}
 use Rattle.chunks.specs.Chunks.{powerFrom}
 use Rattle.chunks.proofs.Laws as laws
 use Rattle.chunks.proofs.is_power_of_two.Statement.{statement}
 use Rattle.chunks.proofs.is_power_of_two.Tie as tie
 
 abbrev Inv-loop : tie.InvT-loop
-Inv-loop n k₀ k = powerFrom n k (64 - k) ≡ powerFrom n 0 64
+Inv-loop n k₀ k = powerFrom n k (wordBits - k) ≡ powerFrom n 0 wordBits
 
 abbrev μ-loop : tie.MeasureT-loop
-μ-loop n k₀ k = 64 - k
+μ-loop n k₀ k = wordBits - k
 
 loop-holds : tie.Need-loop-holds Inv-loop μ-loop
 loop-holds c = refl

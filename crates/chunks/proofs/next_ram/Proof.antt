@@ -15,8 +15,8 @@ div-requires c κs = search needs
 returns : tie.Need-returns
 returns c =
     let a = c .before .before .before .args in
-    let l : a .c < a .x / a .g = omega (arith, c .before .div .ensures, c .if1 .taken) in
-    sym (ap firstOf (laws.pieces-past (entriesOf (a .ram .now)) (a .x) ((a .c + 1) * a .g) 0 (spans (entriesOf (a .ram .now))) (laws.chunk-before (a .c) (a .g) (a .x) l)))
+    let l : a .chunk < a .from / a .granularity = omega (arith, c .before .div .ensures, c .if1 .taken) in
+    sym (ap firstOf (laws.pieces-past (entriesOf (a .ram .now)) (a .from) ((a .chunk + 1) * a .granularity) 0 (spans (entriesOf (a .ram .now))) (laws.chunk-before (a .chunk) (a .granularity) (a .from) l)))
 
 chunk-end-requires : tie.Need-chunk-end-requires
 chunk-end-requires c κs = search needs

@@ -36,7 +36,7 @@ returns c = λ y e.
     let a = c .before .before .before .before .before .before .before .before .args in
     let h = c .before .before .before .before .before .loop in
     let s = c .before .before .before .span-at in
-    sym (laws.pieces-hit (entriesOf (a .ram .now)) (a .x) y (h .i) (s .result) (omega arith) (s .ensures) (c .before .before .greatest .result) (c .before .least .result) (c .before .before .greatest .ensures) (laws.end-within y (a .stop) (s .result .end) (c .before .least .result) e (s .ok .1 .1 .1 .0 .1) (c .before .least .ensures)) (c .if1 .taken)) ∙ h .inv y e
+    sym (laws.pieces-hit (entriesOf (a .ram .now)) (a .from) y (h .i) (s .result) (omega arith) (s .ensures) (c .before .before .greatest .result) (c .before .least .result) (c .before .before .greatest .ensures) (laws.end-within y (a .stop) (s .result .end) (c .before .least .result) e (s .ok .1 .1 .1 .0 .1) (c .before .least .ensures)) (c .if1 .taken)) ∙ h .inv y e
 
 loop-less : tie.Need-loop-less Inv-loop μ-loop
 loop-less c =
@@ -51,13 +51,13 @@ loop-again c = λ y e.
     let a = c .before .before .before .before .before .before .before .before .args in
     let h = c .before .before .before .before .before .loop in
     let s = c .before .before .before .span-at in
-    ap firstOf (sym (laws.pieces-miss (entriesOf (a .ram .now)) (a .x) y (h .i) (s .result) (omega arith) (s .ensures) (c .before .before .greatest .result) (c .before .least .result) (c .before .before .greatest .ensures) (laws.end-within y (a .stop) (s .result .end) (c .before .least .result) e (s .ok .1 .1 .1 .0 .1) (c .before .least .ensures)) (c .if1 .left))) ∙ h .inv y e
+    ap firstOf (sym (laws.pieces-miss (entriesOf (a .ram .now)) (a .from) y (h .i) (s .result) (omega arith) (s .ensures) (c .before .before .greatest .result) (c .before .least .result) (c .before .before .greatest .ensures) (laws.end-within y (a .stop) (s .result .end) (c .before .least .result) e (s .ok .1 .1 .1 .0 .1) (c .before .least .ensures)) (c .if1 .left))) ∙ h .inv y e
 
 returns-2 : tie.Need-returns-2 Inv-loop μ-loop
 returns-2 c = λ y e.
     let a = c .before .before .before .before .args in
     let h = c .before .loop in
-    sym (laws.pieces-end (entriesOf (a .ram .now)) (a .x) y (h .i) (omega arith)) ∙ h .inv y e
+    sym (laws.pieces-end (entriesOf (a .ram .now)) (a .from) y (h .i) (omega arith)) ∙ h .inv y e
 
 pub ram-before-spec : {M : Type 1} → statement M
 ram-before-spec =

@@ -5,6 +5,7 @@ use mathlib.Core.Path.{_≡_, refl, _∙_}
 use mathlib.Core.Bool.{true}
 use Prim.Native.Nat.{_-_, _≤_, max}
 use lib.ListN.{length}
+use Rattle.abi.specs.Lengths.{wordBits}
 use Rattle.laws.specs.Ranges.{between}
 use Rattle.bitmap.specs.Pages.{written}
 use Rattle.chunks.proofs.Laws as laws
@@ -13,7 +14,7 @@ use Rattle.chunks.proofs.set_chunks.Statement.{statement}
 use Rattle.chunks.proofs.set_chunks.Tie as tie
 
 abbrev Inv-loop : tie.InvT-loop
-Inv-loop map₀ from to stop c₀ map c = (from ≤ c) × (c ≤ max from stop) × (length map ≡ length map₀) × (map ≡ written 64 (between from c) true map₀)
+Inv-loop map₀ from to stop c₀ map c = (from ≤ c) × (c ≤ max from stop) × (length map ≡ length map₀) × (map ≡ written wordBits (between from c) true map₀)
 
 abbrev μ-loop : tie.MeasureT-loop
 μ-loop map₀ from to stop c₀ map c = stop - c
@@ -22,7 +23,7 @@ stop-at-requires : tie.Need-stop-at-requires Inv-loop μ-loop
 stop-at-requires c κs = search needs
 
 loop-holds : tie.Need-loop-holds Inv-loop μ-loop
-loop-holds c = let a = c .before .before .args in (omega arith, omega arith, refl, run-none 64 true (a .map .now) (a .from))
+loop-holds c = let a = c .before .before .args in (omega arith, omega arith, refl, run-none wordBits true (a .map .now) (a .from))
 
 set-some-requires : tie.Need-set-some-requires Inv-loop μ-loop
 set-some-requires c κs = search needs
@@ -48,7 +49,7 @@ returns : tie.Need-returns Inv-loop μ-loop
 returns c =
     let a = c .before .before .before .before .args in
     let h = c .before .loop in
-    h .inv .3 ∙ run-end 64 true (a .map .now) (a .from) (c .before .before .stop-at .result) (h .c) (omega arith) (h .inv .1)
+    h .inv .3 ∙ run-end wordBits true (a .map .now) (a .from) (c .before .before .stop-at .result) (h .c) (omega arith) (h .inv .1)
     ∙ laws.set-stop (a .map .now) (a .from) (a .to) _ (c .before .before .stop-at .ensures)
 
 pub set-chunks-spec : {M : Type 1} → statement M

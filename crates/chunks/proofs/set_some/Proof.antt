@@ -19,7 +19,7 @@ same-length : tie.Need-same-length
 same-length c = search needs
 
 returns : tie.Need-returns
-returns c = (omega arith, omega arith, c .before .before .fill-word .ensures ∙ laws.word-set (c .before .before .before .before .before .before .before .args .map .now) (c .before .before .before .before .before .before .before .args .c) (c .before .before .before .before .before .if1 .taken))
+returns c = (omega arith, omega arith, c .before .before .fill-word .ensures ∙ laws.word-set (c .before .before .before .before .before .before .before .args .map .now) (c .before .before .before .before .before .before .before .args .chunk) (c .before .before .before .before .before .if1 .taken))
 
 set-requires : tie.Need-set-requires
 set-requires c κs = search needs
@@ -31,7 +31,7 @@ same-length-2 : tie.Need-same-length-2
 same-length-2 c = search needs
 
 returns-2 : tie.Need-returns-2
-returns-2 c = (omega arith, omega arith, c .before .before .set .ensures ∙ laws.one-set (c .before .before .before .before .before .before .args .map .now) (c .before .before .before .before .before .before .args .c))
+returns-2 c = (omega arith, omega arith, c .before .before .set .ensures ∙ laws.one-set (c .before .before .before .before .before .before .args .map .now) (c .before .before .before .before .before .before .args .chunk))
 
 pub set-some-spec : {M : Type 1} → statement M
 set-some-spec =

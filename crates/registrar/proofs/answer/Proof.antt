@@ -26,38 +26,38 @@ shared-slice-read-wrapping-add-u64-4 c = search needs
 wrapping-add-u64-requires-2 : tie.Need-wrapping-add-u64-requires-2
 wrapping-add-u64-requires-2 c κs = search needs
 
-simple-requires : tie.Need-simple-requires
-simple-requires c κs = search needs
+asked-requires : tie.Need-asked-requires
+asked-requires c κs = search needs
 
 returns : tie.Need-returns
 returns c =
     let a = c .before .before .before .before .before .before .before .before .before .before .args in
-    laws.answer-asked (a .state .now) (a .n) (a .count) (a .until) (a .c) (c .simple .result) (c .before .before .before .before .wrapping-add-u64 .result) (c .before .wrapping-add-u642 .result) (c .before .before .before .before .before .before .before .if1 .taken) (c .before .before .before .before .wrapping-add-u64 .ensures) (c .before .wrapping-add-u642 .ensures) (c .simple .ensures)
+    laws.answer-asked (a .state .now) (a .total) (a .count) (a .until) (a .chunk) (c .asked .result) (c .before .before .before .before .wrapping-add-u64 .result) (c .before .wrapping-add-u642 .result) (c .before .before .before .before .before .before .before .if1 .taken) (c .before .before .before .before .wrapping-add-u64 .ensures) (c .before .wrapping-add-u642 .ensures) (c .asked .ensures)
 
 least-requires : tie.Need-least-requires
 least-requires c κs = search needs
 
-shared-slice-read-simple : tie.Need-shared-slice-read-simple
-shared-slice-read-simple c = search needs
+shared-slice-read-registration-failed : tie.Need-shared-slice-read-registration-failed
+shared-slice-read-registration-failed c = search needs
 
-mul-simple : tie.Need-mul-simple
-mul-simple c = omega (arith, c .before .before .before .before .before .before .pre .1 (omega (arith, c .before .before .least .ensures, c .before .if2 .taken)))
+mul-registration-failed : tie.Need-mul-registration-failed
+mul-registration-failed c = omega (arith, c .before .before .before .before .before .before .pre .1 (omega (arith, c .before .before .least .ensures, c .before .if2 .taken)))
 
-simple-requires-2 : tie.Need-simple-requires-2
-simple-requires-2 c κs = search needs
+registration-failed-requires : tie.Need-registration-failed-requires
+registration-failed-requires c κs = search needs
 
 returns-2 : tie.Need-returns-2
 returns-2 c =
     let a = c .before .before .before .before .before .before .before .args in
-    laws.answer-failed (a .state .now) (a .n) (a .count) (a .until) (a .c) (c .simple2 .result) (c .before .before .before .before .if1 .left) (c .before .before .before .least .result) (c .before .before .before .least .ensures) (c .before .before .if2 .taken) (c .simple2 .ensures)
+    laws.answer-failed (a .state .now) (a .total) (a .count) (a .until) (a .chunk) (c .registration-failed .result) (c .before .before .before .before .if1 .left) (c .before .before .before .least .result) (c .before .before .before .least .ensures) (c .before .before .if2 .taken) (c .registration-failed .ensures)
 
-simple-requires-3 : tie.Need-simple-requires-3
-simple-requires-3 c κs = search needs
+done-requires : tie.Need-done-requires
+done-requires c κs = search needs
 
 returns-3 : tie.Need-returns-3
 returns-3 c =
     let a = c .before .before .before .before .before .before .args in
-    laws.answer-done (a .state .now) (a .n) (a .count) (a .until) (a .c) (c .simple3 .result) (c .before .before .before .if1 .left) (c .before .before .least .result) (c .before .before .least .ensures) (c .before .if2 .left) (c .simple3 .ensures)
+    laws.answer-done (a .state .now) (a .total) (a .count) (a .until) (a .chunk) (c .done .result) (c .before .before .before .if1 .left) (c .before .before .least .result) (c .before .before .least .ensures) (c .before .if2 .left) (c .done .ensures)
 
 pub answer-spec : {M : Type 1} → statement M
 answer-spec =
@@ -70,12 +70,12 @@ answer-spec =
     shared-slice-read-wrapping-add-u64-3
     shared-slice-read-wrapping-add-u64-4
     wrapping-add-u64-requires-2
-    simple-requires
+    asked-requires
     returns
     least-requires
-    shared-slice-read-simple
-    mul-simple
-    simple-requires-2
+    shared-slice-read-registration-failed
+    mul-registration-failed
+    registration-failed-requires
     returns-2
-    simple-requires-3
+    done-requires
     returns-3)

@@ -22,14 +22,14 @@ wrapping-add-u64-requires c κs = search needs
 wrapping-add-u64-requires-2 : tie.Need-wrapping-add-u64-requires-2
 wrapping-add-u64-requires-2 c κs = search needs
 
-simple-requires : tie.Need-simple-requires
-simple-requires c κs = search needs
+asked-requires : tie.Need-asked-requires
+asked-requires c κs = search needs
 
 same-length : tie.Need-same-length
 same-length c = search needs
 
 returns : tie.Need-returns
-returns c = (c .before .before .before .before .before .save .ensures ∙ ap (λ (q : Request). withRequest q (c .before .before .before .before .before .before .before .before .before .before .args .state .now)) (c .before .before .before .before .before .before .piece .ensures), c .simple .ensures ∙ ap₂ (λ (x y : ℕ). simple 0 1 0 x y 0) (c .before .before .wrapping-add-u64 .ensures) (c .before .wrapping-add-u642 .ensures))
+returns c = (c .before .before .before .before .before .save .ensures ∙ ap (λ (q : Request). withRequest q (c .before .before .before .before .before .before .before .before .before .before .args .state .now)) (c .before .before .before .before .before .before .piece .ensures), c .asked .ensures ∙ ap₂ (λ (x y : ℕ). simple 0 1 0 x y 0) (c .before .before .wrapping-add-u64 .ensures) (c .before .wrapping-add-u642 .ensures))
 
 pub ask-spec : {M : Type 1} → statement M
 ask-spec =
@@ -40,6 +40,6 @@ ask-spec =
     save-requires
     wrapping-add-u64-requires
     wrapping-add-u64-requires-2
-    simple-requires
+    asked-requires
     same-length
     returns)

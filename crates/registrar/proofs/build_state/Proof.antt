@@ -5,13 +5,15 @@ use mathlib.Core.Path.{_≡_, ap, _∙_}
 use Prim.Native.Nat.{ℕ, _+_, _-_, _≤_}
 use mathlib.Core.List.{List}
 use lib.ListN.{length, getD, set, length-set}
+use Rattle.abi.specs.RegistrarPlaces as place
+use Rattle.abi.specs.Lengths.{ramLen, registrarLen}
 use Rattle.registrar.proofs.Laws.{filledTo}
 use Rattle.registrar.proofs.Laws as laws
 use Rattle.registrar.proofs.build_state.Statement.{statement}
 use Rattle.registrar.proofs.build_state.Tie as tie
 
 abbrev Inv-loop : tie.InvT-loop
-Inv-loop state₀ ram offset granularity n i₀ state i = (i ≤ length ram) × (length state ≡ 108) × (length ram ≤ 96) × (state ≡ filledTo ram offset granularity i)
+Inv-loop state₀ ram offset granularity n i₀ state i = (i ≤ length ram) × (length state ≡ registrarLen) × (length ram ≤ ramLen) × (state ≡ filledTo ram offset granularity i)
 
 abbrev μ-loop : tie.MeasureT-loop
 μ-loop state₀ ram offset granularity n i₀ state i = length ram - i
@@ -35,8 +37,9 @@ loop-holds : tie.Need-loop-holds Inv-loop μ-loop
 loop-holds c =
     let s = c .before .before .before .before .before .before .before .args .state .now in
     let t = laws.filled-none s (c .before .before .before .before .before .before .before .args .ram .now) (c .before .before .before .before .before .before .before .args .offset) (c .before .before .before .before .before .before .before .args .granularity) (c .before .before .before .before .entry-count .result) (c .before .before .before .before .before .before .before .pre .0) (c .before .before .before .before .entry-count .ensures) in
-    let q = ap (λ (l : List ℕ). set (set (set l 9 (c .before .before .before .before .before .before .before .args .offset)) 10 (c .before .before .before .before .before .before .before .args .granularity)) 11 (c .before .before .before .before .entry-count .result)) (c .before .before .clear .ensures) in
-    (omega arith, simp length-set (c .before .before .clear .kept .0 ∙ c .before .before .before .before .before .before .before .pre .0), c .before .before .before .before .before .before .before .pre .1, q ∙ t)
+    let q = ap (λ (l : List ℕ). set (set (set l place.offset (c .before .before .before .before .before .before .before .args .offset)) place.granularity (c .before .before .before .before .before .before .before .args .granularity)) place.entries (c .before .before .before .before .entry-count .result)) (c .before .before .clear .ensures) in
+    let given = c .before .before .before .before .before .before .before .pre in
+    (omega arith, simp length-set (c .before .before .clear .kept .0 ∙ given .0), given .1, q ∙ t)
 
 mul-state : tie.Need-mul-state Inv-loop μ-loop
 mul-state c = search needs
@@ -62,7 +65,8 @@ loop-less c = search needs
 loop-again : tie.Need-loop-again Inv-loop μ-loop
 loop-again c =
     let h = c .before .before .loop in
-    (omega arith, simp length-set (h .inv .1), h .inv .2, ap (λ (l : List ℕ). set l (12 + h .i) (getD (c .before .before .before .before .before .before .before .before .before .before .args .ram .now) (h .i) 0)) (h .inv .3) ∙ laws.filled-more (c .before .before .before .before .before .before .before .before .before .before .args .ram .now) (c .before .before .before .before .before .before .before .before .before .before .args .offset) (c .before .before .before .before .before .before .before .before .before .before .args .granularity) (h .i) (omega arith) (omega arith))
+    let a = c .before .before .before .before .before .before .before .before .before .before .args in
+    (omega arith, simp length-set (h .inv .1), h .inv .2, ap (λ (l : List ℕ). set l (place.ram + h .i) (getD (a .ram .now) (h .i) 0)) (h .inv .3) ∙ laws.filled-more (a .ram .now) (a .offset) (a .granularity) (h .i) (omega arith) (omega arith))
 
 same-length : tie.Need-same-length Inv-loop μ-loop
 same-length c = search needs

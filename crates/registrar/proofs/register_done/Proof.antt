@@ -22,21 +22,26 @@ returns : tie.Need-returns
 returns c =
     let a = c .before .before .before .before .before .before .before .before .before .before .before .before .before .args in
     let w = world (a .state .now) (a .registered .now) (a .failed .now) in
-    laws.done-rest w (c .before .before .before .before .before .before .before .before .load .result) (c .before .before .before .before .before .before .before .before .load .ensures) (c .before .before .before .before .before .before .rest-of .result) _ (c .before .before .ask .result) (c .before .before .before .before .before .before .before .before .before .before .before .before .before .pre .2) (c .before .before .before .before .before .before .rest-of .ensures) (c .before .before .before .before .if1 .taken) (c .before .before .ask .ensures .0) (c .before .before .ask .ensures .1)
+    let ask = c .before .before .ask in
+    let load = c .before .before .before .before .before .before .before .before .load in
+    let rest-of = c .before .before .before .before .before .before .rest-of in
+    laws.done-rest w (load .result) (load .ensures) (rest-of .result) _ (ask .result) (c .before .before .before .before .before .before .before .before .before .before .before .before .before .pre .2) (rest-of .ensures) (c .before .before .before .before .if1 .taken) (ask .ensures .0) (ask .ensures .1)
 
 set-chunks-requires : tie.Need-set-chunks-requires
 set-chunks-requires c κs = search needs
 
-go-on-requires : tie.Need-go-on-requires
-go-on-requires c κs = search needs
+register-from-requires : tie.Need-register-from-requires
+register-from-requires c κs = search needs
 
 answer-requires : tie.Need-answer-requires
 answer-requires c κs =
     let a = c .before .before .before .before .before .before .before .before .before .before .before .before .before .before .before .before .before .before .before .before .before .args in
     let w = world (a .state .now) (a .registered .now) (a .failed .now) in
     let v = world (a .state .now) (c .before .before .before .before .before .before .before .before .before .before .set-chunks .last .0) (a .failed .now) in
-    let o = c .before .before .before .before .before .go-on in
-    laws.go-kept v (a .n) (c .before .before .before .before .before .before .before .before .before .before .before .before .before .before .before .before .load .result .count) (c .before .before .before .before .before .before .before .before .before .before .before .before .before .before .before .before .load .result .to) (c .before .before .before .before .before .before .before .before .before .before .before .before .before .before .before .before .load .result .until) (c .before .before .before .before .before .before .before .before .before .before .before .before .before .before .before .before .before .before .before .before .before .pre .1) _ _ (o .result) (o .ensures .0) (c .before .before .before .before .before .before .before .before .before .before .before .before .before .before .before .before .before .before .before .before .before .pre .0) (o .ensures .1)
+    let o = c .before .before .before .before .before .register-from in
+    let load = c .before .before .before .before .before .before .before .before .before .before .before .before .before .before .before .before .load in
+    let given = c .before .before .before .before .before .before .before .before .before .before .before .before .before .before .before .before .before .before .before .before .before .pre in
+    laws.go-kept v (a .total) (load .result .count) (load .result .to) (load .result .until) (given .1) _ _ (o .result) (o .ensures .0) (given .0) (o .ensures .1)
 
 same-length-2 : tie.Need-same-length-2
 same-length-2 c = search needs
@@ -52,8 +57,8 @@ returns-2 c =
     let a = c .before .before .before .before .before .before .before .before .before .before .before .before .before .before .before .before .before .before .before .before .before .before .args in
     let w = world (a .state .now) (a .registered .now) (a .failed .now) in
     let v = world (a .state .now) (c .before .before .before .before .before .before .before .before .before .before .before .set-chunks .last .0) (a .failed .now) in
-    let o = c .before .before .before .before .before .before .go-on in
-    laws.go-answered v (a .n) (q .result .count) (q .result .to) (q .result .until) (given .1) _ _ (o .result) (c .answer .result) (o .ensures .0) (c .answer .ensures)
+    let o = c .before .before .before .before .before .before .register-from in
+    laws.go-answered v (a .total) (q .result .count) (q .result .to) (q .result .until) (given .1) _ _ (o .result) (c .answer .result) (o .ensures .0) (c .answer .ensures)
     ∙ laws.done-register w (q .result) (q .ensures) (laws.none-left (a .state .now) (rest .result) (rest .ensures) (c .before .before .before .before .before .before .before .before .before .before .before .before .before .if1 .left) (given .2)) _ (c .before .before .before .before .before .before .before .before .before .before .before .set-chunks .ensures) (given .2)
 
 pub register-done-spec : {M : Type 1} → statement M
@@ -66,7 +71,7 @@ register-done-spec =
     same-length
     returns
     set-chunks-requires
-    go-on-requires
+    register-from-requires
     answer-requires
     same-length-2
     same-length-3

@@ -13,8 +13,8 @@ chunk-count-requires c κs = search needs
 answer-refusal-requires : tie.Need-answer-refusal-requires
 answer-refusal-requires c κs = search needs
 
-simple-requires : tie.Need-simple-requires
-simple-requires c κs = search needs
+refused-requires : tie.Need-refused-requires
+refused-requires c κs = search needs
 
 same-length : tie.Need-same-length
 same-length c = search needs
@@ -31,7 +31,7 @@ returns c =
     let a = c .before .before .before .before .before .before .before .before .before .before .before .args in
     let w = world (a .state .now) (a .registered .now) (a .failed .now) in
     let n = c .before .before .answer-refusal in
-    laws.call-refused w (n .result) _ (n .ensures) _ (c .simple .result) (c .before .if1 .taken) (c .simple .ensures)
+    laws.call-refused w (n .result) _ (n .ensures) _ (c .refused .result) (c .before .if1 .taken) (c .refused .ensures)
 
 slice-read-if2 : tie.Need-slice-read-if2
 slice-read-if2 c =
@@ -65,8 +65,8 @@ returns-2 c =
     let n = c .before .before .before .before .before .before .before .before .before .before .before .answer-refusal in
     laws.call-answered w (n .result) _ (n .ensures) _ _ (c .before .before .before .before .before .before .before .before .before .before .if1 .left) (c .before .before .before .before .register-done .ensures)
 
-all-done-requires : tie.Need-all-done-requires
-all-done-requires c κs =
+register-all-done-requires : tie.Need-register-all-done-requires
+register-all-done-requires c κs =
     let a = c .before .before .before .before .before .before .before .before .before .before .before .before .before .before .before .args in
     let w = world (a .state .now) (a .registered .now) (a .failed .now) in
     let n = c .before .before .before .before .before .before .answer-refusal in
@@ -87,7 +87,7 @@ returns-3 c =
     let a = c .before .before .before .before .before .before .before .before .before .before .before .before .before .before .before .before .before .before .before .before .args in
     let w = world (a .state .now) (a .registered .now) (a .failed .now) in
     let n = c .before .before .before .before .before .before .before .before .before .before .before .answer-refusal in
-    laws.call-answered w (n .result) _ (n .ensures) _ _ (c .before .before .before .before .before .before .before .before .before .before .if1 .left) (c .before .before .before .before .all-done .ensures)
+    laws.call-answered w (n .result) _ (n .ensures) _ _ (c .before .before .before .before .before .before .before .before .before .before .if1 .left) (c .before .before .before .before .register-all-done .ensures)
 
 pub registrar-answer-done-spec : {M : Type 1} → statement M
 registrar-answer-done-spec =
@@ -95,7 +95,7 @@ registrar-answer-done-spec =
     (tie.spec
     chunk-count-requires
     answer-refusal-requires
-    simple-requires
+    refused-requires
     same-length
     same-length-2
     same-length-3
@@ -106,7 +106,7 @@ registrar-answer-done-spec =
     same-length-5
     same-length-6
     returns-2
-    all-done-requires
+    register-all-done-requires
     same-length-7
     same-length-8
     same-length-9

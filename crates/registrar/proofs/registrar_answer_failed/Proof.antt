@@ -11,8 +11,8 @@ chunk-count-requires c κs = search needs
 answer-refusal-requires : tie.Need-answer-refusal-requires
 answer-refusal-requires c κs = search needs
 
-simple-requires : tie.Need-simple-requires
-simple-requires c κs = search needs
+refused-requires : tie.Need-refused-requires
+refused-requires c κs = search needs
 
 same-length : tie.Need-same-length
 same-length c = search needs
@@ -29,7 +29,7 @@ returns c =
     let a = c .before .before .before .before .before .before .before .before .before .before .before .args in
     let w = world (a .state .now) (a .registered .now) (a .failed .now) in
     let n = c .before .before .answer-refusal in
-    laws.call-refused w (n .result) _ (n .ensures) _ (c .simple .result) (c .before .if1 .taken) (c .simple .ensures)
+    laws.call-refused w (n .result) _ (n .ensures) _ (c .refused .result) (c .before .if1 .taken) (c .refused .ensures)
 
 load-requires : tie.Need-load-requires
 load-requires c κs =
@@ -51,8 +51,8 @@ save-requires c κs =
     let n = c .before .before .before .before .before .before .before .before .before .answer-refusal in
     laws.answer-long w (n .result) (c .before .before .before .before .before .before .before .before .if1 .left) (n .ensures)
 
-flatten-requires : tie.Need-flatten-requires
-flatten-requires c κs = search needs
+to-reply-requires : tie.Need-to-reply-requires
+to-reply-requires c κs = search needs
 
 same-length-4 : tie.Need-same-length-4
 same-length-4 c = search needs
@@ -69,7 +69,9 @@ returns-2 c =
     let a = c .before .before .before .before .before .before .before .before .before .before .before .before .before .before .before .before .before .before .before .before .before .before .args in
     let w = world (a .state .now) (a .registered .now) (a .failed .now) in
     let n = c .before .before .before .before .before .before .before .before .before .before .before .before .before .answer-refusal in
-    laws.call-answered w (n .result) _ (n .ensures) _ _ (c .before .before .before .before .before .before .before .before .before .before .before .before .if1 .left) (laws.failed-made w (c .before .before .before .before .before .before .before .before .before .before .load .result) (c .before .before .before .before .idle .result) _ _ (c .flatten .result) (c .before .before .before .before .before .before .before .before .before .before .load .ensures) (c .before .before .before .before .idle .ensures) (c .before .before .before .save .ensures) (c .before .before .before .before .before .before .before .before .set-chunks .ensures) (c .flatten .ensures))
+    let load = c .before .before .before .before .before .before .before .before .before .before .load in
+    let idle = c .before .before .before .before .idle in
+    laws.call-answered w (n .result) _ (n .ensures) _ _ (c .before .before .before .before .before .before .before .before .before .before .before .before .if1 .left) (laws.failed-made w (load .result) (idle .result) _ _ (c .to-reply .result) (load .ensures) (idle .ensures) (c .before .before .before .save .ensures) (c .before .before .before .before .before .before .before .before .set-chunks .ensures) (c .to-reply .ensures))
 
 pub registrar-answer-failed-spec : {M : Type 1} → statement M
 registrar-answer-failed-spec =
@@ -77,7 +79,7 @@ registrar-answer-failed-spec =
     (tie.spec
     chunk-count-requires
     answer-refusal-requires
-    simple-requires
+    refused-requires
     same-length
     same-length-2
     same-length-3
@@ -86,7 +88,7 @@ registrar-answer-failed-spec =
     set-chunks-requires
     idle-requires
     save-requires
-    flatten-requires
+    to-reply-requires
     same-length-4
     same-length-5
     same-length-6

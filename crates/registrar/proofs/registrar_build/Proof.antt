@@ -8,8 +8,8 @@ use Rattle.registrar.proofs.registrar_build.Tie as tie
 build-refusal-requires : tie.Need-build-refusal-requires
 build-refusal-requires c κs = search needs
 
-simple-requires : tie.Need-simple-requires
-simple-requires c κs = search needs
+refused-requires : tie.Need-refused-requires
+refused-requires c κs = search needs
 
 same-length : tie.Need-same-length
 same-length c = search needs
@@ -22,10 +22,16 @@ same-length-3 c = search needs
 
 returns : tie.Need-returns
 unfolding buildOf
-returns c = laws.call-refused (world (c .before .before .before .before .before .before .before .before .before .before .args .state .now) (c .before .before .before .before .before .before .before .before .before .before .args .registered .now) (c .before .before .before .before .before .before .before .before .before .before .args .failed .now)) (c .before .before .build-refusal .result) _ (c .before .before .build-refusal .ensures) _ (c .simple .result) (c .before .if1 .taken) (c .simple .ensures)
+returns c =
+    let a = c .before .before .before .before .before .before .before .before .before .before .args in
+    let build-refusal = c .before .before .build-refusal in
+    laws.call-refused (world (a .state .now) (a .registered .now) (a .failed .now)) (build-refusal .result) _ (build-refusal .ensures) _ (c .refused .result) (c .before .if1 .taken) (c .refused .ensures)
 
 build-state-requires : tie.Need-build-state-requires
-build-state-requires c κs = laws.build-lengths (world (c .before .before .before .before .before .before .before .before .before .before .args .state .now) (c .before .before .before .before .before .before .before .before .before .before .args .registered .now) (c .before .before .before .before .before .before .before .before .before .before .args .failed .now)) (c .before .before .before .before .before .before .before .before .before .before .args .ram .now) (c .before .before .before .before .before .before .before .before .before .before .args .offset) (c .before .before .before .before .before .before .before .before .before .before .args .granularity) (c .before .before .build-refusal .result) (c .before .if1 .left) (c .before .before .build-refusal .ensures)
+build-state-requires c κs =
+    let a = c .before .before .before .before .before .before .before .before .before .before .args in
+    let build-refusal = c .before .before .build-refusal in
+    laws.build-lengths (world (a .state .now) (a .registered .now) (a .failed .now)) (a .ram .now) (a .offset) (a .granularity) (build-refusal .result) (c .before .if1 .left) (build-refusal .ensures)
 
 clear-requires : tie.Need-clear-requires
 clear-requires c κs = search needs
@@ -33,8 +39,8 @@ clear-requires c κs = search needs
 clear-requires-2 : tie.Need-clear-requires-2
 clear-requires-2 c κs = search needs
 
-simple-requires-2 : tie.Need-simple-requires-2
-simple-requires-2 c κs = search needs
+done-requires : tie.Need-done-requires
+done-requires c κs = search needs
 
 same-length-4 : tie.Need-same-length-4
 same-length-4 c = search needs
@@ -51,14 +57,14 @@ returns-2 c =
     let a = c .before .before .before .before .before .before .before .before .before .before .before .before .before .before .before .before .before .before .before .before .before .before .args in
     let w = world (a .state .now) (a .registered .now) (a .failed .now) in
     let n = c .before .before .before .before .before .before .before .before .before .before .before .before .before .before .build-refusal in
-    laws.call-answered w (n .result) _ (n .ensures) _ _ (c .before .before .before .before .before .before .before .before .before .before .before .before .before .if1 .left) (laws.build-made w (a .ram .now) (a .offset) (a .granularity) _ _ _ (c .simple2 .result) (c .before .before .before .before .before .before .before .before .before .before .before .build-state .ensures) (c .before .before .before .before .before .before .before .clear .ensures) (c .before .before .before .clear2 .ensures) (c .simple2 .ensures))
+    laws.call-answered w (n .result) _ (n .ensures) _ _ (c .before .before .before .before .before .before .before .before .before .before .before .before .before .if1 .left) (laws.build-made w (a .ram .now) (a .offset) (a .granularity) _ _ _ (c .done .result) (c .before .before .before .before .before .before .before .before .before .before .before .build-state .ensures) (c .before .before .before .before .before .before .before .clear .ensures) (c .before .before .before .clear2 .ensures) (c .done .ensures))
 
 pub registrar-build-spec : {M : Type 1} → statement M
 registrar-build-spec =
     tie.close
     (tie.spec
     build-refusal-requires
-    simple-requires
+    refused-requires
     same-length
     same-length-2
     same-length-3
@@ -66,7 +72,7 @@ registrar-build-spec =
     build-state-requires
     clear-requires
     clear-requires-2
-    simple-requires-2
+    done-requires
     same-length-4
     same-length-5
     same-length-6

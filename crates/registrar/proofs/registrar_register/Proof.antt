@@ -22,8 +22,8 @@ chunk-count-requires c κs = search needs
 register-refusal-requires : tie.Need-register-refusal-requires
 register-refusal-requires c κs = search needs
 
-simple-requires : tie.Need-simple-requires
-simple-requires c κs = search needs
+refused-requires : tie.Need-refused-requires
+refused-requires c κs = search needs
 
 same-length : tie.Need-same-length
 same-length c = search needs
@@ -44,7 +44,7 @@ returns c =
     let e = c .before .before .before .before .before .before .before .before .end-chunk in
     let n = c .before .before .register-refusal in
     let nh = laws.touched-refusal w (a .address) (a .len) (g .result) (f .result) (e .result) (g .ensures) (f .ensures) (e .ensures) (n .result) (n .ensures) in
-    laws.call-refused w (n .result) _ nh _ (c .simple .result) (c .before .if1 .taken) (c .simple .ensures)
+    laws.call-refused w (n .result) _ nh _ (c .refused .result) (c .before .if1 .taken) (c .refused .ensures)
 
 is-known-requires : tie.Need-is-known-requires
 is-known-requires c κs =
@@ -57,8 +57,8 @@ is-known-requires c κs =
     let nh = laws.touched-refusal w (a .address) (a .len) (g .result) (f .result) (e .result) (g .ensures) (f .ensures) (e .ensures) (n .result) (n .ensures) in
     laws.register-long w (n .result) (c .before .before .if1 .left) (a .address) (a .len) nh
 
-simple-requires-2 : tie.Need-simple-requires-2
-simple-requires-2 c κs = search needs
+done-requires : tie.Need-done-requires
+done-requires c κs = search needs
 
 same-length-4 : tie.Need-same-length-4
 same-length-4 c = search needs
@@ -80,10 +80,10 @@ returns-2 c =
     let n = c .before .before .before .before .before .before .register-refusal in
     let nh = laws.touched-refusal w (a .address) (a .len) (g .result) (f .result) (e .result) (g .ensures) (f .ensures) (e .ensures) (n .result) (n .ensures) in
     let k = laws.touched-known w (a .address) (a .len) (g .result) (f .result) (e .result) (g .ensures) (f .ensures) (e .ensures) (c .before .before .is-known .result) (c .before .before .is-known .ensures) (c .before .if2 .taken) in
-    laws.call-known w (n .result) (a .address) (a .len) (c .simple2 .result) nh (c .before .before .before .before .before .if1 .left) (laws.register-long w (n .result) (c .before .before .before .before .before .if1 .left) (a .address) (a .len) nh) k (c .simple2 .ensures)
+    laws.call-known w (n .result) (a .address) (a .len) (c .done .result) nh (c .before .before .before .before .before .if1 .left) (laws.register-long w (n .result) (c .before .before .before .before .before .if1 .left) (a .address) (a .len) nh) k (c .done .ensures)
 
-go-on-requires : tie.Need-go-on-requires
-go-on-requires c κs =
+register-from-requires : tie.Need-register-from-requires
+register-from-requires c κs =
     let a = c .before .before .before .before .before .before .before .before .before .before .before .before .before .before .before .before .before .before .before .before .before .args in
     let w = world (a .state .now) (a .registered .now) (a .failed .now) in
     let g = c .before .before .before .before .before .before .before .before .before .before .before .before .before .before .before .before .granularity in
@@ -104,8 +104,9 @@ answer-requires c κs =
     let n = c .before .before .before .before .before .before .before .before .before .before .before .before .before .before .register-refusal in
     let nh = laws.touched-refusal w (a .address) (a .len) (g .result) (f .result) (e .result) (g .ensures) (f .ensures) (e .ensures) (n .result) (n .ensures) in
     let long = laws.register-long w (n .result) (c .before .before .before .before .before .before .before .before .before .before .before .before .before .if1 .left) (a .address) (a .len) nh in
-    let o = c .before .before .before .before .before .go-on in
-    laws.go-kept w (c .before .before .before .before .before .before .before .before .before .before .before .before .before .before .before .before .before .before .chunk-count .result) 0 (f .result) (e .result) (count-in (a .state .now) _ (c .before .before .before .before .before .before .before .before .before .before .before .before .before .before .before .before .before .before .chunk-count .ensures) long) _ _ (o .result) (o .ensures .0) long (o .ensures .1)
+    let o = c .before .before .before .before .before .register-from in
+    let chunk-count = c .before .before .before .before .before .before .before .before .before .before .before .before .before .before .before .before .before .before .chunk-count in
+    laws.go-kept w (chunk-count .result) 0 (f .result) (e .result) (count-in (a .state .now) _ (chunk-count .ensures) long) _ _ (o .result) (o .ensures .0) long (o .ensures .1)
 
 same-length-7 : tie.Need-same-length-7
 same-length-7 c = search needs
@@ -127,8 +128,9 @@ returns-3 c =
     let n = c .before .before .before .before .before .before .before .before .before .before .before .before .before .before .before .register-refusal in
     let nh = laws.touched-refusal w (a .address) (a .len) (g .result) (f .result) (e .result) (g .ensures) (f .ensures) (e .ensures) (n .result) (n .ensures) in
     let long = laws.register-long w (n .result) (c .before .before .before .before .before .before .before .before .before .before .before .before .before .before .if1 .left) (a .address) (a .len) nh in
-    let o = c .before .before .before .before .before .before .go-on in
-    laws.call-answered w (n .result) _ nh _ _ (c .before .before .before .before .before .before .before .before .before .before .before .before .before .before .if1 .left) (laws.go-answered w (c .before .before .before .before .before .before .before .before .before .before .before .before .before .before .before .before .before .before .before .chunk-count .result) 0 (f .result) (e .result) (count-in (a .state .now) _ (c .before .before .before .before .before .before .before .before .before .before .before .before .before .before .before .before .before .before .before .chunk-count .ensures) long) _ _ (o .result) (c .answer .result) (o .ensures .0) (c .answer .ensures) ∙ ap (carriedOut w) (laws.touched-plan w (a .address) (a .len) (g .result) (f .result) (e .result) (g .ensures) (f .ensures) (e .ensures)))
+    let o = c .before .before .before .before .before .before .register-from in
+    let chunk-count = c .before .before .before .before .before .before .before .before .before .before .before .before .before .before .before .before .before .before .before .chunk-count in
+    laws.call-answered w (n .result) _ nh _ _ (c .before .before .before .before .before .before .before .before .before .before .before .before .before .before .if1 .left) (laws.go-answered w (chunk-count .result) 0 (f .result) (e .result) (count-in (a .state .now) _ (chunk-count .ensures) long) _ _ (o .result) (c .answer .result) (o .ensures .0) (c .answer .ensures) ∙ ap (carriedOut w) (laws.touched-plan w (a .address) (a .len) (g .result) (f .result) (e .result) (g .ensures) (f .ensures) (e .ensures)))
 
 pub registrar-register-spec : {M : Type 1} → statement M
 registrar-register-spec =
@@ -139,18 +141,18 @@ registrar-register-spec =
     end-chunk-requires
     chunk-count-requires
     register-refusal-requires
-    simple-requires
+    refused-requires
     same-length
     same-length-2
     same-length-3
     returns
     is-known-requires
-    simple-requires-2
+    done-requires
     same-length-4
     same-length-5
     same-length-6
     returns-2
-    go-on-requires
+    register-from-requires
     answer-requires
     same-length-7
     same-length-8

@@ -11,8 +11,8 @@ chunk-count-requires c κs = search needs
 all-refusal-requires : tie.Need-all-refusal-requires
 all-refusal-requires c κs = search needs
 
-simple-requires : tie.Need-simple-requires
-simple-requires c κs = search needs
+refused-requires : tie.Need-refused-requires
+refused-requires c κs = search needs
 
 same-length : tie.Need-same-length
 same-length c = search needs
@@ -29,10 +29,10 @@ returns c =
     let a = c .before .before .before .before .before .before .before .before .before .before .before .args in
     let w = world (a .state .now) (a .registered .now) (a .failed .now) in
     let n = c .before .before .all-refusal in
-    laws.call-refused w (n .result) _ (n .ensures) _ (c .simple .result) (c .before .if1 .taken) (c .simple .ensures)
+    laws.call-refused w (n .result) _ (n .ensures) _ (c .refused .result) (c .before .if1 .taken) (c .refused .ensures)
 
-all-on-requires : tie.Need-all-on-requires
-all-on-requires c κs =
+register-all-from-requires : tie.Need-register-all-from-requires
+register-all-from-requires c κs =
     let a = c .before .before .before .before .before .before .before .before .before .before .before .before .before .args in
     let w = world (a .state .now) (a .registered .now) (a .failed .now) in
     let n = c .before .before .before .before .all-refusal in
@@ -53,7 +53,7 @@ returns-2 c =
     let a = c .before .before .before .before .before .before .before .before .before .before .before .before .before .before .before .before .before .before .args in
     let w = world (a .state .now) (a .registered .now) (a .failed .now) in
     let n = c .before .before .before .before .before .before .before .before .before .all-refusal in
-    laws.call-answered w (n .result) _ (n .ensures) _ _ (c .before .before .before .before .before .before .before .before .if1 .left) (c .before .before .before .before .all-on .ensures)
+    laws.call-answered w (n .result) _ (n .ensures) _ _ (c .before .before .before .before .before .before .before .before .if1 .left) (c .before .before .before .before .register-all-from .ensures)
 
 pub registrar-register-all-aligned-spec : {M : Type 1} → statement M
 registrar-register-all-aligned-spec =
@@ -61,12 +61,12 @@ registrar-register-all-aligned-spec =
     (tie.spec
     chunk-count-requires
     all-refusal-requires
-    simple-requires
+    refused-requires
     same-length
     same-length-2
     same-length-3
     returns
-    all-on-requires
+    register-all-from-requires
     same-length-4
     same-length-5
     same-length-6

@@ -18,7 +18,10 @@ all-from-requires : tie.Need-all-from-requires
 all-from-requires c κs = search needs
 
 returns : tie.Need-returns
-returns c = laws.all-planned (world (c .before .before .before .before .before .before .before .args .state .now) (c .before .before .before .before .before .before .before .args .registered .now) (c .before .before .before .before .before .before .before .args .failed .now)) (c .before .before .before .ram-of .result .now) (c .before .before .before .ram-of .ensures) (c .all-from .result) (c .before .before .before .before .before .before .before .args .count) (c .before .before .before .before .before .before .before .args .alignment) (c .before .before .before .before .before .before .before .args .ignore) (c .before .before .before .before .before .before .before .args .c) (c .all-from .ensures)
+returns c =
+    let a = c .before .before .before .before .before .before .before .args in
+    let ram-of = c .before .before .before .ram-of in
+    laws.all-planned (world (a .state .now) (a .registered .now) (a .failed .now)) (ram-of .result .now) (ram-of .ensures) (c .all-from .result) (a .count) (a .alignment) (a .ignore) (a .chunk) (c .all-from .ensures)
 
 pub all-plan-spec : {M : Type 1} → statement M
 all-plan-spec =

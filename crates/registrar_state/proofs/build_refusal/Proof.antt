@@ -18,14 +18,14 @@ returns c =
     let a = c .before .before .before .before .before .before .args in
     let w = world (a .state .now) (a .registered .now) (a .failed .now) in
     let e = c .before .refusal in
-    laws.build-unfit w (a .ram .now) (a .offset) (a .g) (e .result) (e .ensures) (c .if1 .taken)
+    laws.build-unfit w (a .ram .now) (a .offset) (a .granularity) (e .result) (e .ensures) (c .if1 .taken)
 
 returns-2 : tie.Need-returns-2
 returns-2 c =
     let a = c .before .before .before .before .before .before .before .args in
     let w = world (a .state .now) (a .registered .now) (a .failed .now) in
     let e = c .before .before .refusal in
-    laws.build-ragged w (a .ram .now) (a .offset) (a .g) (e .result) (e .ensures) (c .before .if1 .left) (c .if2 .taken)
+    laws.build-ragged w (a .ram .now) (a .offset) (a .granularity) (e .result) (e .ensures) (c .before .if1 .left) (c .if2 .taken)
 
 sub-if3 : tie.Need-sub-if3
 sub-if3 c = search needs
@@ -38,21 +38,21 @@ returns-3 c =
     let a = c .before .before .before .before .before .before .before .before .before .args in
     let w = world (a .state .now) (a .registered .now) (a .failed .now) in
     let e = c .before .before .before .before .refusal in
-    laws.build-high w (a .ram .now) (a .offset) (a .g) (e .result) (e .ensures) (c .before .before .before .if1 .left) (c .before .before .if2 .left) (omega (arith, c .before .last-end .ensures))
+    laws.build-high w (a .ram .now) (a .offset) (a .granularity) (e .result) (e .ensures) (c .before .before .before .if1 .left) (c .before .before .if2 .left) (omega (arith, c .before .last-end .ensures))
 
 returns-4 : tie.Need-returns-4
 returns-4 c =
     let a = c .before .before .before .before .before .before .before .before .before .before .args in
     let w = world (a .state .now) (a .registered .now) (a .failed .now) in
     let e = c .before .before .before .before .before .refusal in
-    laws.build-edge w (a .ram .now) (a .offset) (a .g) (e .result) (e .ensures) (c .before .before .before .before .if1 .left) (c .before .before .before .if2 .left) (omega (arith, c .before .before .last-end .ensures)) (c .if4 .taken)
+    laws.build-edge w (a .ram .now) (a .offset) (a .granularity) (e .result) (e .ensures) (c .before .before .before .before .if1 .left) (c .before .before .before .if2 .left) (omega (arith, c .before .before .last-end .ensures)) (c .if4 .taken)
 
 returns-5 : tie.Need-returns-5
 returns-5 c =
     let a = c .before .before .before .before .before .before .before .before .before .before .before .args in
     let w = world (a .state .now) (a .registered .now) (a .failed .now) in
     let e = c .before .before .before .before .before .before .refusal in
-    laws.build-state w (a .ram .now) (a .offset) (a .g) (e .result) (e .ensures) (c .before .before .before .before .before .if1 .left) (c .before .before .before .before .if2 .left) (omega (arith, c .before .before .before .last-end .ensures)) (c .before .if4 .left) (c .if5 .taken)
+    laws.build-state w (a .ram .now) (a .offset) (a .granularity) (e .result) (e .ensures) (c .before .before .before .before .before .if1 .left) (c .before .before .before .before .if2 .left) (omega (arith, c .before .before .before .last-end .ensures)) (c .before .if4 .left) (c .if5 .taken)
 
 is-power-from-requires : tie.Need-is-power-from-requires
 is-power-from-requires c κs = search needs
@@ -62,7 +62,7 @@ returns-6 c =
     let a = c .before .before .before .before .before .before .before .before .before .before .before .before .before .args in
     let w = world (a .state .now) (a .registered .now) (a .failed .now) in
     let e = c .before .before .before .before .before .before .before .before .refusal in
-    laws.build-power w (a .ram .now) (a .offset) (a .g) (e .result) (e .ensures) (c .before .before .before .before .before .before .before .if1 .left) (c .before .before .before .before .before .before .if2 .left) (omega (arith, c .before .before .before .before .before .last-end .ensures)) (c .before .before .before .if4 .left)
+    laws.build-power w (a .ram .now) (a .offset) (a .granularity) (e .result) (e .ensures) (c .before .before .before .before .before .before .before .if1 .left) (c .before .before .before .before .before .before .if2 .left) (omega (arith, c .before .before .before .before .before .last-end .ensures)) (c .before .before .before .if4 .left)
     (c .before .before .if5 .left) (sym (c .before .is-power-from .ensures) ∙ not-true _ (c .if6 .taken))
 
 chunk-count-requires : tie.Need-chunk-count-requires
@@ -76,8 +76,9 @@ returns-7 c =
     let a = c .before .before .before .before .before .before .before .before .before .before .before .before .before .before .before .before .args in
     let w = world (a .state .now) (a .registered .now) (a .failed .now) in
     let e = c .before .before .before .before .before .before .before .before .before .before .before .refusal in
-    passes _ _ _ _ (sym (laws.lengths-fit (a .registered .now) (a .failed .now) (c .before .before .chunk-count .result) (a .g) (entriesOf (a .ram .now)) _ (c .before .before .chunk-count .ensures) (c .before .lengths-fit .ensures)) ∙ c .if7 .taken) refl
-    ∙ laws.build-last w (a .ram .now) (a .offset) (a .g) (e .result) (e .ensures) (c .before .before .before .before .before .before .before .before .before .before .if1 .left) (c .before .before .before .before .before .before .before .before .before .if2 .left) (omega (arith, c .before .before .before .before .before .before .before .before .last-end .ensures)) (c .before .before .before .before .before .before .if4 .left)
+    let chunk-count = c .before .before .chunk-count in
+    passes _ _ _ _ (sym (laws.lengths-fit (a .registered .now) (a .failed .now) (chunk-count .result) (a .granularity) (entriesOf (a .ram .now)) _ (chunk-count .ensures) (c .before .lengths-fit .ensures)) ∙ c .if7 .taken) refl
+    ∙ laws.build-last w (a .ram .now) (a .offset) (a .granularity) (e .result) (e .ensures) (c .before .before .before .before .before .before .before .before .before .before .if1 .left) (c .before .before .before .before .before .before .before .before .before .if2 .left) (omega (arith, c .before .before .before .before .before .before .before .before .last-end .ensures)) (c .before .before .before .before .before .before .if4 .left)
     (c .before .before .before .before .before .if5 .left) (sym (c .before .before .before .before .is-power-from .ensures) ∙ not-false _ (c .before .before .before .if6 .left))
 
 returns-8 : tie.Need-returns-8
@@ -85,8 +86,9 @@ returns-8 c =
     let a = c .before .before .before .before .before .before .before .before .before .before .before .before .before .before .before .before .args in
     let w = world (a .state .now) (a .registered .now) (a .failed .now) in
     let e = c .before .before .before .before .before .before .before .before .before .before .before .refusal in
-    refuses _ _ _ (sym (laws.lengths-fit (a .registered .now) (a .failed .now) (c .before .before .chunk-count .result) (a .g) (entriesOf (a .ram .now)) _ (c .before .before .chunk-count .ensures) (c .before .lengths-fit .ensures)) ∙ c .if7 .left)
-    ∙ laws.build-last w (a .ram .now) (a .offset) (a .g) (e .result) (e .ensures) (c .before .before .before .before .before .before .before .before .before .before .if1 .left) (c .before .before .before .before .before .before .before .before .before .if2 .left) (omega (arith, c .before .before .before .before .before .before .before .before .last-end .ensures)) (c .before .before .before .before .before .before .if4 .left)
+    let chunk-count = c .before .before .chunk-count in
+    refuses _ _ _ (sym (laws.lengths-fit (a .registered .now) (a .failed .now) (chunk-count .result) (a .granularity) (entriesOf (a .ram .now)) _ (chunk-count .ensures) (c .before .lengths-fit .ensures)) ∙ c .if7 .left)
+    ∙ laws.build-last w (a .ram .now) (a .offset) (a .granularity) (e .result) (e .ensures) (c .before .before .before .before .before .before .before .before .before .before .if1 .left) (c .before .before .before .before .before .before .before .before .before .if2 .left) (omega (arith, c .before .before .before .before .before .before .before .before .last-end .ensures)) (c .before .before .before .before .before .before .if4 .left)
     (c .before .before .before .before .before .if5 .left) (sym (c .before .before .before .before .is-power-from .ensures) ∙ not-false _ (c .before .before .before .if6 .left))
 
 pub build-refusal-spec : {M : Type 1} → statement M

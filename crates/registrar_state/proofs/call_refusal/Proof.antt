@@ -21,10 +21,16 @@ lengths-fit-requires : tie.Need-lengths-fit-requires
 lengths-fit-requires c κs = search needs
 
 returns-3 : tie.Need-returns-3
-returns-3 c = passes _ _ _ _ (eq-eqb _ _ (c .before .before .before .before .if1 .left)) (passes _ _ _ _ (eq-eqb _ _ (c .before .before .if2 .left)) (refuses _ _ _ (sym (laws.lengths-fit (c .before .before .before .before .before .before .before .before .args .registered .now) (c .before .before .before .before .before .before .before .before .args .failed .now) (c .before .before .before .before .before .before .before .before .args .n) (granularityOf (c .before .before .before .before .before .before .before .before .args .state .now)) (entriesIn (c .before .before .before .before .before .before .before .before .args .state .now)) _ (laws.count-in (c .before .before .before .before .before .before .before .before .args .state .now) _ (c .before .before .before .before .before .before .before .before .pre) (c .before .before .before .before .if1 .left)) (c .before .lengths-fit .ensures)) ∙ not-true _ (c .if3 .taken))))
+returns-3 c =
+    let a = c .before .before .before .before .before .before .before .before .args in
+    let if1 = c .before .before .before .before .if1 in
+    passes _ _ _ _ (eq-eqb _ _ (if1 .left)) (passes _ _ _ _ (eq-eqb _ _ (c .before .before .if2 .left)) (refuses _ _ _ (sym (laws.lengths-fit (a .registered .now) (a .failed .now) (a .total) (granularityOf (a .state .now)) (entriesIn (a .state .now)) _ (laws.count-in (a .state .now) _ (c .before .before .before .before .before .before .before .before .pre) (if1 .left)) (c .before .lengths-fit .ensures)) ∙ not-true _ (c .if3 .taken))))
 
 returns-4 : tie.Need-returns-4
-returns-4 c = passes _ _ _ _ (eq-eqb _ _ (c .before .before .before .before .if1 .left)) (passes _ _ _ _ (eq-eqb _ _ (c .before .before .if2 .left)) (passes _ _ _ _ (sym (laws.lengths-fit (c .before .before .before .before .before .before .before .before .args .registered .now) (c .before .before .before .before .before .before .before .before .args .failed .now) (c .before .before .before .before .before .before .before .before .args .n) (granularityOf (c .before .before .before .before .before .before .before .before .args .state .now)) (entriesIn (c .before .before .before .before .before .before .before .before .args .state .now)) _ (laws.count-in (c .before .before .before .before .before .before .before .before .args .state .now) _ (c .before .before .before .before .before .before .before .before .pre) (c .before .before .before .before .if1 .left)) (c .before .lengths-fit .ensures)) ∙ not-false _ (c .if3 .left)) refl))
+returns-4 c =
+    let a = c .before .before .before .before .before .before .before .before .args in
+    let if1 = c .before .before .before .before .if1 in
+    passes _ _ _ _ (eq-eqb _ _ (if1 .left)) (passes _ _ _ _ (eq-eqb _ _ (c .before .before .if2 .left)) (passes _ _ _ _ (sym (laws.lengths-fit (a .registered .now) (a .failed .now) (a .total) (granularityOf (a .state .now)) (entriesIn (a .state .now)) _ (laws.count-in (a .state .now) _ (c .before .before .before .before .before .before .before .before .pre) (if1 .left)) (c .before .lengths-fit .ensures)) ∙ not-false _ (c .if3 .left)) refl))
 
 pub call-refusal-spec : {M : Type 1} → statement M
 call-refusal-spec =

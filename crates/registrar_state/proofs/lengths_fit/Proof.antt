@@ -8,10 +8,10 @@ map-words-requires : tie.Need-map-words-requires
 map-words-requires c κs = search needs
 
 returns : tie.Need-returns
-returns c = laws.lengths-both (c .before .before .before .before .args .registered .now) (c .before .before .before .before .args .failed .now) (c .before .before .before .before .args .n) (c .before .map-words .result) (c .before .map-words .ensures) (c .if1 .taken)
+returns c = laws.lengths-both (c .before .before .before .before .args .registered .now) (c .before .before .before .before .args .failed .now) (c .before .before .before .before .args .total) (c .before .map-words .result) (c .before .map-words .ensures) (c .if1 .taken)
 
 returns-2 : tie.Need-returns-2
-returns-2 c = laws.lengths-not (c .before .before .before .before .args .registered .now) (c .before .before .before .before .args .failed .now) (c .before .before .before .before .args .n) (c .before .map-words .result) (c .before .map-words .ensures) (c .if1 .left)
+returns-2 c = laws.lengths-not (c .before .before .before .before .args .registered .now) (c .before .before .before .before .args .failed .now) (c .before .before .before .before .args .total) (c .before .map-words .result) (c .before .map-words .ensures) (c .if1 .left)
 
 pub lengths-fit-spec : {M : Type 1} → statement M
 lengths-fit-spec = tie.close (tie.spec map-words-requires returns returns-2)

@@ -21,14 +21,14 @@ returns-2 c =
     let a = c .before .before .before .before .before .before .before .args in
     let w = world (a .state .now) (a .registered .now) (a .failed .now) in
     let k = c .before .before .before .call-refusal in
-    laws.call-passed w (k .result) (k .ensures) _ _ (c .before .before .if1 .left) (passes _ _ _ _ (sym (laws.fit-is (a .first) (a .end) (a .n) (a .state .now) _ (laws.count-in (a .state .now) _ (c .before .before .before .before .before .before .before .pre) (laws.call-long w (k .result) (k .ensures) (c .before .before .if1 .left))) (c .before .chunks-fit .ensures)) ∙ c .if2 .taken) refl)
+    laws.call-passed w (k .result) (k .ensures) _ _ (c .before .before .if1 .left) (passes _ _ _ _ (sym (laws.fit-is (a .first) (a .end) (a .total) (a .state .now) _ (laws.count-in (a .state .now) _ (c .before .before .before .before .before .before .before .pre) (laws.call-long w (k .result) (k .ensures) (c .before .before .if1 .left))) (c .before .chunks-fit .ensures)) ∙ c .if2 .taken) refl)
 
 returns-3 : tie.Need-returns-3
 returns-3 c =
     let a = c .before .before .before .before .before .before .before .args in
     let w = world (a .state .now) (a .registered .now) (a .failed .now) in
     let k = c .before .before .before .call-refusal in
-    laws.call-passed w (k .result) (k .ensures) _ _ (c .before .before .if1 .left) (refuses _ _ _ (sym (laws.fit-is (a .first) (a .end) (a .n) (a .state .now) _ (laws.count-in (a .state .now) _ (c .before .before .before .before .before .before .before .pre) (laws.call-long w (k .result) (k .ensures) (c .before .before .if1 .left))) (c .before .chunks-fit .ensures)) ∙ c .if2 .left))
+    laws.call-passed w (k .result) (k .ensures) _ _ (c .before .before .if1 .left) (refuses _ _ _ (sym (laws.fit-is (a .first) (a .end) (a .total) (a .state .now) _ (laws.count-in (a .state .now) _ (c .before .before .before .before .before .before .before .pre) (laws.call-long w (k .result) (k .ensures) (c .before .before .if1 .left))) (c .before .chunks-fit .ensures)) ∙ c .if2 .left))
 
 pub register-refusal-spec : {M : Type 1} → statement M
 register-refusal-spec =

@@ -12,10 +12,13 @@ shared-slice-read-stop-from : tie.Need-shared-slice-read-stop-from
 shared-slice-read-stop-from c = search needs
 
 stop-from-requires : tie.Need-stop-from-requires
-stop-from-requires c κs = laws.count-of (c .before .before .before .before .before .args .state .now) (c .before .ram-of .result .now) (c .before .before .before .before .before .args .n) (c .before .ram-of .ensures) (c .before .before .before .before .before .pre .1)
+stop-from-requires c κs = laws.count-of (c .before .before .before .before .before .args .state .now) (c .before .ram-of .result .now) (c .before .before .before .before .before .args .total) (c .before .ram-of .ensures) (c .before .before .before .before .before .pre .1)
 
 returns : tie.Need-returns
-returns c = (laws.stop-planned (world (c .before .before .before .before .before .before .args .state .now) (c .before .before .before .before .before .before .args .registered .now) (c .before .before .before .before .before .before .args .failed .now)) (c .before .before .ram-of .result .now) (c .before .before .ram-of .ensures) (c .stop-from .result) (c .before .before .before .before .before .before .args .from) _ (c .stop-from .ensures .0), c .stop-from .ensures .1)
+returns c =
+    let a = c .before .before .before .before .before .before .args in
+    let ram-of = c .before .before .ram-of in
+    (laws.stop-planned (world (a .state .now) (a .registered .now) (a .failed .now)) (ram-of .result .now) (ram-of .ensures) (c .stop-from .result) (a .from) _ (c .stop-from .ensures .0), c .stop-from .ensures .1)
 
 pub register-stop-spec : {M : Type 1} → statement M
 register-stop-spec =

@@ -17,7 +17,7 @@ shared-slice-read-rest-of-3 : tie.Need-shared-slice-read-rest-of-3
 shared-slice-read-rest-of-3 c = search needs
 
 rest-of-requires : tie.Need-rest-of-requires
-rest-of-requires c κs = laws.count-of (c .before .before .before .before .before .args .state .now) (c .before .before .before .ram-of .result .now) (c .before .before .before .before .before .args .n) (c .before .before .before .ram-of .ensures) (c .before .before .before .before .before .pre .1)
+rest-of-requires c κs = laws.count-of (c .before .before .before .before .before .args .state .now) (c .before .before .before .ram-of .result .now) (c .before .before .before .before .before .args .total) (c .before .before .before .ram-of .ensures) (c .before .before .before .before .before .pre .1)
 
 returns : tie.Need-returns
 returns c = laws.rest-is (c .before .before .before .before .before .before .args .state .now) (c .before .before .before .before .ram-of .result .now) (c .rest-of .result) (c .before .before .before .before .ram-of .ensures) (c .rest-of .ensures)

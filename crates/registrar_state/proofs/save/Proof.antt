@@ -38,7 +38,7 @@ same-length c = search needs
 
 returns : tie.Need-returns
 returns c =
-    let q = c .args .q in
+    let q = c .args .request in
     laws.saved (q .kind) (q .count) (q .from) (q .to) (q .start) (q .end) (q .until) (q .alignment) (q .ignore) (c .args .state .now) (omega arith)
 
 pub save-spec : {M : Type 1} → statement M

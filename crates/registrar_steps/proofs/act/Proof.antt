@@ -36,16 +36,26 @@ ask-requires : tie.Need-ask-requires
 ask-requires c κs = search needs
 
 returns : tie.Need-returns
-returns c = laws.act-nothing (entriesOf (c .before .before .before .before .args .ram .now)) (c .before .before .before .before .args .offset) (c .before .before .before .before .args .count) (c .before .before .before .before .args .alignment) (c .before .before .before .before .args .ignore) (c .before .before .before .before .args .r) (c .before .before .before .before .args .look) _ (c .end .result) (c .before .enum-told .given .1) (c .end .ensures)
+returns c =
+    let a = c .before .before .before .before .args in
+    laws.act-nothing (entriesOf (a .ram .now)) (a .offset) (a .count) (a .alignment) (a .ignore) (a .span) (a .look) _ (c .end .result) (c .before .enum-told .given .1) (c .end .ensures)
 
 returns-2 : tie.Need-returns-2
-returns-2 c = laws.act-edge (entriesOf (c .before .before .before .before .before .before .args .ram .now)) (c .before .before .before .before .before .before .args .offset) (c .before .before .before .before .before .before .args .count) (c .before .before .before .before .before .before .args .alignment) (c .before .before .before .before .before .before .args .ignore) (c .before .before .before .before .before .before .args .r) (c .before .before .before .before .before .before .args .look) _ (c .end2 .result) _ (c .before .unaligned-fields .result) (c .before .before .before .look .given .1) (c .before .unaligned-fields .ensures) (c .end2 .ensures)
+returns-2 c =
+    let a = c .before .before .before .before .before .before .args in
+    let unaligned-fields = c .before .unaligned-fields in
+    laws.act-edge (entriesOf (a .ram .now)) (a .offset) (a .count) (a .alignment) (a .ignore) (a .span) (a .look) _ (c .end2 .result) _ (unaligned-fields .result) (c .before .before .before .look .given .1) (unaligned-fields .ensures) (c .end2 .ensures)
 
 returns-3 : tie.Need-returns-3
-returns-3 c = laws.act-failed (entriesOf (c .before .before .before .before .before .args .ram .now)) (c .before .before .before .before .before .args .offset) (c .before .before .before .before .before .args .count) (c .before .before .before .before .before .args .alignment) (c .before .before .before .before .before .args .ignore) (c .before .before .before .before .before .args .r) (c .before .before .before .before .before .args .look) _ (c .end3 .result) _ (c .before .before .look2 .given .1) (c .end3 .ensures)
+returns-3 c =
+    let a = c .before .before .before .before .before .args in
+    laws.act-failed (entriesOf (a .ram .now)) (a .offset) (a .count) (a .alignment) (a .ignore) (a .span) (a .look) _ (c .end3 .result) _ (c .before .before .look2 .given .1) (c .end3 .ensures)
 
 returns-4 : tie.Need-returns-4
-returns-4 c = laws.act-stretch (entriesOf (c .before .before .before .before .before .before .args .ram .now)) (c .before .before .before .before .before .before .args .offset) (c .before .before .before .before .before .before .args .count) (c .before .before .before .before .before .before .args .alignment) (c .before .before .before .before .before .before .args .ignore) (c .before .before .before .before .before .before .args .r) (c .before .before .before .before .before .before .args .look) _ (c .ask .result) _ _ _ _ (c .before .stretch-request .result) (c .before .before .before .look3 .given .1) (c .before .stretch-request .ensures) (c .ask .ensures)
+returns-4 c =
+    let a = c .before .before .before .before .before .before .args in
+    let stretch-request = c .before .stretch-request in
+    laws.act-stretch (entriesOf (a .ram .now)) (a .offset) (a .count) (a .alignment) (a .ignore) (a .span) (a .look) _ (c .ask .result) _ _ _ _ (stretch-request .result) (c .before .before .before .look3 .given .1) (stretch-request .ensures) (c .ask .ensures)
 
 pub act-spec : {M : Type 1} → statement M
 act-spec =

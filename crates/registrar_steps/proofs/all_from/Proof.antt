@@ -41,21 +41,33 @@ act-requires c κs = search needs
 returns : tie.Need-returns Inv-loop μ-loop
 returns c =
     let a = c .before .before .before .before .before .before .before .before .before .before .before .args in
-    laws.all-hit (seen (a .g) (entriesOf (a .ram .now)) (a .registered .now) (a .failed .now)) (a .offset) (a .count) (a .alignment) (a .ignore) (a .c) (c .before .before .before .before .before .before .loop .i) (c .before .before .before .before .span-at .result) (c .before .before .before .look-at .result) (omega arith) (c .before .before .before .before .span-at .ensures) (c .before .before .before .look-at .ensures) (c .act .result) (sym (c .before .before .is-nothing .ensures) ∙ not-true _ (c .before .if1 .taken)) (c .act .ensures) ∙ c .before .before .before .before .before .before .loop .inv
+    let l = c .before .before .before .before .before .before .loop in
+    let span-at = c .before .before .before .before .span-at in
+    let look-at = c .before .before .before .look-at in
+    laws.all-hit (seen (a .granularity) (entriesOf (a .ram .now)) (a .registered .now) (a .failed .now)) (a .offset) (a .count) (a .alignment) (a .ignore) (a .chunk) (l .i) (span-at .result) (look-at .result) (omega arith) (span-at .ensures) (look-at .ensures) (c .act .result) (sym (c .before .before .is-nothing .ensures) ∙ not-true _ (c .before .if1 .taken)) (c .act .ensures) ∙ l .inv
 
 loop-less : tie.Need-loop-less Inv-loop μ-loop
-loop-less c = chunk-laws.span-less (entriesOf (c .before .before .before .before .before .before .before .before .before .before .args .ram .now)) (c .before .before .before .before .before .loop .i) (c .before .before .before .before .before .before .entry-count .result) (c .before .before .before .span-at .result) (omega arith) (c .before .before .before .before .before .before .entry-count .ensures) (c .before .before .before .span-at .ensures)
+loop-less c =
+    let entry-count = c .before .before .before .before .before .before .entry-count in
+    let span-at = c .before .before .before .span-at in
+    chunk-laws.span-less (entriesOf (c .before .before .before .before .before .before .before .before .before .before .args .ram .now)) (c .before .before .before .before .before .loop .i) (entry-count .result) (span-at .result) (omega arith) (entry-count .ensures) (span-at .ensures)
 
 loop-again : tie.Need-loop-again Inv-loop μ-loop
 loop-again c =
     let a = c .before .before .before .before .before .before .before .before .before .before .args in
-    sym (laws.all-miss (seen (a .g) (entriesOf (a .ram .now)) (a .registered .now) (a .failed .now)) (a .offset) (a .count) (a .alignment) (a .ignore) (a .c) (c .before .before .before .before .before .loop .i) (c .before .before .before .span-at .result) (c .before .before .look-at .result) (omega arith) (c .before .before .before .span-at .ensures) (c .before .before .look-at .ensures) (sym (c .before .is-nothing .ensures) ∙ not-false _ (c .if1 .left))) ∙ c .before .before .before .before .before .loop .inv
+    let l = c .before .before .before .before .before .loop in
+    let span-at = c .before .before .before .span-at in
+    let look-at = c .before .before .look-at in
+    sym (laws.all-miss (seen (a .granularity) (entriesOf (a .ram .now)) (a .registered .now) (a .failed .now)) (a .offset) (a .count) (a .alignment) (a .ignore) (a .chunk) (l .i) (span-at .result) (look-at .result) (omega arith) (span-at .ensures) (look-at .ensures) (sym (c .before .is-nothing .ensures) ∙ not-false _ (c .if1 .left))) ∙ l .inv
 
 end-requires : tie.Need-end-requires Inv-loop μ-loop
 end-requires c κs = search needs
 
 returns-2 : tie.Need-returns-2 Inv-loop μ-loop
-returns-2 c = c .end .ensures ∙ sym (laws.all-end (seen (c .before .before .before .before .before .before .before .args .g) (entriesOf (c .before .before .before .before .before .before .before .args .ram .now)) (c .before .before .before .before .before .before .before .args .registered .now) (c .before .before .before .before .before .before .before .args .failed .now)) (c .before .before .before .before .before .before .before .args .offset) (c .before .before .before .before .before .before .before .args .count) (c .before .before .before .before .before .before .before .args .alignment) (c .before .before .before .before .before .before .before .args .ignore) (c .before .before .before .before .before .before .before .args .c) (c .before .before .loop .i) (omega arith)) ∙ c .before .before .loop .inv
+returns-2 c =
+    let a = c .before .before .before .before .before .before .before .args in
+    let l = c .before .before .loop in
+    c .end .ensures ∙ sym (laws.all-end (seen (a .granularity) (entriesOf (a .ram .now)) (a .registered .now) (a .failed .now)) (a .offset) (a .count) (a .alignment) (a .ignore) (a .chunk) (l .i) (omega arith)) ∙ l .inv
 
 pub all-from-spec : {M : Type 1} → statement M
 all-from-spec =

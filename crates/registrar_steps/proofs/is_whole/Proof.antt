@@ -16,7 +16,7 @@ returns-2 : tie.Need-returns-2
 returns-2 c = λ h. false≢true h
 
 returns-3 : tie.Need-returns-3
-returns-3 c = λ h. laws.whole-ends (c .before .before .args .c) (c .before .before .args .g) (c .before .before .args .x) (c .if2 .left) (leb-true _ _ h)
+returns-3 c = λ h. laws.whole-ends (c .before .before .args .chunk) (c .before .before .args .granularity) (c .before .before .args .address) (c .if2 .left) (leb-true _ _ h)
 
 pub is-whole-spec : {M : Type 1} → statement M
 is-whole-spec = tie.close (tie.spec returns mul-start returns-2 returns-3)

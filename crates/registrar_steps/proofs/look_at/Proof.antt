@@ -11,17 +11,24 @@ use Rattle.registrar_steps.proofs.look_at.Tie as tie
 unaligned-edge-requires : tie.Need-unaligned-edge-requires
 unaligned-edge-requires c κs = search needs
 
-is-barred-requires : tie.Need-is-barred-requires
-is-barred-requires c κs = search needs
+edge-refused-requires : tie.Need-edge-refused-requires
+edge-refused-requires c κs = search needs
 
 returns : tie.Need-returns
-returns c = laws.look-edge (c .before .before .before .before .before .args .g) (c .before .before .before .before .before .args .registered .now) (c .before .before .before .before .before .args .failed .now) (c .before .before .before .before .before .args .alignment) (c .before .before .before .before .before .args .ignore) (c .before .before .before .before .before .args .c) (c .before .before .before .before .before .args .r) (c .before .before .unaligned-edge .result) (c .before .before .unaligned-edge .ensures) (sym (c .before .is-barred .ensures) ∙ c .if1 .taken)
+returns c =
+    let a = c .before .before .before .before .before .args in
+    let unaligned-edge = c .before .before .unaligned-edge in
+    laws.look-edge (a .granularity) (a .registered .now) (a .failed .now) (a .alignment) (a .ignore) (a .chunk) (a .span) (unaligned-edge .result) (unaligned-edge .ensures) (sym (c .before .edge-refused .ensures) ∙ c .if1 .taken)
 
 aligned-subrange-requires : tie.Need-aligned-subrange-requires
 aligned-subrange-requires c κs = search needs
 
 returns-2 : tie.Need-returns-2
-returns-2 c = laws.look-nothing (c .before .before .before .before .before .before .before .before .args .g) (c .before .before .before .before .before .before .before .before .args .registered .now) (c .before .before .before .before .before .before .before .before .args .failed .now) (c .before .before .before .before .before .before .before .before .args .alignment) (c .before .before .before .before .before .before .before .before .args .ignore) (c .before .before .before .before .before .before .before .before .args .c) (c .before .before .before .before .before .before .before .before .args .r) (c .before .before .before .before .before .unaligned-edge .result) (c .before .before .before .before .before .unaligned-edge .ensures) (sym (c .before .before .before .before .is-barred .ensures) ∙ c .before .before .before .if1 .left) (c .before .before .aligned-subrange .result) (c .before .before .aligned-subrange .ensures) (c .if2 .taken)
+returns-2 c =
+    let a = c .before .before .before .before .before .before .before .before .args in
+    let unaligned-edge = c .before .before .before .before .before .unaligned-edge in
+    let aligned-subrange = c .before .before .aligned-subrange in
+    laws.look-nothing (a .granularity) (a .registered .now) (a .failed .now) (a .alignment) (a .ignore) (a .chunk) (a .span) (unaligned-edge .result) (unaligned-edge .ensures) (sym (c .before .before .before .before .edge-refused .ensures) ∙ c .before .before .before .if1 .left) (aligned-subrange .result) (aligned-subrange .ensures) (c .if2 .taken)
 
 div-requires : tie.Need-div-requires
 div-requires c κs = search needs
@@ -33,20 +40,22 @@ div-requires-2 : tie.Need-div-requires-2
 div-requires-2 c κs = search needs
 
 stretch-in-requires : tie.Need-stretch-in-requires
-stretch-in-requires c κs = omega (arith, chunk-laws.quotient-fits (c .before .before .before .before .before .aligned-subrange .result .end) (c .before .before .before .before .before .before .before .before .before .before .before .args .g) (c .div2 .result) (c .div2 .ensures))
+stretch-in-requires c κs = omega (arith, chunk-laws.quotient-fits (c .before .before .before .before .before .aligned-subrange .result .end) (c .before .before .before .before .before .before .before .before .before .before .before .args .granularity) (c .div2 .result) (c .div2 .ensures))
 
 returns-3 : tie.Need-returns-3
 returns-3 c =
     let a = c .before .before .before .before .before .before .before .before .before .before .before .before .args in
     let p = c .before .before .before .before .before .before .aligned-subrange in
-    laws.look-in (a .g) (a .registered .now) (a .failed .now) (a .alignment) (a .ignore) (a .c) (a .r) (c .before .before .before .before .before .before .before .before .before .unaligned-edge .result) (c .before .before .before .before .before .before .before .before .before .unaligned-edge .ensures) (sym (c .before .before .before .before .before .before .before .before .is-barred .ensures) ∙ c .before .before .before .before .before .before .before .if1 .left) (p .result) (p .ensures) (c .before .before .greatest .result) (c .before .div2 .result) (c .stretch-in .result) (c .before .before .before .before .if2 .left) (c .before .before .greatest .ensures ∙ ap (max (a .c)) (c .before .before .before .div .ensures)) (c .before .div2 .ensures) (c .stretch-in .ensures)
+    let unaligned-edge = c .before .before .before .before .before .before .before .before .before .unaligned-edge in
+    let greatest = c .before .before .greatest in
+    laws.look-in (a .granularity) (a .registered .now) (a .failed .now) (a .alignment) (a .ignore) (a .chunk) (a .span) (unaligned-edge .result) (unaligned-edge .ensures) (sym (c .before .before .before .before .before .before .before .before .edge-refused .ensures) ∙ c .before .before .before .before .before .before .before .if1 .left) (p .result) (p .ensures) (greatest .result) (c .before .div2 .result) (c .stretch-in .result) (c .before .before .before .before .if2 .left) (greatest .ensures ∙ ap (max (a .chunk)) (c .before .before .before .div .ensures)) (c .before .div2 .ensures) (c .stretch-in .ensures)
 
 pub look-at-spec : {M : Type 1} → statement M
 look-at-spec =
     tie.close
     (tie.spec
     unaligned-edge-requires
-    is-barred-requires
+    edge-refused-requires
     returns
     aligned-subrange-requires
     returns-2

@@ -14,7 +14,9 @@ stop-of-requires : tie.Need-stop-of-requires
 stop-of-requires c κs = search needs
 
 returns : tie.Need-returns
-returns c = laws.offer-registered (seen (c .before .before .before .before .before .before .args .g) (entriesOf (c .before .before .before .before .before .before .args .ram .now)) (c .before .before .before .before .before .before .args .registered .now) (c .before .before .before .before .before .before .args .failed .now)) (c .before .before .before .before .before .before .args .c) (c .stop-of .result) (sym (c .before .before .get .ensures) ∙ c .before .if1 .taken) (c .stop-of .ensures)
+returns c =
+    let a = c .before .before .before .before .before .before .args in
+    laws.offer-registered (seen (a .granularity) (entriesOf (a .ram .now)) (a .registered .now) (a .failed .now)) (a .chunk) (c .stop-of .result) (sym (c .before .before .get .ensures) ∙ c .before .if1 .taken) (c .stop-of .ensures)
 
 mul-start : tie.Need-mul-start
 mul-start c = search needs
@@ -26,7 +28,9 @@ stop-of-requires-2 : tie.Need-stop-of-requires-2
 stop-of-requires-2 c κs = search needs
 
 returns-2 : tie.Need-returns-2
-returns-2 c = laws.offer-failed (seen (c .before .before .before .before .before .before .before .before .args .g) (entriesOf (c .before .before .before .before .before .before .before .before .args .ram .now)) (c .before .before .before .before .before .before .before .before .args .registered .now) (c .before .before .before .before .before .before .before .before .args .failed .now)) (c .before .before .before .before .before .before .before .before .args .c) (c .stop-of2 .result) (sym (c .before .before .before .before .get .ensures) ∙ c .before .before .before .if1 .left) (sym (c .before .before .get2 .ensures) ∙ c .before .if2 .taken) (c .stop-of2 .ensures)
+returns-2 c =
+    let a = c .before .before .before .before .before .before .before .before .args in
+    laws.offer-failed (seen (a .granularity) (entriesOf (a .ram .now)) (a .registered .now) (a .failed .now)) (a .chunk) (c .stop-of2 .result) (sym (c .before .before .before .before .get .ensures) ∙ c .before .before .before .if1 .left) (sym (c .before .before .get2 .ensures) ∙ c .before .if2 .taken) (c .stop-of2 .ensures)
 
 chunk-ram-requires : tie.Need-chunk-ram-requires
 chunk-ram-requires c κs = search needs
@@ -37,7 +41,8 @@ stop-of-requires-3 c κs = search needs
 returns-3 : tie.Need-returns-3
 returns-3 c =
     let a = c .before .before .before .before .before .before .before .before .before .before .before .args in
-    laws.offer-none (seen (a .g) (entriesOf (a .ram .now)) (a .registered .now) (a .failed .now)) (a .c) (c .stop-of3 .result) (sym (c .before .before .before .before .before .before .before .get .ensures) ∙ c .before .before .before .before .before .before .if1 .left) (sym (c .before .before .before .before .before .get2 .ensures) ∙ c .before .before .before .before .if2 .left) (c .before .before .before .chunk-ram .result) (c .before .before .before .chunk-ram .ensures) (c .before .if3 .taken) (c .stop-of3 .ensures)
+    let chunk-ram = c .before .before .before .chunk-ram in
+    laws.offer-none (seen (a .granularity) (entriesOf (a .ram .now)) (a .registered .now) (a .failed .now)) (a .chunk) (c .stop-of3 .result) (sym (c .before .before .before .before .before .before .before .get .ensures) ∙ c .before .before .before .before .before .before .if1 .left) (sym (c .before .before .before .before .before .get2 .ensures) ∙ c .before .before .before .before .if2 .left) (chunk-ram .result) (chunk-ram .ensures) (c .before .if3 .taken) (c .stop-of3 .ensures)
 
 stop-of-requires-4 : tie.Need-stop-of-requires-4
 stop-of-requires-4 c κs = search needs
@@ -45,7 +50,8 @@ stop-of-requires-4 c κs = search needs
 returns-4 : tie.Need-returns-4
 returns-4 c =
     let a = c .before .before .before .before .before .before .before .before .before .before .before .args in
-    laws.offer-some (seen (a .g) (entriesOf (a .ram .now)) (a .registered .now) (a .failed .now)) (a .c) (c .stop-of4 .result) (sym (c .before .before .before .before .before .before .before .get .ensures) ∙ c .before .before .before .before .before .before .if1 .left) (sym (c .before .before .before .before .before .get2 .ensures) ∙ c .before .before .before .before .if2 .left) (c .before .before .before .chunk-ram .result) (c .before .before .before .chunk-ram .ensures) (c .before .if3 .left) (c .stop-of4 .ensures)
+    let chunk-ram = c .before .before .before .chunk-ram in
+    laws.offer-some (seen (a .granularity) (entriesOf (a .ram .now)) (a .registered .now) (a .failed .now)) (a .chunk) (c .stop-of4 .result) (sym (c .before .before .before .before .before .before .before .get .ensures) ∙ c .before .before .before .before .before .before .if1 .left) (sym (c .before .before .before .before .before .get2 .ensures) ∙ c .before .before .before .before .if2 .left) (chunk-ram .result) (chunk-ram .ensures) (c .before .if3 .left) (c .stop-of4 .ensures)
 
 pub offer-of-spec : {M : Type 1} → statement M
 offer-of-spec =

@@ -8,12 +8,12 @@ use Rattle.registrar_steps.proofs.rest_of.Tie as tie
 
 is-whole-requires : tie.Need-is-whole-requires
 is-whole-requires c κs = λ h.
-    laws.walk-fits (c .before .args .ram .now) (c .before .args .g) (c .before .args .n) (c .before .args .n) (c .before .args .n) (c .before .args .c) (λ j. c .shared-slice-known .given j .fits) (c .before .pre) (omega arith) h
+    laws.walk-fits (c .before .args .ram .now) (c .before .args .granularity) (c .before .args .total) (c .before .args .total) (c .before .args .total) (c .before .args .chunk) (λ j. c .shared-slice-known .given j .fits) (c .before .pre) (omega arith) h
 
 returns : tie.Need-returns
 returns c =
     let a = c .before .before .before .args in
-    laws.whole-rest (entriesOf (a .ram .now)) (a .g) (a .c) (a .x) (c .before .is-whole .ensures (c .if1 .taken))
+    laws.whole-rest (entriesOf (a .ram .now)) (a .granularity) (a .chunk) (a .from) (c .before .is-whole .ensures (c .if1 .taken))
 
 next-ram-requires : tie.Need-next-ram-requires
 next-ram-requires c κs = search needs

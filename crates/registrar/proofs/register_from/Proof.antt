@@ -1,12 +1,13 @@
--- `registrar::go_on` meets its contract. Assumes nothing.
+-- `registrar::register_from` meets its contract. Assumes nothing.
 use borrow.Author.Needs.{needs}
 use native.Mathlib.Omega.{arith}
+use mathlib.Core.Path.{sym, _∙_}
 use Prim.Native.Nat.{min}
 use Rattle.registrar_state.specs.World.{world, seenIn}
 use Rattle.registrar_steps.proofs.Laws.{stop-below}
 use Rattle.registrar.proofs.Laws as laws
-use Rattle.registrar.proofs.go_on.Statement.{statement}
-use Rattle.registrar.proofs.go_on.Tie as tie
+use Rattle.registrar.proofs.register_from.Statement.{statement}
+use Rattle.registrar.proofs.register_from.Tie as tie
 
 register-stop-requires : tie.Need-register-stop-requires
 register-stop-requires c κs = search needs
@@ -14,11 +15,14 @@ register-stop-requires c κs = search needs
 set-chunks-requires : tie.Need-set-chunks-requires
 set-chunks-requires c κs = search needs
 
+has-ram-requires : tie.Need-has-ram-requires
+has-ram-requires c κs = search needs
+
 add-piece : tie.Need-add-piece
 add-piece c =
     let a = c .before .before .before .before .before .before .before .before .before .before .before .before .before .args in
     let t = c .before .before .before .before .before .before .before .register-stop in
-    omega (arith, stop-below (seenIn (world (a .state .now) (a .registered .now) (a .failed .now))) (a .from) (min (a .until) (a .n)) (t .result) (t .ensures .0) (c .before .if1 .taken), c .before .before .before .before .before .before .before .before .before .before .before .before .before .fits .n)
+    omega (arith, stop-below (seenIn (world (a .state .now) (a .registered .now) (a .failed .now))) (a .from) (min (a .until) (a .total)) (t .result) (t .ensures .0) (sym (c .before .before .has-ram .ensures) ∙ c .before .if1 .taken), c .before .before .before .before .before .before .before .before .before .before .before .before .before .fits .total)
 
 piece-requires : tie.Need-piece-requires
 piece-requires c κs = search needs
@@ -37,7 +41,8 @@ returns c =
     let a = c .before .before .before .before .before .before .before .before .before .before .before .before .before .before .before .before .before .args in
     let w = world (a .state .now) (a .registered .now) (a .failed .now) in
     let t = c .before .before .before .before .before .before .before .before .before .before .before .register-stop in
-    (laws.go-asked w (a .n) (a .count) (a .from) (a .until) (c .before .before .before .before .before .before .before .before .before .before .before .before .before .before .before .before .before .pre .1) (t .result) (t .ensures .0) _ _ (c .before .before .before .before .before .before .before .before .before .set-chunks .ensures) (c .before .before .before .piece .result) (c .before .before .before .before .before .if1 .taken) (c .before .before .before .piece .ensures) (c .before .before .save .ensures), t .ensures .1)
+    let piece = c .before .before .before .piece in
+    (laws.go-asked w (a .total) (a .count) (a .from) (a .until) (c .before .before .before .before .before .before .before .before .before .before .before .before .before .before .before .before .before .pre .1) (t .result) (t .ensures .0) _ _ (c .before .before .before .before .before .before .before .before .before .set-chunks .ensures) (piece .result) (sym (c .before .before .before .before .before .before .has-ram .ensures) ∙ c .before .before .before .before .before .if1 .taken) (piece .ensures) (c .before .before .save .ensures), t .ensures .1)
 
 idle-requires : tie.Need-idle-requires
 idle-requires c κs = search needs
@@ -56,14 +61,16 @@ returns-2 c =
     let a = c .before .before .before .before .before .before .before .before .before .before .before .before .before .before .before .before .before .args in
     let w = world (a .state .now) (a .registered .now) (a .failed .now) in
     let t = c .before .before .before .before .before .before .before .before .before .before .before .register-stop in
-    (laws.go-ended w (a .n) (a .count) (a .from) (a .until) (c .before .before .before .before .before .before .before .before .before .before .before .before .before .before .before .before .before .pre .1) (t .result) (t .ensures .0) _ _ (c .before .before .before .before .before .before .before .before .before .set-chunks .ensures) (c .before .before .before .idle .result) (c .before .before .before .before .before .if1 .left) (c .before .before .before .idle .ensures) (c .before .before .save2 .ensures), t .ensures .1)
+    let idle = c .before .before .before .idle in
+    (laws.go-ended w (a .total) (a .count) (a .from) (a .until) (c .before .before .before .before .before .before .before .before .before .before .before .before .before .before .before .before .before .pre .1) (t .result) (t .ensures .0) _ _ (c .before .before .before .before .before .before .before .before .before .set-chunks .ensures) (idle .result) (sym (c .before .before .before .before .before .before .has-ram .ensures) ∙ c .before .before .before .before .before .if1 .left) (idle .ensures) (c .before .before .save2 .ensures), t .ensures .1)
 
-pub go-on-spec : {M : Type 1} → statement M
-go-on-spec =
+pub register-from-spec : {M : Type 1} → statement M
+register-from-spec =
     tie.close
     (tie.spec
     register-stop-requires
     set-chunks-requires
+    has-ram-requires
     add-piece
     piece-requires
     save-requires
