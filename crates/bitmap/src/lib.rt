@@ -1,13 +1,13 @@
 // Bitmaps lent by the caller: GuestMemoryBitmap, a bit for each page in bytes, and the registrar's Bitmap, a bit for
 // each chunk in 64-bit words.
 ghost use mathlib.Core.Path.{_≡_};
-ghost use Prim.Native.Nat.{_+_, _*_, _/_};
+ghost use Prim.Native.Nat.{_+_, _*_, _/_, _≤_};
 ghost use Rattle.laws.specs.Bools.{digit};
 ghost use Rattle.laws.specs.Ranges.{between};
 ghost use Rattle.bitmap.specs.Pages.{bitAt, written, one, words, whole, edges, bit, tally};
 
 // The byte whose pages all have the state.
-fn full(state: bool) -> u8
+pub fn full(state: bool) -> u8
     ensures { λ r. ⌜ r ≡ digit state * 255 ⌝ }
 {
     if state { 255 } else { 0 }
@@ -18,7 +18,7 @@ pub fn fill_bytes(map: &mut [u8], from: u64, to: u64, state: bool)
     ensures { λ _. ⌜ now (map .exit) ≡ written 8 (words 8 from to) state (now (map .entry)) ⌝ }
 {
     let v = full(state);
-    let stop = numbers::least(to, map.len() as u64) as usize;
+    let stop = numbers::min(to, map.len() as u64) as usize;
     let mut i = from as usize;
     while i < stop {
         map[i] = v;
@@ -87,6 +87,19 @@ pub fn update(map: &mut [u8], from: u64, to: u64, state: bool)
 {
     update_whole(map, from, to, state);
     update_edges(map, from, to, state);
+}
+
+// The pages from `first` to `last`, with it; nothing past the end.
+pub fn set_run(map: &mut [u8], first: u64, last: u64, state: bool)
+    requires { ⌜ first ≤ last ⌝ }
+    ensures { λ _. ⌜ now (map .exit) ≡ written 8 (between first (last + 1)) state (now (map .entry)) ⌝ }
+{
+    if first == last {
+        set_page(map, first, state);
+        return;
+    }
+    update(map, first, last, state);
+    set_page(map, last, state);
 }
 
 // The state of a page: not set past the end.

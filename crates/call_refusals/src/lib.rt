@@ -173,13 +173,22 @@ pub fn listed_refusal(state: &[u64], tables: &[u64], vtl: GuestVtl, share: bool,
     ensures { λ r. ⌜ r ≡ firstRefusal (pageRefusal (entriesIn (now (state .entry))) (overlaysOf (now (tables .entry)) vtl) (locksOf (now (tables .entry)) vtl) share) (pagesOf (now (list .entry))) ⌝ }
 {
     let ram = protector_state::ram_of(state);
-    pages_refusal(
-        ram,
-        overlays_of(tables, vtl),
-        locks_of(tables, vtl),
-        share,
-        list,
-    )
+    match vtl {
+        GuestVtl::Vtl0 => pages_refusal(
+            ram,
+            overlays_of(tables, GuestVtl::Vtl0),
+            locks_of(tables, GuestVtl::Vtl0),
+            share,
+            list,
+        ),
+        GuestVtl::Vtl1 => pages_refusal(
+            ram,
+            overlays_of(tables, GuestVtl::Vtl1),
+            locks_of(tables, GuestVtl::Vtl1),
+            share,
+            list,
+        ),
+    }
 }
 
 // The number that refuses a visibility change: 0 where none does.

@@ -86,21 +86,12 @@ fn no_change() -> Change
     change_of(GuestVtl::Vtl0, 0, 0)
 }
 
-fn is_vtl0(vtl: GuestVtl) -> bool
-    ensures { λ r. ⌜ r ≡ isVtl0 vtl ⌝ }
-{
-    match vtl {
-        GuestVtl::Vtl0 => true,
-        GuestVtl::Vtl1 => false,
-    }
-}
-
 // Whether a Protect writes the permission maps.
 fn is_tracked(tracked: bool, q: Change) -> bool
     ensures { λ r. ⌜ r ≡ (isVtl0 (q .vtl) && (tracked && eqb (q .source) 0)) ⌝ }
 {
     let vtl = q.vtl;
-    if !is_vtl0(vtl) {
+    if !permissions::is_vtl0(vtl) {
         return false;
     }
     if !tracked {

@@ -1,6 +1,6 @@
 -- Laws of what a step writes, one for each way that the code goes. Assumes nothing.
 use native.Mathlib.Omega.{arith}
-use mathlib.Core.Path.{_≡_, refl, sym, ap, ap₂, _∙_}
+use mathlib.Core.Path.{_≡_, sym, ap, ap₂, _∙_}
 use mathlib.Core.Bool.{Bool, not, cond}
 use mathlib.Core.List.{List, _++_}
 use Prim.Native.Nat.{ℕ, _+_, _<_, _^_}
@@ -8,7 +8,6 @@ use lib.ListN.{take, drop}
 use lib.Seq.{drop-drop}
 use borrow.Author.Tests.{eq-eqb, ne-eqb}
 use borrow.Rule.Slice.PartMut.{midOf, postOf, putMid}
-use Rattle.laws.specs.Ranges.{between}
 use Rattle.bitmap.specs.Pages.{written}
 use Rattle.bitmap.proofs.Steps.{run-none}
 use Rattle.permissions.specs.declared.GuestVtl.{GuestVtl}
@@ -17,7 +16,8 @@ use Rattle.permissions.specs.declared.HvMapGpaFlags.{HvMapGpaFlags}
 use Rattle.permissions.specs.Flags.{flagsOf}
 use Rattle.layout.specs.Layout.{entriesOf}
 use Rattle.page_list.specs.declared.PageRun.{PageRun}
-use Rattle.mapping.specs.Maps.{Permissions, perms}
+use Rattle.mapping.specs.Maps.{Permissions, permitted}
+use Rattle.mapping.proofs.Marks.{permitted-is}
 use Rattle.overlay_table.specs.Overlays.{placeOf, removeWords}
 use Rattle.visibility_steps.specs.declared.Settings.{Settings}
 use Rattle.change_steps.specs.declared.Stage.{Stage}
@@ -35,19 +35,15 @@ use Rattle.change_writes.proofs.Bounds.{Below, Ends, done-ends, failed-
 
 -- ---- the permissions of a run
 
-module _ (first count : ℕ) (s : Bool) (m : List ℕ) where
-  pub run-empty : count ≡ 0 → m ≡ written 8 (between first (first + count)) s m
-  run-empty h =
-      let d : first ≡ first + count = omega arith in
-      run-none 8 s m first ∙ ap (λ (k : ℕ). written 8 (between first k) s m) d
+module _ (r : PageRun) (f : HvMapGpaFlags) (m : Permissions) where
+  pub none-permitted : r .count ≡ 0 → m ≡ permittedRun r f m
+  none-permitted h =
+      let d : r .first ≡ r .first + r .count = omega arith in
+      permitted-is (r .first) (r .first) f (m .read) (m .write) (m .kernel) (m .user) (m .read) (m .write) (m .kernel) (m .user) (run-none 8 _ _ _) (run-none 8 _ _ _) (run-none 8 _ _ _) (run-none 8 _ _ _)
+      ∙ ap (λ (k : ℕ). permitted (r .first) k f m) d
 
-  pub run-full : (last : ℕ) (n : List ℕ) → last + 1 ≡ first + count → n ≡ written 8 (between first (last + 1)) s m → n ≡ written 8 (between first (first + count)) s m
-  run-full last n d e = e ∙ ap (λ (k : ℕ). written 8 (between first k) s m) d
-
-pub permits : (r : PageRun) (f : HvMapGpaFlags) (m : Permissions) (a b c d : List ℕ) → a ≡ written 8 (between (r .first) (r .first + r .count)) (f .readable) (m .read)
-    → b ≡ written 8 (between (r .first) (r .first + r .count)) (f .writable) (m .write) → c ≡ written 8 (between (r .first) (r .first + r .count)) (f .«kernel_executable») (m .kernel)
-    → d ≡ written 8 (between (r .first) (r .first + r .count)) (f .«user_executable») (m .user) → perms a b c d ≡ permittedRun r f m
-permits r f m a b c d e1 e2 e3 e4 = rw (e1, e2, e3, e4) refl
+  pub run-permitted : (last : ℕ) (u : Permissions) → last + 1 ≡ r .first + r .count → u ≡ permitted (r .first) (last + 1) f m → u ≡ permittedRun r f m
+  run-permitted last u d e = e ∙ ap (λ (k : ℕ). permitted (r .first) k f m) d
 
 -- ---- an entry of the overlays of a VTL
 

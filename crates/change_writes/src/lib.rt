@@ -2,8 +2,6 @@
 ghost use mathlib.Core.Path.{_≡_};
 ghost use Prim.Native.Nat.{_+_, _<_, _≤_, _^_};
 ghost use lib.ListN.{length};
-ghost use Rattle.laws.specs.Ranges.{between};
-ghost use Rattle.bitmap.specs.Pages.{written};
 ghost use Rattle.layout.specs.Layout.{entriesOf};
 ghost use Rattle.permissions.specs.Flags.{flagsOf};
 ghost use Rattle.mapping.specs.Maps.{perms};
@@ -29,19 +27,8 @@ use permissions::HvMapGpaFlags;
 use permissions::IsolationType;
 use protector_state::Reply;
 
-fn set_run(map: &mut [u8], run: PageRun, state: bool)
-    requires { ⌜ run .first + run .count ≤ 2 ^ 64 ⌝ }
-    ensures { λ _. ⌜ now (map .exit) ≡ written 8 (between (run .first) (run .first + run .count)) state (now (map .entry)) ⌝ }
-{
-    if run.count == 0 {
-        return;
-    }
-    let last = run.first + (run.count - 1);
-    request_pages::set_run(map, run.first, last, state);
-}
-
-// The permissions of a run of pages.
-pub fn permit(
+// The permissions of a run of pages, if it has any.
+pub fn update_run(
     read: &mut [u8],
     write: &mut [u8],
     kernel: &mut [u8],
@@ -52,10 +39,11 @@ pub fn permit(
     requires { ⌜ run .first + run .count ≤ 2 ^ 64 ⌝ }
     ensures { λ _. ⌜ perms (now (read .exit)) (now (write .exit)) (now (kernel .exit)) (now (user .exit)) ≡ permittedRun run flags (perms (now (read .entry)) (now (write .entry)) (now (kernel .entry)) (now (user .entry))) ⌝ }
 {
-    set_run(read, run, flags.readable);
-    set_run(write, run, flags.writable);
-    set_run(kernel, run, flags.kernel_executable);
-    set_run(user, run, flags.user_executable);
+    if run.count == 0 {
+        return;
+    }
+    let last = run.first + (run.count - 1);
+    mapping::update_permission_bitmaps(read, write, kernel, user, run.first, last, flags);
 }
 
 fn add_in(overlays: &mut [u64], q: Change)
@@ -117,7 +105,7 @@ fn enter(tables: &mut [u64], entry: Entry, q: Change)
 }
 
 // A step carried out: its permissions and its entry written, its stage and change kept.
-pub fn carry_out(
+pub fn apply_step(
     read: &mut [u8],
     write: &mut [u8],
     kernel: &mut [u8],
@@ -139,10 +127,10 @@ pub fn carry_out(
     let run = x.written;
     let entry = x.entry;
     let flags = HvMapGpaFlags::from_bits(change.flags);
-    permit(read, write, kernel, user, run, flags);
+    update_run(read, write, kernel, user, run, flags);
     protector_state::change::save(state, stage, change);
     enter(tables, entry, change);
-    protector_state::flatten(isolation, answer)
+    protector_state::to_reply(isolation, answer)
 }
 
 // The next piece of a default change, where that is what waits.
@@ -254,7 +242,7 @@ pub fn answer_done(
     let set = protector_state::settings(state);
     let isolation = set.isolation;
     let x = after_done(private, state, pages, tables);
-    carry_out(read, write, kernel, user, state, tables, isolation, x)
+    apply_step(read, write, kernel, user, state, tables, isolation, x)
 }
 
 // The operation asked for failed.
@@ -275,5 +263,5 @@ pub fn answer_failed(
     let set = protector_state::settings(state);
     let isolation = set.isolation;
     let x = after_failed(state);
-    carry_out(read, write, kernel, user, state, tables, isolation, x)
+    apply_step(read, write, kernel, user, state, tables, isolation, x)
 }

@@ -115,8 +115,8 @@ fn ram_before(ram: &[u64], from: u64, stop: u64) -> MemoryRange
     let mut i: u64 = 0;
     while i < n {
         let span = layout::span_at(ram, i);
-        let start = numbers::greatest(from, span.start);
-        let end = numbers::least(stop, span.end);
+        let start = numbers::max(from, span.start);
+        let end = numbers::min(stop, span.end);
         if start < end {
             return MemoryRange {
                 start: start,
@@ -210,18 +210,14 @@ fn alike_here(registered: &[u64], failed: &[u64], set: bool, chunk: u64, to: u64
 fn alike_past(set: bool, chunk: u64, to: u64) -> u64
     ensures { λ r. ⌜ r ≡ cond set chunk (max chunk to) ⌝ }
 {
-    if set {
-        chunk
-    } else {
-        numbers::greatest(chunk, to)
-    }
+    if set { chunk } else { numbers::max(chunk, to) }
 }
 
 // The first chunk from `from` to before `to` that is not alike. The search ends with the bitmaps.
 pub fn run_end(registered: &[u64], failed: &[u64], set: bool, from: u64, to: u64) -> u64
     ensures { λ r. ⌜ r ≡ firstNot (alike (now (registered .entry)) (now (failed .entry)) set) from to ⌝ }
 {
-    let len = numbers::greatest(registered.len() as u64, failed.len() as u64);
+    let len = numbers::max(registered.len() as u64, failed.len() as u64);
     let stop = stop_at(len, to);
     let mut c = from;
     while c < stop {

@@ -2,13 +2,14 @@
 use mathlib.Core.Bool.{Bool, true, false, not, cond}
 use mathlib.Core.List.{List}
 use mathlib.Core.Path.{_≡_, refl, ap, _∙_}
-use Prim.Native.Nat.{ℕ, zero, suc, _+_, _-_, _/_, _%_, _≤_, _<_}
+use Prim.Native.Nat.{ℕ, zero, suc, _+_, _-_, _*_, _/_, _%_, _≤_, _<_}
 use native.Mathlib.Omega.{arith}
 use lib.Dec.{ltb}
 use lib.ListN.{length, getD, List·getD-eq-default}
 use borrow.Author.Tests.{ltb-false}
+use Rattle.laws.specs.Bools.{digit}
 use Rattle.bitmap.specs.Pages.{bit, bitAt}
-use Rattle.default_change.specs.Pieces.{span, non, startOf, lenOf, is, wholeByte}
+use Rattle.default_change.specs.Pieces.{span, non, startOf, lenOf, is}
 use Rattle.default_change.proofs.Spans as laws
 
 up : (k : ℕ) → k < 8 → bit 255 k ≡ true
@@ -33,7 +34,7 @@ down (suc (suc (suc (suc (suc (suc zero)))))) h = refl
 down (suc (suc (suc (suc (suc (suc (suc zero))))))) h = refl
 down (suc (suc (suc (suc (suc (suc (suc (suc k)))))))) h = absurd (omega arith)
 
-whole-bit : (s : Bool) (m : List ℕ) (p q : ℕ) → p % 8 ≡ 0 → getD m (p / 8) 0 ≡ wholeByte s → p ≤ q → q < p + 8 → is s m q ≡ true
+whole-bit : (s : Bool) (m : List ℕ) (p q : ℕ) → p % 8 ≡ 0 → getD m (p / 8) 0 ≡ digit s * 255 → p ≤ q → q < p + 8 → is s m q ≡ true
 whole-bit true m p q e d h g =
     let x : q / 8 ≡ p / 8 = omega arith in
     ap (λ (i : ℕ). bit (getD m i 0) (q % 8)) x ∙ ap (λ (y : ℕ). bit y (q % 8)) d ∙ up (q % 8) (omega arith)
@@ -42,7 +43,7 @@ whole-bit false m p q e d h g =
     ap not (ap (λ (i : ℕ). bit (getD m i 0) (q % 8)) x ∙ ap (λ (y : ℕ). bit y (q % 8)) d ∙ down (q % 8) (omega arith))
 
 -- a whole byte passed at one step
-pub whole-span : (s : Bool) (m : List ℕ) (p : ℕ) → p % 8 ≡ 0 → getD m (p / 8) 0 ≡ wholeByte s → span (is s m) p 8 ≡ 8
+pub whole-span : (s : Bool) (m : List ℕ) (p : ℕ) → p % 8 ≡ 0 → getD m (p / 8) 0 ≡ digit s * 255 → span (is s m) p 8 ≡ 8
 whole-span s m p e d = laws.span-all (is s m) 8 p (λ q h g. whole-bit s m p q e d h g)
 
 pub no-span : (P : ℕ → Bool) (p : ℕ) → span P p 0 ≡ 0

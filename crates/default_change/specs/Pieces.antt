@@ -2,13 +2,13 @@
 -- at the target VTL's overlay pages.
 use mathlib.Core.Bool.{Bool, true, not, cond, _&&_}
 use mathlib.Core.List.{List, [], _∷_}
-use Prim.Native.Nat.{ℕ, zero, suc, _+_, _-_, _/_, max}
+use Prim.Native.Nat.{ℕ, zero, suc, _+_, _-_, max}
 use lib.Dec.{eqb, leb, ltb}
 use lib.ListN.{getD}
 use Rattle.abi.specs.Overlay as overlay
-use Rattle.abi.specs.Lengths.{pageSize}
 use Rattle.bitmap.specs.Pages.{bitAt}
 use Rattle.layout.specs.declared.MemoryRangeWithNode.{MemoryRangeWithNode}
+pub use Rattle.layout.specs.Layout.{pageUp}
 use Rattle.layout.specs.Layout.{isRam}
 use Rattle.page_list.specs.declared.PageRun.{PageRun}
 use Rattle.page_list.specs.Runs.{run}
@@ -36,10 +36,6 @@ abbrev pub pieceOf : (ℕ → Bool) → ℕ → ℕ → PageRun
 pieceOf P a end = run (startOf P a (end - a)) (lenOf P a (end - a))
 
 -- ---- of the entries of a layout
-
--- the first page of an entry, and the page after its last
-abbrev pub pageUp : ℕ → ℕ
-pageUp b = (b + 4095) / pageSize
 
 -- of an entry, the first stretch from page `at` on
 abbrev pub pieceIn : (ℕ → Bool) → MemoryRangeWithNode → ℕ → PageRun
@@ -70,10 +66,6 @@ privateRam private es p = isRam es p && bitAt 8 private p
 -- page p of a map has the state s
 abbrev pub is : Bool → List ℕ → ℕ → Bool
 is s map p = cond s (bitAt 8 map p) (not (bitAt 8 map p))
-
--- the byte whose pages all have the state s
-abbrev pub wholeByte : Bool → ℕ
-wholeByte s = cond s 255 0
 
 -- the pages of k overlay entries from place o on, in table order
 unfoldable pub pagesFrom : List ℕ → ℕ → ℕ → List ℕ

@@ -7,13 +7,9 @@ ghost use lib.ListN.{length, getD};
 ghost use Rattle.bitmap.specs.Pages.{bitAt};
 ghost use Rattle.layout.specs.Layout.{entriesOf};
 ghost use Rattle.page_list.specs.Runs.{part};
-ghost use Rattle.lock_table.specs.Locks.{nextAt};
-ghost use Rattle.overlay_table.specs.Overlays.{used};
-ghost use Rattle.default_change.specs.Pieces.{span, startOf, lenOf, pieceOf, pageUp, nextPiece, free, wanted, privateRam, is, wholeByte, overlayPages, outside, stopAt};
+ghost use Rattle.default_change.specs.Pieces.{span, startOf, lenOf, pieceOf, nextPiece, free, wanted, privateRam, is, overlayPages, outside, stopAt};
 ghost use Rattle.default_change.specs.Barred.{barring, anyOf, barred};
 ghost use Rattle.default_change.specs.Renewed.{renewedAt, renewed};
-use abi::PAGE_SIZE;
-use abi::limit;
 use abi::overlay;
 use page_list::PageRun;
 
@@ -24,17 +20,11 @@ fn is_outside(first: u64, count: u64, p: u64) -> bool
     if p < first { true } else { count <= p - first }
 }
 
-fn overlay_count(overlays: &[u64]) -> u64
-    ensures { λ r. ⌜ r ≡ used (now (overlays .entry)) ⌝ }
-{
-    numbers::least(limit::OVERLAYS, numbers::word_at(overlays, 0))
-}
-
 // How many overlay entries come before the first whose page is inside a run.
 fn find_inside(overlays: &[u64], first: u64, count: u64) -> u64
     ensures { λ r. ⌜ r ≡ stopAt (outside first count) (overlayPages (now (overlays .entry))) ⌝ }
 {
-    let n = overlay_count(overlays);
+    let n = overlay_table::entry_count(overlays);
     let mut i: u64 = 0;
     while i < n {
         let p = numbers::word_at(overlays, 1 + overlay::WORDS * i);
@@ -53,7 +43,7 @@ fn first_piece(overlays: &[u64], first: u64, count: u64) -> PageRun
     ensures { λ r. ⌜ (r .first ≡ startOf (free (now (overlays .entry))) first count) × (r .count ≡ lenOf (free (now (overlays .entry))) first count) ⌝ }
 {
     let i = find_inside(overlays, first, count);
-    if overlay_count(overlays) <= i {
+    if overlay_table::entry_count(overlays) <= i {
         return PageRun {
             first: first,
             count: count,
@@ -73,13 +63,6 @@ fn byte_at(map: &[u8], i: u64) -> u8
 {
     let k = i as usize;
     if k < map.len() { map[k] } else { 0 }
-}
-
-// The byte whose pages all have the state.
-fn whole_byte(state: bool) -> u8
-    ensures { λ r. ⌜ r ≡ wholeByte state ⌝ }
-{
-    if state { 0xFF } else { 0 }
 }
 
 fn is_state(map: &[u8], state: bool, p: u64) -> bool
@@ -102,7 +85,7 @@ fn is_whole(map: &[u8], state: bool, p: u64, end: u64) -> bool
     if end - p < 8 {
         return false;
     }
-    byte_at(map, p / 8) == whole_byte(state)
+    byte_at(map, p / 8) == bitmap::full(state)
 }
 
 // How many pages are passed where the eight of a byte have the state: these, or all that are left where the byte is past the map.
@@ -175,17 +158,6 @@ fn piece_between(private: &[u8], overlays: &[u64], from: u64, end: u64) -> PageR
     }
 }
 
-// The first page that starts at an address or after it.
-fn page_up(address: u64) -> u64
-    ensures { λ r. ⌜ r ≡ pageUp address ⌝ }
-{
-    if address % PAGE_SIZE == 0 {
-        address / PAGE_SIZE
-    } else {
-        address / PAGE_SIZE + 1
-    }
-}
-
 // The next piece from page `at` on, entry after entry: an empty one where none is left.
 pub fn next_piece(private: &[u8], overlays: &[u64], ram: &[u64], at: u64) -> PageRun
     ensures { λ r. ⌜ r ≡ nextPiece (now (private .entry)) (now (overlays .entry)) (entriesOf (now (ram .entry))) at ⌝ }
@@ -195,8 +167,8 @@ pub fn next_piece(private: &[u8], overlays: &[u64], ram: &[u64], at: u64) -> Pag
     let mut i: u64 = 0;
     while i < n {
         let e = layout::entry_at(ram, i);
-        let from = numbers::greatest(page_up(e.start), at);
-        let piece = piece_between(private, overlays, from, page_up(e.end));
+        let from = numbers::max(layout::page_up(e.start), at);
+        let piece = piece_between(private, overlays, from, layout::page_up(e.end));
         if piece.count != 0 {
             return piece;
         }
@@ -235,7 +207,7 @@ fn is_any_barring(
 ) -> bool
     ensures { λ r. ⌜ r ≡ anyOf (barring (now (private .entry)) (now (overlays .entry)) (entriesOf (now (ram .entry)))) (part (now (locks .entry)) to from) ⌝ }
 {
-    let end = numbers::least(to, locks.len() as u64);
+    let end = numbers::min(to, locks.len() as u64);
     let mut i = from;
     while i < end {
         let p = numbers::word_at(locks, i);
@@ -247,23 +219,14 @@ fn is_any_barring(
     false
 }
 
-// The place after the locked list that starts at a place.
-fn list_end(locks: &[u64], place: u64) -> u64
-    ensures { λ r. ⌜ r ≡ nextAt (now (locks .entry)) place ⌝ }
-{
-    let n = numbers::word_at(locks, place);
-    let first = words::place_after(locks, place, 1);
-    words::place_after(locks, first, n)
-}
-
 // Whether a locked page bars a default change.
-pub fn is_barred(private: &[u8], overlays: &[u64], locks: &[u64], ram: &[u64]) -> bool
+pub fn has_locked_page(private: &[u8], overlays: &[u64], locks: &[u64], ram: &[u64]) -> bool
     ensures { λ r. ⌜ r ≡ barred (now (private .entry)) (now (overlays .entry)) (now (locks .entry)) (entriesOf (now (ram .entry))) ⌝ }
 {
-    let mut left = numbers::least(limit::LOCKED_LISTS, numbers::word_at(locks, 0));
+    let mut left = lock_table::list_count(locks);
     let mut place: u64 = 1;
     while 0 < left {
-        let end = list_end(locks, place);
+        let end = lock_table::list_end(locks, place);
         if is_any_barring(private, overlays, locks, ram, place + 1, end) {
             return true;
         }
@@ -274,7 +237,7 @@ pub fn is_barred(private: &[u8], overlays: &[u64], locks: &[u64], ram: &[u64]) -
 }
 
 // The entry at a place: its previous permissions are new where its page is private RAM.
-fn renew_at(overlays: &mut [u64], private: &[u8], ram: &[u64], place: u64, bits: u64)
+fn update_previous_at(overlays: &mut [u64], private: &[u8], ram: &[u64], place: u64, bits: u64)
     ensures { λ _. ⌜ now (overlays .exit) ≡ renewedAt (now (private .entry)) (entriesOf (now (ram .entry))) bits (now (overlays .entry)) place ⌝ }
 {
     let p = numbers::word_at(overlays, place);
@@ -284,13 +247,13 @@ fn renew_at(overlays: &mut [u64], private: &[u8], ram: &[u64], place: u64, bits:
 }
 
 // All entries.
-pub fn renew(overlays: &mut [u64], private: &[u8], ram: &[u64], bits: u64)
+pub fn update_previous_permissions(overlays: &mut [u64], private: &[u8], ram: &[u64], bits: u64)
     ensures { λ _. ⌜ now (overlays .exit) ≡ renewed (now (private .entry)) (entriesOf (now (ram .entry))) bits (now (overlays .entry)) ⌝ }
 {
-    let mut left = overlay_count(overlays);
+    let mut left = overlay_table::entry_count(overlays);
     let mut place: u64 = 1;
     while 0 < left {
-        renew_at(overlays, private, ram, place, bits);
+        update_previous_at(overlays, private, ram, place, bits);
         place += overlay::WORDS;
         left -= 1;
     }

@@ -109,3 +109,7 @@ spanAt es i =
     cond (ltb i (length es))
     (record { start = entryAt es i .start; end = reach (entryAt es i .end) (drop (i + 1) es); next = i + 1 + touching (entryAt es i .end) (drop (i + 1) es) })
     (record { start = 0; end = 0; next = i })
+
+-- the first page that begins at an address or after it
+abbrev pub pageUp : ℕ → ℕ
+pageUp a = (a + 4095) / pageSize

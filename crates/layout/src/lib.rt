@@ -4,7 +4,7 @@ ghost use lib.ListN.{length};
 ghost use Rattle.abi.specs.Refusals as refusal;
 ghost use Rattle.laws.specs.Ranges.{between};
 ghost use Rattle.laws.specs.Refusal.{unless};
-ghost use Rattle.layout.specs.Layout.{entriesOf, entryAt, isRam, placeOf, follows, ordered, onBytes, aligned, refusalOf, lastEnd, mapLen, spanAt};
+ghost use Rattle.layout.specs.Layout.{entriesOf, entryAt, isRam, placeOf, follows, ordered, onBytes, aligned, refusalOf, lastEnd, mapLen, spanAt, pageUp};
 use abi::PAGE_SIZE;
 use abi::RAM_ALIGNMENT;
 use abi::RAM_ENTRY_WORDS;
@@ -27,6 +27,17 @@ pub struct Span {
     pub start: u64,
     pub end: u64,
     pub next: u64,
+}
+
+// The first page that begins at an address or after it.
+pub fn page_up(address: u64) -> u64
+    ensures { λ r. ⌜ r ≡ pageUp address ⌝ }
+{
+    if address % PAGE_SIZE == 0 {
+        address / PAGE_SIZE
+    } else {
+        address / PAGE_SIZE + 1
+    }
 }
 
 pub fn entry_count(ram: &[u64]) -> u64

@@ -13,14 +13,15 @@ ghost use Rattle.lock_table.specs.Locks.{held, total, same, used, nextAt
 use abi::limit;
 use abi::refusal;
 
-fn count(t: &[u64]) -> u64
+// How many lists are in use.
+pub fn list_count(t: &[u64]) -> u64
     ensures { λ r. ⌜ r ≡ used (now (t .entry)) ⌝ }
 {
-    numbers::least(limit::LOCKED_LISTS, numbers::word_at(t, 0))
+    numbers::min(limit::LOCKED_LISTS, numbers::word_at(t, 0))
 }
 
 // The place after the list that starts at a place.
-fn next(t: &[u64], place: u64) -> u64
+pub fn list_end(t: &[u64], place: u64) -> u64
     ensures { λ r. ⌜ r ≡ nextAt (now (t .entry)) place ⌝ }
 {
     let end = t.len() as u64;
@@ -42,7 +43,7 @@ fn end_of(t: &[u64], n: u64, from: u64) -> u64
     let mut left = n;
     let mut place = from;
     while 0 < left {
-        place = next(t, place);
+        place = list_end(t, place);
         left -= 1;
     }
     place
@@ -52,7 +53,7 @@ fn end_of(t: &[u64], n: u64, from: u64) -> u64
 fn is_among(t: &[u64], from: u64, to: u64, gpn: u64) -> bool
     ensures { λ r. ⌜ r ≡ among (part (now (t .entry)) to from) gpn ⌝ }
 {
-    let end = numbers::least(to, t.len() as u64);
+    let end = numbers::min(to, t.len() as u64);
     let mut i = from;
     while i < end {
         let p = numbers::word_at(t, i);
@@ -68,10 +69,10 @@ fn is_among(t: &[u64], from: u64, to: u64, gpn: u64) -> bool
 pub fn holds(t: &[u64], gpn: u64) -> bool
     ensures { λ r. ⌜ r ≡ held (listsOf (now (t .entry))) gpn ⌝ }
 {
-    let mut left = count(t);
+    let mut left = list_count(t);
     let mut place: u64 = 1;
     while 0 < left {
-        let end = next(t, place);
+        let end = list_end(t, place);
         if is_among(t, place + 1, end, gpn) {
             return true;
         }
@@ -85,7 +86,7 @@ pub fn holds(t: &[u64], gpn: u64) -> bool
 fn pages_between(place: u64, end: u64) -> u64
     ensures { λ r. ⌜ r ≡ end - (place + 1) ⌝ }
 {
-    numbers::minus(numbers::minus(end, place), 1)
+    numbers::saturating_sub(numbers::saturating_sub(end, place), 1)
 }
 
 // The place after some lists, and how many pages they have.
@@ -102,7 +103,7 @@ fn extent_of(t: &[u64], n: u64) -> Extent
     let mut place: u64 = 1;
     let mut sum: u64 = 0;
     while 0 < left {
-        let end = next(t, place);
+        let end = list_end(t, place);
         sum += pages_between(place, end);
         place = end;
         left -= 1;
@@ -144,7 +145,7 @@ pub fn lock(t: &mut [u64], list: &[u8]) -> u64
     ensures { λ r. ⌜ (r ≡ lockCode (now (t .entry)) (pagesOf (now (list .entry)))) × (now (t .exit) ≡ lockWords (now (t .entry)) (pagesOf (now (list .entry)))) ⌝ }
 {
     let n = page_list::page_count(list);
-    let c = count(t);
+    let c = list_count(t);
     let taken = extent_of(t, c);
     if !has_room(c, taken.total, n) {
         return refusal::FULL;
@@ -190,7 +191,7 @@ fn find(t: &[u64], n: u64, list: &[u8]) -> Found
     let mut left = n;
     let mut place: u64 = 1;
     while 0 < left {
-        let end = next(t, place);
+        let end = list_end(t, place);
         if is_same(t, place, end, list) {
             return Found {
                 place: place,
@@ -211,7 +212,7 @@ fn bring_last(t: &mut [u64], end: u64, last: u64, to: u64)
     ensures { λ _. ⌜ now (t .exit) ≡ swapped (now (t .entry)) end (max end last - end) (to - max end last) ⌝ }
 {
     if end < last {
-        words::swap_runs(t, end, last - end, numbers::minus(to, last));
+        words::swap_runs(t, end, last - end, numbers::saturating_sub(to, last));
     }
 }
 
@@ -219,18 +220,18 @@ fn bring_last(t: &mut [u64], end: u64, last: u64, to: u64)
 pub fn unlock(t: &mut [u64], list: &[u8]) -> u64
     ensures { λ r. ⌜ (r ≡ unlockCode (now (t .entry)) (pagesOf (now (list .entry)))) × (now (t .exit) ≡ unlockWords (now (t .entry)) (pagesOf (now (list .entry)))) ⌝ }
 {
-    let c = count(t);
+    let c = list_count(t);
     let found = find(t, c, list);
     let place = found.place;
     if place == 0 {
         return refusal::NOT_LOCKED;
     }
-    let less = numbers::minus(c, 1);
-    let end = next(t, place);
+    let less = numbers::saturating_sub(c, 1);
+    let end = list_end(t, place);
     let last = end_of(t, found.behind, place);
-    let to = next(t, last);
+    let to = list_end(t, last);
     bring_last(t, end, last, to);
-    words::close_gap(t, place, numbers::minus(end, place), to);
+    words::remove_words(t, place, numbers::saturating_sub(end, place), to);
     words::put(t, 0, less);
     0
 }

@@ -2,13 +2,11 @@
 // tracked), as built from the layout, as updated, and as they stand.
 ghost use mathlib.Core.Bool.{true};
 ghost use mathlib.Core.Path.{_≡_};
-ghost use Prim.Native.Nat.{_+_, _/_};
+ghost use Prim.Native.Nat.{_+_, _≤_};
 ghost use lib.ListN.{length, replicate};
-ghost use Rattle.abi.specs.Lengths.{pageSize};
 ghost use Rattle.bitmap.specs.Pages.{written};
 ghost use Rattle.layout.specs.Layout.{entriesOf, isRam};
 ghost use Rattle.mapping.specs.Maps.{perms, maps, fresh, built, permissionLen, marksFit, permissionsFit, mapsFit, flagsAt, permitted};
-use abi::PAGE_SIZE;
 use permissions::HvMapGpaFlags;
 
 // The lengths of the six maps in bytes.
@@ -72,17 +70,6 @@ fn clear(map: &mut [u8])
     bitmap::fill_bytes(map, 0, len, false);
 }
 
-// The first page that begins at `address` or after it.
-fn page_up(address: u64) -> u64
-    ensures { λ r. ⌜ r ≡ (address + 4095) / pageSize ⌝ }
-{
-    if address % PAGE_SIZE == 0 {
-        address / PAGE_SIZE
-    } else {
-        address / PAGE_SIZE + 1
-    }
-}
-
 // Every RAM page set.
 fn set_ram(map: &mut [u8], ram: &[u64])
     ensures { λ _. ⌜ now (map .exit) ≡ written 8 (isRam (entriesOf (now (ram .entry)))) true (now (map .entry)) ⌝ }
@@ -91,7 +78,7 @@ fn set_ram(map: &mut [u8], ram: &[u64])
     let mut i: u64 = 0;
     while i < n {
         let e = layout::entry_at(ram, i);
-        bitmap::update(map, page_up(e.start), page_up(e.end), true);
+        bitmap::update(map, layout::page_up(e.start), layout::page_up(e.end), true);
         i += 1;
     }
 }
@@ -126,22 +113,23 @@ pub fn build(
     init(user, ram, true);
 }
 
-// The permissions of the pages from `from` to before `to`.
+// The permissions of the pages from `first` to `last`, with it.
 pub fn update_permission_bitmaps(
     read: &mut [u8],
     write: &mut [u8],
     kernel: &mut [u8],
     user: &mut [u8],
-    from: u64,
-    to: u64,
+    first: u64,
+    last: u64,
     flags: HvMapGpaFlags,
 )
-    ensures { λ _. ⌜ perms (now (read .exit)) (now (write .exit)) (now (kernel .exit)) (now (user .exit)) ≡ permitted from to flags (perms (now (read .entry)) (now (write .entry)) (now (kernel .entry)) (now (user .entry))) ⌝ }
+    requires { ⌜ first ≤ last ⌝ }
+    ensures { λ _. ⌜ perms (now (read .exit)) (now (write .exit)) (now (kernel .exit)) (now (user .exit)) ≡ permitted first (last + 1) flags (perms (now (read .entry)) (now (write .entry)) (now (kernel .entry)) (now (user .entry))) ⌝ }
 {
-    bitmap::update(read, from, to, flags.readable);
-    bitmap::update(write, from, to, flags.writable);
-    bitmap::update(kernel, from, to, flags.kernel_executable);
-    bitmap::update(user, from, to, flags.user_executable);
+    bitmap::set_run(read, first, last, flags.readable);
+    bitmap::set_run(write, first, last, flags.writable);
+    bitmap::set_run(kernel, first, last, flags.kernel_executable);
+    bitmap::set_run(user, first, last, flags.user_executable);
 }
 
 // What the permission maps hold of a page.

@@ -56,7 +56,7 @@ pub extern "C" fn protector_is_overlay_page(
     }
     let v = permissions::vtl_of(vtl);
     let known = overlay_table::is_overlay(call_refusals::overlays_of(tables, v), gpn);
-    protector_state::ok_value(permissions::digit_of(known))
+    protector_state::ok_value(permissions::bool_to_u64(known))
 }
 
 // An overlay page has one registration fewer. The last one asks for a Protect with the flags that the page had, then for Wait,
@@ -102,7 +102,7 @@ pub extern "C" fn protector_unregister_overlay_page(
     let set = protector_state::settings(state);
     let isolation = set.isolation;
     let x = change_steps::start_old(set.tracked, v, gpn, e.previous_permissions, e.gpn_source);
-    change_writes::carry_out(read, write, kernel, user, state, tables, isolation, x)
+    change_writes::apply_step(read, write, kernel, user, state, tables, isolation, x)
 }
 
 // An overlay page has one registration more. The first one asks for a Protect if new flags are given, then for Wait, Flush and
@@ -164,5 +164,5 @@ pub extern "C" fn protector_register_overlay_page(
     let isolation = set.isolation;
     let bits = current.into_bits();
     let x = change_steps::start_new(set.tracked, v, gpn, source, bits, new);
-    change_writes::carry_out(read, write, kernel, user, state, tables, isolation, x)
+    change_writes::apply_step(read, write, kernel, user, state, tables, isolation, x)
 }

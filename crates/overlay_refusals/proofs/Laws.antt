@@ -2,7 +2,7 @@
 use mathlib.Core.Path.{_≡_, refl, sym, ap, ap₂, subst, _∙_}
 use mathlib.Core.Bool.{Bool, true, false, not, cond}
 use mathlib.Core.List.{List}
-use Prim.Native.Nat.{ℕ, _-_, _≤_, _<_, min}
+use Prim.Native.Nat.{ℕ, _-_, _≤_, _<_}
 use lib.Dec.{eqb, ltb}
 use lib.ListN.{length, getD}
 use borrow.Author.Tests.{eq-eqb, ne-eqb, lt-ltb, le-ltb}
@@ -14,7 +14,7 @@ use Rattle.permissions.specs.declared.HvMapGpaFlags.{HvMapGpaFlags}
 use Rattle.permissions.specs.Flags.{fitVtl, fitFlags, flagsOf, noFlags, fitBool, boolOf}
 use Rattle.mapping.specs.Maps.{Permissions}
 use Rattle.overlay_table.specs.declared.OverlayPage.{OverlayPage}
-use Rattle.overlay_table.specs.Overlays.{placeOf, entryAt, addCode}
+use Rattle.overlay_table.specs.Overlays.{used, placeOf, entryAt, addCode}
 use Rattle.access.specs.Query.{lowerFlags}
 use Rattle.protector_state.specs.State.{stateLen, settingsOf, ramOf, entriesIn}
 use Rattle.call_refusals.specs.World.{overlaysOf, locksOf, statusIn}
@@ -86,12 +86,12 @@ module _ (e : OverlayPage) (checked new k : ℕ) (own needed : HvMapGpaFlags) (b
   unfolding knownRefusal
   known-full h q = passes _ _ _ _ (sym narrow ∙ h) (refuses _ _ _ (le-ltb _ _ q))
 
-module _ (t : List ℕ) (k n : ℕ) (e : k ≡ getD t 0 0) (q : n ≡ min 128 k) where
+module _ (t : List ℕ) (n : ℕ) (e : n ≡ used t) where
   pub add-room : n < 128 → 0 ≡ addCode t
-  add-room h = sym (ap (λ (b : Bool). cond b 0 17) (lt-ltb _ _ (subst (λ (x : ℕ). x < 128) (q ∙ ap (min 128) e) h)))
+  add-room h = sym (ap (λ (b : Bool). cond b 0 17) (lt-ltb _ _ (subst (λ (x : ℕ). x < 128) e h)))
 
   pub add-full : 128 ≤ n → 17 ≡ addCode t
-  add-full h = sym (ap (λ (b : Bool). cond b 0 17) (le-ltb _ _ (subst (λ (x : ℕ). 128 ≤ x) (q ∙ ap (min 128) e) h)))
+  add-full h = sym (ap (λ (b : Bool). cond b 0 17) (le-ltb _ _ (subst (λ (x : ℕ). 128 ≤ x) e h)))
 
 module _ (es : List MemoryRangeWithNode) (shared o locks : List ℕ) (p source : ℕ) (current : HvMapGpaFlags) (checked new place : ℕ) (q : place ≡ placeOf o p) (r : ℕ) where
   pub page-known : (e : OverlayPage) → (place ≡ 0 → ⊥) → e ≡ entryAt o place → r ≡ knownRefusal e checked new → r ≡ pageRefusal es shared o locks p source current checked new

@@ -136,8 +136,7 @@ fn known_refusal(e: OverlayPage, checked: u64, new: u64) -> u64
 fn add_code(overlays: &[u64]) -> u64
     ensures { λ r. ⌜ r ≡ addCode (now (overlays .entry)) ⌝ }
 {
-    let used = numbers::least(limit::OVERLAYS, numbers::word_at(overlays, 0));
-    if used < limit::OVERLAYS {
+    if overlay_table::entry_count(overlays) < limit::OVERLAYS {
         0
     } else {
         refusal::FULL

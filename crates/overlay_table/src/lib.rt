@@ -47,10 +47,11 @@ pub fn find_loaded(entries: [OverlayPage; limit::OVERLAYS as usize], used: usize
     find_in(&entries, used, gpn)
 }
 
-fn entry_count(t: &[u64]) -> u64
+// How many entries are in use.
+pub fn entry_count(t: &[u64]) -> u64
     ensures { λ r. ⌜ r ≡ used (now (t .entry)) ⌝ }
 {
-    numbers::least(limit::OVERLAYS, numbers::word_at(t, 0))
+    numbers::min(limit::OVERLAYS, numbers::word_at(t, 0))
 }
 
 // Where the first entry of a page stands: 0 where there is none.
@@ -128,6 +129,6 @@ pub fn remove(t: &mut [u64], place: u64)
     ensures { λ _. ⌜ now (t .exit) ≡ removeWords (now (t .entry)) place ⌝ }
 {
     let n = entry_count(t);
-    words::close_gap(t, place, overlay::WORDS, 1 + overlay::WORDS * n);
-    words::put(t, 0, numbers::minus(n, 1));
+    words::remove_words(t, place, overlay::WORDS, 1 + overlay::WORDS * n);
+    words::put(t, 0, numbers::saturating_sub(n, 1));
 }

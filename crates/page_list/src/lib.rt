@@ -152,7 +152,7 @@ pub fn run_at(t: &[u64], n: u64, from: u64) -> PageRun
         return PageRun { first: 0, count: 0 };
     }
     let first = numbers::word_at(t, from);
-    let stop = numbers::least(n, t.len() as u64);
+    let stop = numbers::min(n, t.len() as u64);
     let mut p = first;
     let mut i = from + 1;
     while i < stop {

@@ -22,6 +22,10 @@ abbrev pub vtlNumber : GuestVtl → ℕ
 vtlNumber Vtl0 = 0
 vtlNumber Vtl1 = 1
 
+abbrev pub isVtl0 : GuestVtl → Bool
+isVtl0 Vtl0 = true
+isVtl0 Vtl1 = false
+
 -- SNP 2, TDX 3, CCA 4: the numbers of the hypervisor's partition isolation types
 abbrev pub fitIsolation : ℕ → Bool
 fitIsolation n = leb 2 n && ltb n 5

@@ -2,7 +2,7 @@
 ghost use mathlib.Core.Path.{_≡_};
 ghost use Prim.Native.Nat.{_≤_};
 ghost use Rattle.laws.specs.Bools.{digit};
-ghost use Rattle.permissions.specs.Flags.{fitVtl, vtlOf, vtlNumber, fitIsolation, isolationOf, fitFlags, flagsOf, bitsOf, noFlags, allFlags};
+ghost use Rattle.permissions.specs.Flags.{fitVtl, vtlOf, vtlNumber, isVtl0, fitIsolation, isolationOf, fitFlags, flagsOf, bitsOf, noFlags, allFlags};
 ghost use Rattle.permissions.specs.Defaults.{firstDefaults, withDefault};
 ghost use Rattle.permissions.specs.Rmpadjust.{operandOf};
 ghost use Rattle.permissions.specs.HvError.{codeOf};
@@ -87,6 +87,15 @@ pub fn isolation_of(n: u64) -> IsolationType
 }
 
 // Whether a number is a sum of flags, and which flags.
+pub fn is_vtl0(vtl: GuestVtl) -> bool
+    ensures { λ r. ⌜ r ≡ isVtl0 vtl ⌝ }
+{
+    match vtl {
+        GuestVtl::Vtl0 => true,
+        GuestVtl::Vtl1 => false,
+    }
+}
+
 pub fn is_flags(n: u64) -> bool
     ensures { λ r. ⌜ r ≡ fitFlags n ⌝ }
 {
@@ -108,10 +117,10 @@ impl HvMapGpaFlags {
     pub fn into_bits(self) -> u64
         ensures { λ r. ⌜ r ≡ bitsOf self ⌝ }
     {
-        digit_of(self.readable)
-            + 2 * digit_of(self.writable)
-            + 4 * digit_of(self.kernel_executable)
-            + 8 * digit_of(self.user_executable)
+        bool_to_u64(self.readable)
+            + 2 * bool_to_u64(self.writable)
+            + 4 * bool_to_u64(self.kernel_executable)
+            + 8 * bool_to_u64(self.user_executable)
     }
 
     pub fn none() -> Self
@@ -137,7 +146,7 @@ impl HvMapGpaFlags {
     }
 }
 
-pub fn digit_of(b: bool) -> u64
+pub fn bool_to_u64(b: bool) -> u64
     ensures { λ r. ⌜ r ≡ digit b ⌝ }
     ensures { λ r. ⌜ r ≤ 1 ⌝ }
 {

@@ -49,11 +49,11 @@ fn store_default(state: &mut [u64], vtl: GuestVtl, flags: u64)
 }
 
 // Whether a locked page of a VTL bars a change of its default.
-fn is_barred(private: &[u8], state: &[u64], tables: &[u64], vtl: GuestVtl) -> bool
+fn has_locked_page(private: &[u8], state: &[u64], tables: &[u64], vtl: GuestVtl) -> bool
     requires { ⌜ (length (now state) ≡ stateLen) × (length (now tables) ≡ tablesLen) ⌝ }
     ensures { λ r. ⌜ r ≡ barred (now (private .entry)) (now (state .entry)) (now (tables .entry)) vtl ⌝ }
 {
-    default_change::is_barred(
+    default_change::has_locked_page(
         private,
         call_refusals::overlays_of(tables, vtl),
         call_refusals::locks_of(tables, vtl),
@@ -62,19 +62,25 @@ fn is_barred(private: &[u8], state: &[u64], tables: &[u64], vtl: GuestVtl) -> bo
 }
 
 // The previous permissions of a VTL's overlays on private RAM pages.
-fn renew(tables: &mut [u64], private: &[u8], state: &[u64], vtl: GuestVtl, flags: u64)
+fn update_previous_permissions(
+    tables: &mut [u64],
+    private: &[u8],
+    state: &[u64],
+    vtl: GuestVtl,
+    flags: u64,
+)
     requires { ⌜ (length (now state) ≡ stateLen) × (length (now tables) ≡ tablesLen) ⌝ }
     ensures { λ _. ⌜ now (tables .exit) ≡ renewedTables (now (private .entry)) (now (state .entry)) (now (tables .entry)) vtl flags ⌝ }
 {
     let ram = protector_state::ram_of(state);
     match vtl {
-        GuestVtl::Vtl0 => default_change::renew(
+        GuestVtl::Vtl0 => default_change::update_previous_permissions(
             &mut tables[table::OVERLAYS0..table::OVERLAYS1],
             private,
             ram,
             flags,
         ),
-        GuestVtl::Vtl1 => default_change::renew(
+        GuestVtl::Vtl1 => default_change::update_previous_permissions(
             &mut tables[table::OVERLAYS1..table::LOCKS0],
             private,
             ram,
@@ -113,7 +119,7 @@ fn default_step(
 }
 
 // A step that enters no overlay carried out.
-fn carry_out(
+fn apply_step(
     read: &mut [u8],
     write: &mut [u8],
     kernel: &mut [u8],
@@ -132,9 +138,9 @@ fn carry_out(
     let answer = x.answer;
     let run = x.written;
     let flags = HvMapGpaFlags::from_bits(change.flags);
-    change_writes::permit(read, write, kernel, user, run, flags);
+    change_writes::update_run(read, write, kernel, user, run, flags);
     protector_state::change::save(state, stage, change);
-    protector_state::flatten(isolation, answer)
+    protector_state::to_reply(isolation, answer)
 }
 
 // A VTL has another default, to which its overlays on private RAM will return: asks for a Protect of each run of private RAM
@@ -173,12 +179,12 @@ pub extern "C" fn protector_change_default_vtl_protections(
     }
     let v = permissions::vtl_of(vtl);
     store_default(state, v, flags);
-    if is_barred(private, state, tables, v) {
+    if has_locked_page(private, state, tables, v) {
         return protector_state::refused(refusal::LOCKED);
     }
-    renew(tables, private, state, v, flags);
+    update_previous_permissions(tables, private, state, v, flags);
     let x = default_step(private, state, tables, v, flags);
-    carry_out(read, write, kernel, user, state, x)
+    apply_step(read, write, kernel, user, state, x)
 }
 
 // Whether a page of a list is shared.
@@ -293,5 +299,5 @@ pub extern "C" fn protector_change_vtl_protections(
     let count = page_list::page_count(list);
     request_pages::store_all(pages, list);
     let x = protection_step(state, pages, v, flags, count);
-    carry_out(read, write, kernel, user, state, x)
+    apply_step(read, write, kernel, user, state, x)
 }

@@ -7,13 +7,13 @@ use Prim.Native.Nat.{ℕ, _≤_}
 use borrow.Author.Tests.{leb-true}
 use Rattle.laws.specs.Bools.{and-left, and-right, false≢true}
 use Rattle.laws.specs.Refusal.{refused, answered}
-use Rattle.mapping.specs.Maps.{Permissions, Maps, perms, maps}
+use Rattle.mapping.specs.Maps.{Permissions, Maps, maps}
 use Rattle.permissions.specs.declared.HvMapGpaFlags.{HvMapGpaFlags}
 use Rattle.permissions.specs.Flags.{noFlags}
 use Rattle.permissions.specs.HvError.{codeOf}
 use Rattle.page_list.specs.declared.PageRun.{PageRun}
 use Rattle.page_list.specs.Runs.{runAt}
-use Rattle.request_pages.specs.Request.{runEnd, put}
+use Rattle.request_pages.specs.Request.{runEnd, put, putFlags}
 use Rattle.visibility_steps.specs.declared.Settings.{Settings}
 use Rattle.visibility_steps.specs.declared.Phase.{Phase}
 use Rattle.visibility_steps.specs.declared.Phase.the-variants as at
@@ -42,12 +42,11 @@ module _ (w : World) (n x : ℕ) (e : n ≡ x) (taken : Outcome) where
 
 -- ---- what a step writes
 
-pub applies : (t : List ℕ) (w : Writes) (m : Maps) (p s r x k u : List ℕ) → p ≡ putPlaces t (w .private) (w .state) (m .private) → s ≡ putPlaces t (w .shared) (w .state) (m .shared)
-    → r ≡ putPlaces t (w .permissions) (w .flags .readable) (m .permissions .read) → x ≡ putPlaces t (w .permissions) (w .flags .writable) (m .permissions .write)
-    → k ≡ putPlaces t (w .permissions) (w .flags .«kernel_executable») (m .permissions .kernel) → u ≡ putPlaces t (w .permissions) (w .flags .«user_executable») (m .permissions .user)
-    → maps p s r x k u ≡ applied t w m
+pub applies : (t : List ℕ) (w : Writes) (m : Maps) (p s : List ℕ) (u : Permissions) → p ≡ putPlaces t (w .private) (w .state) (m .private)
+    → s ≡ putPlaces t (w .shared) (w .state) (m .shared) → u ≡ putPermissions t (w .permissions) (w .flags) (m .permissions)
+    → record { private = p; shared = s; permissions = u } ≡ applied t w m
 unfolding applied
-applies t w m p s r x k u a b d e f g = rw (a, b, d, e, f, g) refl
+applies t w m p s u a b d = rw (a, b, d) refl
 
 pub nothing-applied : (t : List ℕ) (w : Writes) (m : Maps) (b : Bool) → b ≡ isNothing w → b ≡ true → m ≡ applied t w m
 unfolding applied
@@ -93,11 +92,8 @@ module _ (s : Settings) (p : Phase) (t : List ℕ) (n a : ℕ) (m : Permissions)
       pub permit-past : n ≤ a → m ≡ permitted
       permit-past g = nothing-put t (places a (runEnd t n a)) (s .defaults .vtl0) m (omega (arith, end-none t n a g)) ∙ ap₂ by (sym h) (sym k)
 
-      pub permit-run : (f : HvMapGpaFlags) (r w x u : List ℕ) → f ≡ s .defaults .vtl0 → r ≡ put t a (runEnd t n a) (f .readable) (m .read)
-          → w ≡ put t a (runEnd t n a) (f .writable) (m .write) → x ≡ put t a (runEnd t n a) (f .«kernel_executable») (m .kernel)
-          → u ≡ put t a (runEnd t n a) (f .«user_executable») (m .user) → perms r w x u ≡ permitted
-      permit-run f r w x u e er ew ex eu =
-          rw (er, ew, ex, eu) (ap (λ (f : HvMapGpaFlags). putPermissions t (places a (runEnd t n a)) f m) e) ∙ ap₂ by (sym h) (sym k)
+      pub permit-run : (f : HvMapGpaFlags) (u : Permissions) → f ≡ s .defaults .vtl0 → u ≡ putFlags t a (runEnd t n a) f m → u ≡ permitted
+      permit-run f u e d = d ∙ ap (λ (f : HvMapGpaFlags). putPermissions t (places a (runEnd t n a)) f m) e ∙ ap₂ by (sym h) (sym k)
 
     pub default-run : (r : PageRun) → r ≡ runIn p t n a → r ≡ runAt t n a
     default-run r e = e ∙ go p h

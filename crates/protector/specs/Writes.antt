@@ -11,7 +11,7 @@ use Rattle.permissions.specs.Flags.{vtlNumber}
 use Rattle.mapping.specs.Maps.{Permissions, Maps, perms, permitted}
 use Rattle.page_list.specs.declared.PageRun.{PageRun}
 use Rattle.overlay_table.specs.Overlays.{isOverlay, placeOf, entry, addWords, removeWords}
-use Rattle.request_pages.specs.Request.{put}
+use Rattle.request_pages.specs.Request.{put, putFlags}
 use Rattle.visibility_steps.specs.declared.Places.{Places}
 use Rattle.visibility_steps.specs.declared.Writes.{Writes}
 use Rattle.change_steps.specs.declared.Entry.{Entry}
@@ -25,9 +25,7 @@ abbrev pub putPlaces : List ℕ → Places → Bool → List ℕ → List ℕ
 putPlaces t a s m = put t (a .from) (a .to) s m
 
 abbrev pub putPermissions : List ℕ → Places → HvMapGpaFlags → Permissions → Permissions
-putPermissions t a f m =
-    perms (putPlaces t a (f .readable) (m .read)) (putPlaces t a (f .writable) (m .write))
-    (putPlaces t a (f .«kernel_executable») (m .kernel)) (putPlaces t a (f .«user_executable») (m .user))
+putPermissions t a f m = putFlags t (a .from) (a .to) f m
 
 unfoldable pub applied : List ℕ → Writes → Maps → Maps
 applied t w m =

@@ -25,7 +25,7 @@ use visibility_steps::Step;
 use visibility_steps::Writes;
 
 // Whether a visibility change looks at the permission maps.
-pub fn looks_at(set: Settings, vtl: GuestVtl, share: bool) -> bool
+pub fn checks_permissions(set: Settings, vtl: GuestVtl, share: bool) -> bool
     ensures { λ r. ⌜ r ≡ looksAt set vtl share ⌝ }
 {
     if !share {
@@ -89,14 +89,11 @@ pub fn apply(
     }
     set_marks(private, pages, p, w.state);
     set_marks(shared, pages, s, w.state);
-    set_marks(read, pages, m, f.readable);
-    set_marks(write, pages, m, f.writable);
-    set_marks(kernel, pages, m, f.kernel_executable);
-    set_marks(user, pages, m, f.user_executable);
+    request_pages::update_permissions(read, write, kernel, user, pages, m.from, m.to, f);
 }
 
 // A step carried out: its writes made, its phase and request kept.
-pub fn carry_out(
+pub fn apply_step(
     private: &mut [u8],
     shared: &mut [u8],
     read: &mut [u8],
@@ -120,7 +117,7 @@ pub fn carry_out(
     let isolation = set.isolation;
     apply(private, shared, read, write, kernel, user, pages, writes);
     protector_state::save(state, phase, request);
-    protector_state::flatten(isolation, answer)
+    protector_state::to_reply(isolation, answer)
 }
 
 // The marks at the places from `from` to before `to` are set.
@@ -159,14 +156,11 @@ fn permit_default(
         return;
     }
     let flags = protector_state::default_vtl0(state);
-    request_pages::set_run_at(read, pages, n, at, run, flags.readable);
-    request_pages::set_run_at(write, pages, n, at, run, flags.writable);
-    request_pages::set_run_at(kernel, pages, n, at, run, flags.kernel_executable);
-    request_pages::set_run_at(user, pages, n, at, run, flags.user_executable);
+    request_pages::update_permissions_at(read, write, kernel, user, pages, n, at, run, flags);
 }
 
 // What an answer leads to, carried out.
-fn carry_on(
+fn apply_done(
     private: &mut [u8],
     shared: &mut [u8],
     read: &mut [u8],
@@ -226,7 +220,7 @@ pub fn answer_done(
     let phase = protector_state::phase(state);
     let q = protector_state::load(state);
     let x = visibility_steps::done(set, phase, q, pages);
-    carry_on(
+    apply_done(
         private,
         shared,
         read,

@@ -78,7 +78,7 @@ pub fn load(state: &[u64]) -> Change
     Change {
         vtl: permissions::vtl_of(state[place::VTL]),
         flush: permissions::vtl_of(state[place::FLUSH]),
-        n: numbers::least(state[place::USED], limit::LISTED_PAGES),
+        n: numbers::min(state[place::USED], limit::LISTED_PAGES),
         at: state[place::AT],
         flags: state[place::FLAGS],
         previous: state[place::PREVIOUS],

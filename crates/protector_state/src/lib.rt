@@ -204,7 +204,7 @@ fn modify(share: bool, n: u64) -> Reply
         operand: 0,
         first: 0,
         pages: n,
-        shared: permissions::digit_of(share),
+        shared: permissions::bool_to_u64(share),
     }
 }
 
@@ -237,7 +237,7 @@ fn stopped(index: u64, count: u64) -> Reply
 }
 
 // What crosses for an answer; the isolation tells whether a Protect has an operand.
-pub fn flatten(isolation: IsolationType, answer: Answer) -> Reply
+pub fn to_reply(isolation: IsolationType, answer: Answer) -> Reply
     ensures { λ r. ⌜ r ≡ flatOf isolation answer ⌝ }
 {
     match answer {
@@ -351,7 +351,7 @@ pub fn load(state: &[u64]) -> Request
     Request {
         share: state[place::SHARE] == 1,
         vtl: permissions::vtl_of(state[place::VTL]),
-        n: numbers::least(state[place::USED], limit::LISTED_PAGES),
+        n: numbers::min(state[place::USED], limit::LISTED_PAGES),
         at: state[place::AT],
         stopped: state[place::STOPPED] == 1,
         failed: state[place::FAILED] == 1,
@@ -369,9 +369,9 @@ pub fn save(state: &mut [u64], phase: Phase, q: Request)
     let vtl = q.vtl;
     let p = phase_number(phase);
     let v = permissions::vtl_number(vtl);
-    let share = permissions::digit_of(q.share);
-    let stopped = permissions::digit_of(q.stopped);
-    let failed = permissions::digit_of(q.failed);
+    let share = permissions::bool_to_u64(q.share);
+    let stopped = permissions::bool_to_u64(q.stopped);
+    let failed = permissions::bool_to_u64(q.failed);
     state[place::PHASE] = p;
     state[place::SHARE] = share;
     state[place::VTL] = v;
@@ -482,7 +482,7 @@ pub fn ram_of(state: &[u64]) -> &[u64]
     requires { ⌜ length (now state) ≡ stateLen ⌝ }
     ensures { λ r. ⌜ now r ≡ ramOf (now (state .entry)) ⌝ }
 {
-    let n = numbers::least(state[place::ENTRIES], limit::RAM_ENTRIES) as usize;
+    let n = numbers::min(state[place::ENTRIES], limit::RAM_ENTRIES) as usize;
     let end = place::RAM + RAM_ENTRY_WORDS * n;
     &state[place::RAM..end]
 }

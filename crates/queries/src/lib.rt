@@ -79,7 +79,7 @@ fn shared_byte(shared: &[u8], gpn: u64) -> u8
 pub fn fill(out: &mut [u8], shared: &[u8], list: &[u8])
     ensures { λ _. ⌜ now (out .exit) ≡ filledBy (visibilities (now (shared .entry)) (pagesOf (now (list .entry)))) (now (out .entry)) ⌝ }
 {
-    let end = numbers::least(page_list::page_count(list), out.len() as u64) as usize;
+    let end = numbers::min(page_list::page_count(list), out.len() as u64) as usize;
     let mut i: usize = 0;
     while i < end {
         out[i] = shared_byte(shared, page_list::page_at(list, i as u64));

@@ -119,7 +119,7 @@ fn answer(state: &[u64], total: u64, count: u64, until: u64, chunk: u64) -> Repl
         let end = std::num::wrapping_add_u64(state[place::OFFSET], state[place::END]);
         return registrar_state::asked(start, end);
     }
-    if chunk < numbers::least(until, total) {
+    if chunk < numbers::min(until, total) {
         return registrar_state::registration_failed(chunk * state[place::GRANULARITY], count);
     }
     registrar_state::done(count)

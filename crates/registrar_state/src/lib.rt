@@ -174,7 +174,7 @@ fn ram_of(state: &[u64]) -> &[u64]
     requires { ⌜ length (now state) ≡ registrarLen ⌝ }
     ensures { λ r. ⌜ now r ≡ ramOf (now (state .entry)) ⌝ }
 {
-    let n = numbers::least(state[place::ENTRIES], limit::RAM_ENTRIES) as usize;
+    let n = numbers::min(state[place::ENTRIES], limit::RAM_ENTRIES) as usize;
     let end = place::RAM + RAM_ENTRY_WORDS * n;
     &state[place::RAM..end]
 }

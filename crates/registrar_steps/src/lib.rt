@@ -178,7 +178,7 @@ pub fn stop_from(
         registered,
         failed,
         from,
-        numbers::least(until, total),
+        numbers::min(until, total),
     )
 }
 
@@ -377,7 +377,7 @@ fn look_at(
         registered,
         failed,
         granularity,
-        numbers::greatest(chunk, chunks::div(p.start, granularity)),
+        numbers::max(chunk, chunks::div(p.start, granularity)),
         chunks::div(p.end, granularity),
     )
 }

@@ -18,7 +18,9 @@ use Rattle.page_list.specs.Pages.{among}
 use Rattle.page_list.specs.Runs.{part, neighbours, runAt}
 use Rattle.page_list.specs.declared.PageRun.{PageRun}
 use Rattle.page_list.proofs.RunLaws.{run-none, run-here, part-next, part-end}
-use Rattle.request_pages.specs.Request.{runEnd, put}
+use Rattle.permissions.specs.declared.HvMapGpaFlags.{HvMapGpaFlags}
+use Rattle.mapping.specs.Maps.{Permissions, permitted}
+use Rattle.request_pages.specs.Request.{runEnd, put, putFlags}
 
 few : (p : ℕ) (ps : List ℕ) → neighbours p ps ≤ length ps
 unfolding neighbours
@@ -126,6 +128,15 @@ module _ (t : List ℕ) (to a end first last : ℕ) (h : a < to) (g : a < length
       (λ q. ap (λ (l : List ℕ). among l q) (part-next t to a h g) ∙ run-pages p (part t to (a + 1)) q
       ∙ ap₂ (λ (l : List ℕ) (b : Bool). among l q || b) rest (ap₂ (λ (x y : ℕ). between x y q) (sym e) (sym v)))
 
+  pub flags-run : (f : HvMapGpaFlags) (m m′ : Permissions) → m′ ≡ permitted first (last + 1) f m → putFlags t end to f m′ ≡ putFlags t a to f m
+  flags-run f m m′ e =
+      rw (
+        put-run (f .readable) (m .read) (m′ .read) (ap (λ (p : Permissions). p .read) e),
+        put-run (f .writable) (m .write) (m′ .write) (ap (λ (p : Permissions). p .write) e),
+        put-run (f .«kernel_executable») (m .kernel) (m′ .kernel) (ap (λ (p : Permissions). p .kernel) e),
+        put-run (f .«user_executable») (m .user) (m′ .user) (ap (λ (p : Permissions). p .user) e),
+      )
+
 -- ---- the pages at the places of a run
 abbrev pub first : ℕ → List ℕ → List ℕ
 first p ps = take (suc (neighbours p ps)) (p ∷ ps)
@@ -192,6 +203,15 @@ module _ (t : List ℕ) (n a : ℕ) (h : a < n) (g : n ≤ length t) where
         ∙ ap (λ (r : PageRun). written 8 (between (r .first) (r .first + r .count)) s m) e
         ∙ alike 8 _ _ s m (λ j k l v. sym (run-places (j * 8 + k)))
 
+    pub flags-at : (f : HvMapGpaFlags) (m m′ : Permissions) → m′ ≡ permitted (r .first) (last + 1) f m → m′ ≡ putFlags t a (runEnd t n a) f m
+    flags-at f m m′ e =
+        e ∙ rw (
+          put-at (f .readable) (m .read) _ refl,
+          put-at (f .writable) (m .write) _ refl,
+          put-at (f .«kernel_executable») (m .kernel) _ refl,
+          put-at (f .«user_executable») (m .user) _ refl,
+        )
+
 -- ---- an empty range
 module _ (t : List ℕ) (to a : ℕ) (s : Bool) (m : List ℕ) where
   pub put-past : min to (length t) ≤ a → put t a to s m ≡ m
@@ -200,3 +220,12 @@ module _ (t : List ℕ) (to a : ℕ) (s : Bool) (m : List ℕ) where
 
   pub put-none : to ≤ a → put t a to s m ≡ m
   put-none h = put-past (omega arith)
+
+pub flags-past : (t : List ℕ) (to a : ℕ) (f : HvMapGpaFlags) (m : Permissions) → min to (length t) ≤ a → putFlags t a to f m ≡ m
+flags-past t to a f m h =
+    rw (
+      put-past t to a (f .readable) (m .read) h,
+      put-past t to a (f .writable) (m .write) h,
+      put-past t to a (f .«kernel_executable») (m .kernel) h,
+      put-past t to a (f .«user_executable») (m .user) h,
+    )

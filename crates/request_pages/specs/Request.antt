@@ -6,6 +6,8 @@ use Prim.Native.Nat.{ℕ, suc, _+_}
 use lib.ListN.{length, take, drop}
 use Rattle.abi.specs.Lengths.{placesStart}
 use Rattle.bitmap.specs.Pages.{bitAt, written}
+use Rattle.permissions.specs.declared.HvMapGpaFlags.{HvMapGpaFlags}
+use Rattle.mapping.specs.Maps.{Permissions, perms}
 use Rattle.page_list.specs.Pages.{among}
 use Rattle.page_list.specs.Runs.{part, runAt}
 
@@ -47,3 +49,9 @@ runEnd t n a = a + runAt t n a .count
 -- the map m with s for each page at the places from `from` to before `to`
 unfoldable pub put : List ℕ → ℕ → ℕ → Bool → List ℕ → List ℕ
 put t from to s m = written 8 (among (part t to from)) s m
+
+-- the permission maps with these flags there
+abbrev pub putFlags : List ℕ → ℕ → ℕ → HvMapGpaFlags → Permissions → Permissions
+putFlags t from to f m =
+    perms (put t from to (f .readable) (m .read)) (put t from to (f .writable) (m .write)) (put t from to (f .«kernel_executable») (m .kernel))
+    (put t from to (f .«user_executable») (m .user))

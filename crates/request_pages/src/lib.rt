@@ -6,16 +6,17 @@ ghost use Prim.Native.Nat.{_+_, _<_, _≤_};
 ghost use lib.ListN.{length, getD, set, take};
 ghost use Rattle.abi.specs.Limits as limit;
 ghost use Rattle.abi.specs.Lengths.{pagesLen, placesStart};
-ghost use Rattle.laws.specs.Ranges.{between};
-ghost use Rattle.bitmap.specs.Pages.{bitAt, written};
+ghost use Rattle.bitmap.specs.Pages.{bitAt};
+ghost use Rattle.mapping.specs.Maps.{perms};
 ghost use Rattle.page_list.specs.Pages.{pagesOf};
 ghost use Rattle.page_list.specs.Runs.{runAt};
-ghost use Rattle.request_pages.specs.Request.{pick, tableOf, stopAt, isOpen, wanted, runEnd, put};
+ghost use Rattle.request_pages.specs.Request.{pick, tableOf, stopAt, isOpen, wanted, runEnd, put, putFlags};
 use abi::PLACES_START;
 use page_list::PageRun;
+use permissions::HvMapGpaFlags;
 
 // Whether a page is readable and writable.
-fn is_open(read: &[u8], write: &[u8], p: u64) -> bool
+fn is_readable_and_writable(read: &[u8], write: &[u8], p: u64) -> bool
     ensures { λ r. ⌜ r ≡ (bitAt 8 (now (read .entry)) p && bitAt 8 (now (write .entry)) p) ⌝ }
 {
     bitmap::page_state(read, p) && bitmap::page_state(write, p)
@@ -31,7 +32,7 @@ pub fn stop_at(read: &[u8], write: &[u8], asked: bool, list: &[u8]) -> u64
     }
     let mut i: u64 = 0;
     while i < n {
-        if !is_open(read, write, page_list::page_at(list, i)) {
+        if !is_readable_and_writable(read, write, page_list::page_at(list, i)) {
             return i;
         }
         i += 1;
@@ -69,7 +70,7 @@ pub fn store(t: &mut [u64], shared: &[u8], share: bool, list: &[u8], stop: u64) 
     requires { ⌜ (length (now t) ≡ pagesLen) × (length (now list) ≤ limit.listBytes) ⌝ }
     ensures { λ r. ⌜ (r ≡ length (pick (wanted (now (shared .entry)) share) (take stop (pagesOf (now (list .entry)))))) × (now (t .exit) ≡ tableOf (wanted (now (shared .entry)) share) (take stop (pagesOf (now (list .entry)))) (now (t .entry))) ⌝ }
 {
-    let n = numbers::least(stop, page_list::page_count(list));
+    let n = numbers::min(stop, page_list::page_count(list));
     let mut k: u64 = 0;
     let mut i: u64 = 0;
     while i < n {
@@ -113,42 +114,63 @@ pub fn run_end(t: &[u64], n: u64, at: u64) -> u64
     at + run.count
 }
 
-// The pages from `first` to `last`, with it.
-pub fn set_run(map: &mut [u8], first: u64, last: u64, state: bool)
-    requires { ⌜ first ≤ last ⌝ }
-    ensures { λ _. ⌜ now (map .exit) ≡ written 8 (between first (last + 1)) state (now (map .entry)) ⌝ }
-{
-    if first == last {
-        bitmap::set_page(map, first, state);
-        return;
-    }
-    bitmap::update(map, first, last, state);
-    bitmap::set_page(map, last, state);
-}
-
-// The pages of the run at a place, of the first n.
-pub fn set_run_at(map: &mut [u8], t: &[u64], n: u64, at: u64, run: PageRun, state: bool)
+// The permissions of the run at a place, of the first n.
+pub fn update_permissions_at(
+    read: &mut [u8],
+    write: &mut [u8],
+    kernel: &mut [u8],
+    user: &mut [u8],
+    t: &[u64],
+    n: u64,
+    at: u64,
+    run: PageRun,
+    flags: HvMapGpaFlags,
+)
     requires { ⌜ (at < n) × (n ≤ length (now t)) × (run ≡ runAt (now t) n at) ⌝ }
-    ensures { λ _. ⌜ now (map .exit) ≡ put (now (t .entry)) at (runEnd (now (t .entry)) n at) state (now (map .entry)) ⌝ }
+    ensures { λ _. ⌜ perms (now (read .exit)) (now (write .exit)) (now (kernel .exit)) (now (user .exit)) ≡ putFlags (now (t .entry)) at (runEnd (now (t .entry)) n at) flags (perms (now (read .entry)) (now (write .entry)) (now (kernel .entry)) (now (user .entry))) ⌝ }
 {
     let last = numbers::word_at(t, at + (run.count - 1));
-    set_run(map, run.first, last, state);
+    mapping::update_permission_bitmaps(read, write, kernel, user, run.first, last, flags);
 }
 
 // The pages at the places from `from` to before `to`, run by run.
 pub fn set_places(map: &mut [u8], t: &[u64], from: u64, to: u64, state: bool)
     ensures { λ _. ⌜ now (map .exit) ≡ put (now (t .entry)) from to state (now (map .entry)) ⌝ }
 {
-    let stop = numbers::least(to, t.len() as u64);
+    let stop = numbers::min(to, t.len() as u64);
     let mut i = from;
     while i < stop {
         let end = run_end(t, to, i);
-        set_run(
+        bitmap::set_run(
             map,
             numbers::word_at(t, i),
             numbers::word_at(t, end - 1),
             state,
         );
+        i = end;
+    }
+}
+
+// The permissions of these pages, run by run.
+pub fn update_permissions(
+    read: &mut [u8],
+    write: &mut [u8],
+    kernel: &mut [u8],
+    user: &mut [u8],
+    t: &[u64],
+    from: u64,
+    to: u64,
+    flags: HvMapGpaFlags,
+)
+    ensures { λ _. ⌜ perms (now (read .exit)) (now (write .exit)) (now (kernel .exit)) (now (user .exit)) ≡ putFlags (now (t .entry)) from to flags (perms (now (read .entry)) (now (write .entry)) (now (kernel .entry)) (now (user .entry))) ⌝ }
+{
+    let stop = numbers::min(to, t.len() as u64);
+    let mut i = from;
+    while i < stop {
+        let end = run_end(t, to, i);
+        let first = numbers::word_at(t, i);
+        let last = numbers::word_at(t, end - 1);
+        mapping::update_permission_bitmaps(read, write, kernel, user, first, last, flags);
         i = end;
     }
 }

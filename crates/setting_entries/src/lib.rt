@@ -44,7 +44,7 @@ pub extern "C" fn protector_vtl1_protections_enabled(state: &[u64]) -> Value
         return protector_state::refused_value(n);
     }
     let set = protector_state::settings(state);
-    protector_state::ok_value(permissions::digit_of(set.enabled))
+    protector_state::ok_value(permissions::bool_to_u64(set.enabled))
 }
 
 // The flags of VTL0's default. Nothing is written, and no operation is asked for.

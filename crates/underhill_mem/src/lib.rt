@@ -102,7 +102,7 @@ pub extern "C" fn protector_change_host_visibility(
     let set = protector_state::settings(state);
     let v = permissions::vtl_of(vtl);
     let share = visibility == 1;
-    let looks = protector::looks_at(set, v, share);
+    let looks = protector::checks_permissions(set, v, share);
     let stop = request_pages::stop_at(read, write, looks, list);
     let count = request_pages::store(pages, shared, share, list, stop);
     let stopped = stop < page_list::page_count(list);
@@ -202,7 +202,7 @@ pub extern "C" fn protector_answer_failed(
     let phase = protector_state::phase(state);
     let q = protector_state::load(state);
     let s = visibility_steps::failed(set, phase, q, pages, code as u64, processed);
-    protector::carry_out(
+    protector::apply_step(
         private,
         shared,
         read,

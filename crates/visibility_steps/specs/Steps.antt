@@ -13,6 +13,7 @@ use Rattle.permissions.specs.declared.IsolationType.the-variants.{Snp, Tdx, Cca
 use Rattle.permissions.specs.declared.HvMapGpaFlags.{HvMapGpaFlags}
 use Rattle.permissions.specs.declared.OptionFlags.{OptionFlags}
 use Rattle.permissions.specs.declared.OptionFlags.the-variants.{Some, None}
+pub use Rattle.permissions.specs.Flags.{isVtl0}
 use Rattle.permissions.specs.Flags.{noFlags}
 use Rattle.page_list.specs.declared.PageRun.{PageRun}
 use Rattle.page_list.specs.Runs.{runAt}
@@ -252,10 +253,6 @@ asked vtl share n stop stopped =
       code = 0;
       count = 1;
     }
-
-abbrev pub isVtl0 : GuestVtl → Bool
-isVtl0 Vtl0 = true
-isVtl0 Vtl1 = false
 
 -- what it clears at once
 unfoldable pub cleared : Bool → GuestVtl → Bool → ℕ → Writes

@@ -650,20 +650,11 @@ pub fn failed(set: Settings, phase: Phase, q: Request, t: &[u64], code: u64, pro
     }
 }
 
-fn is_vtl0(vtl: GuestVtl) -> bool
-    ensures { λ r. ⌜ r ≡ isVtl0 vtl ⌝ }
-{
-    match vtl {
-        GuestVtl::Vtl0 => true,
-        GuestVtl::Vtl1 => false,
-    }
-}
-
 // How many pages of VTL0's permissions a sharing clears.
 fn cleared_permissions(tracked: bool, vtl: GuestVtl, n: u64) -> u64
     ensures { λ r. ⌜ r ≡ cond (isVtl0 vtl && tracked) n 0 ⌝ }
 {
-    if is_vtl0(vtl) {
+    if permissions::is_vtl0(vtl) {
         if tracked { n } else { 0 }
     } else {
         0

@@ -56,7 +56,7 @@ fn close(t: &mut [u64], place: u64, n: u64)
     ensures { λ _. ⌜ now (t .exit) ≡ closed (now (t .entry)) place n ⌝ }
 {
     let len = t.len() as u64;
-    let end = numbers::minus(len, n);
+    let end = numbers::saturating_sub(len, n);
     let mut i = place;
     while i < end {
         let from = (i + n) as usize;
@@ -73,7 +73,7 @@ fn close(t: &mut [u64], place: u64, n: u64)
 }
 
 // The same of the words before `end`: what stands from there on is kept.
-pub fn close_gap(t: &mut [u64], place: u64, n: u64, end: u64)
+pub fn remove_words(t: &mut [u64], place: u64, n: u64, end: u64)
     ensures { λ _. ⌜ now (t .exit) ≡ closedTo (now (t .entry)) place n end ⌝ }
 {
     let to = place_after(t, end, 0) as usize;
@@ -90,7 +90,7 @@ fn swap(t: &mut [u64], i: u64, j: u64)
 }
 
 // The words from `from` to before `to`, the other way round.
-fn turn(t: &mut [u64], from: u64, to: u64)
+fn reverse(t: &mut [u64], from: u64, to: u64)
     requires { ⌜ (from ≤ to) × (to ≤ length (now t)) ⌝ }
     ensures { λ _. ⌜ now (t .exit) ≡ turned (now (t .entry)) from to ⌝ }
 {
@@ -110,7 +110,7 @@ pub fn swap_runs(t: &mut [u64], place: u64, n: u64, m: u64)
     let from = place_after(t, place, 0);
     let middle = place_after(t, from, n);
     let to = place_after(t, middle, m);
-    turn(t, from, middle);
-    turn(t, middle, to);
-    turn(t, from, to);
+    reverse(t, from, middle);
+    reverse(t, middle, to);
+    reverse(t, from, to);
 }

@@ -19,8 +19,8 @@ abbrev μ-loop : tie.MeasureT-loop
 full-requires : tie.Need-full-requires Inv-loop μ-loop
 full-requires c κs = search needs
 
-least-requires : tie.Need-least-requires Inv-loop μ-loop
-least-requires c κs = search needs
+min-requires : tie.Need-min-requires Inv-loop μ-loop
+min-requires c κs = search needs
 
 -- the map keeps its length
 kept : (c : tie.At-loop Inv-loop μ-loop) → length (c .loop .map) ≡ length (c .before .before .before .before .args .map .now)
@@ -30,7 +30,7 @@ loop-holds : tie.Need-loop-holds Inv-loop μ-loop
 loop-holds c = let a = c .before .before .before .args in (search needs, search needs, words-none 8 (a .state) (a .map .now) (a .from))
 
 slice-write-map : tie.Need-slice-write-map Inv-loop μ-loop
-slice-write-map c = omega (arith, kept (c .before), c .before .before .least .ensures)
+slice-write-map c = omega (arith, kept (c .before), c .before .before .min .ensures)
 
 add-i : tie.Need-add-i Inv-loop μ-loop
 add-i c = search needs
@@ -45,7 +45,7 @@ loop-again c =
       search needs,
       search needs,
       ap (set (u .loop .map) (u .loop .i)) (u .before .before .full .ensures)
-          ∙ words-step 8 (a .state) (a .map .now) (a .from) (u .loop .i) (u .loop .map) (u .loop .inv .0) (omega (arith, u .before .least .ensures))
+          ∙ words-step 8 (a .state) (a .map .now) (a .from) (u .loop .i) (u .loop .map) (u .loop .inv .0) (omega (arith, u .before .min .ensures))
           (u .before .before .before .slice-known .given (u .loop .i) .fits) (u .loop .inv .2),
     )
 
@@ -56,7 +56,7 @@ returns : tie.Need-returns Inv-loop μ-loop
 returns c =
     let u = c .before in
     let a = u .before .before .before .before .args in
-    u .loop .inv .2 ∙ words-end 8 (a .state) (a .map .now) (a .from) (a .to) (u .loop .i) (omega (arith, u .before .least .ensures)) (omega (arith, u .before .least .ensures))
+    u .loop .inv .2 ∙ words-end 8 (a .state) (a .map .now) (a .from) (a .to) (u .loop .i) (omega (arith, u .before .min .ensures)) (omega (arith, u .before .min .ensures))
 
 pub fill-bytes-spec : {M : Type 1} → statement M
 fill-bytes-spec =
@@ -65,7 +65,7 @@ fill-bytes-spec =
     Inv-loop
     μ-loop
     full-requires
-    least-requires
+    min-requires
     loop-holds
     slice-write-map
     add-i

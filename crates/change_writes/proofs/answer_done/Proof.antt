@@ -32,8 +32,8 @@ settings-requires c κs = search needs
 after-done-requires : tie.Need-after-done-requires
 after-done-requires c κs = search needs
 
-carry-out-requires : tie.Need-carry-out-requires
-carry-out-requires c κs =
+apply-step-requires : tie.Need-apply-step-requires
+apply-step-requires c κs =
     let c6 = c .before .before .before .before .before .before in
     let c23 = c6 .before .before .before .before .before .before .before .before .before .before .before .before .before .before .before .before .before in
     (c23 .pre .0, c23 .pre .1, c6 .after-done .ensures .1)
@@ -62,7 +62,7 @@ returns-2 c =
     let c19 = c12 .before .before .before .before .before .before .before in let c22 = c19 .before .before .before in
     let a = c22 .before .before .before .before .before .before .before .before .before .before .before .before .before .before .args in
     laws.carried (perms (a .read .now) (a .write .now) (a .kernel .now) (a .user .now)) (a .state .now) (a .tables .now) _ _ _ (c22 .settings .ensures)
-    (c19 .after-done .ensures .0) _ _ _ _ (c12 .carry-out .ensures)
+    (c19 .after-done .ensures .0) _ _ _ _ (c12 .apply-step .ensures)
 
 pub answer-done-spec : {M : Type 1} → statement M
 answer-done-spec =
@@ -75,7 +75,7 @@ answer-done-spec =
     returns
     settings-requires
     after-done-requires
-    carry-out-requires
+    apply-step-requires
     same-length-2
     same-length-3
     same-length-4

@@ -11,8 +11,8 @@ settings-requires c κs = search needs
 after-failed-requires : tie.Need-after-failed-requires
 after-failed-requires c κs = search needs
 
-carry-out-requires : tie.Need-carry-out-requires
-carry-out-requires c κs = search needs
+apply-step-requires : tie.Need-apply-step-requires
+apply-step-requires c κs = search needs
 
 same-length : tie.Need-same-length
 same-length c = search needs
@@ -38,7 +38,7 @@ returns c =
     let c19 = c12 .before .before .before .before .before .before .before in let c21 = c19 .before .before in
     let a = c21 .before .before .before .before .before .before .before .before .args in
     laws.carried (perms (a .read .now) (a .write .now) (a .kernel .now) (a .user .now)) (a .state .now) (a .tables .now) _ _ _ (c21 .settings .ensures)
-    (c19 .after-failed .ensures .0) _ _ _ _ (c12 .carry-out .ensures)
+    (c19 .after-failed .ensures .0) _ _ _ _ (c12 .apply-step .ensures)
 
 pub answer-failed-spec : {M : Type 1} → statement M
 answer-failed-spec =
@@ -46,7 +46,7 @@ answer-failed-spec =
     (tie.spec
     settings-requires
     after-failed-requires
-    carry-out-requires
+    apply-step-requires
     same-length
     same-length-2
     same-length-3

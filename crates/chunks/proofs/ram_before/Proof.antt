@@ -25,18 +25,18 @@ loop-holds c = λ y e. refl
 span-at-requires : tie.Need-span-at-requires Inv-loop μ-loop
 span-at-requires c κs = search needs
 
-greatest-requires : tie.Need-greatest-requires Inv-loop μ-loop
-greatest-requires c κs = search needs
+max-requires : tie.Need-max-requires Inv-loop μ-loop
+max-requires c κs = search needs
 
-least-requires : tie.Need-least-requires Inv-loop μ-loop
-least-requires c κs = search needs
+min-requires : tie.Need-min-requires Inv-loop μ-loop
+min-requires c κs = search needs
 
 returns : tie.Need-returns Inv-loop μ-loop
 returns c = λ y e.
     let a = c .before .before .before .before .before .before .before .before .args in
     let h = c .before .before .before .before .before .loop in
     let s = c .before .before .before .span-at in
-    sym (laws.pieces-hit (entriesOf (a .ram .now)) (a .from) y (h .i) (s .result) (omega arith) (s .ensures) (c .before .before .greatest .result) (c .before .least .result) (c .before .before .greatest .ensures) (laws.end-within y (a .stop) (s .result .end) (c .before .least .result) e (s .ok .1 .1 .1 .0 .1) (c .before .least .ensures)) (c .if1 .taken)) ∙ h .inv y e
+    sym (laws.pieces-hit (entriesOf (a .ram .now)) (a .from) y (h .i) (s .result) (omega arith) (s .ensures) (c .before .before .max .result) (c .before .min .result) (c .before .before .max .ensures) (laws.end-within y (a .stop) (s .result .end) (c .before .min .result) e (s .ok .1 .1 .1 .0 .1) (c .before .min .ensures)) (c .if1 .taken)) ∙ h .inv y e
 
 loop-less : tie.Need-loop-less Inv-loop μ-loop
 loop-less c =
@@ -51,7 +51,7 @@ loop-again c = λ y e.
     let a = c .before .before .before .before .before .before .before .before .args in
     let h = c .before .before .before .before .before .loop in
     let s = c .before .before .before .span-at in
-    ap firstOf (sym (laws.pieces-miss (entriesOf (a .ram .now)) (a .from) y (h .i) (s .result) (omega arith) (s .ensures) (c .before .before .greatest .result) (c .before .least .result) (c .before .before .greatest .ensures) (laws.end-within y (a .stop) (s .result .end) (c .before .least .result) e (s .ok .1 .1 .1 .0 .1) (c .before .least .ensures)) (c .if1 .left))) ∙ h .inv y e
+    ap firstOf (sym (laws.pieces-miss (entriesOf (a .ram .now)) (a .from) y (h .i) (s .result) (omega arith) (s .ensures) (c .before .before .max .result) (c .before .min .result) (c .before .before .max .ensures) (laws.end-within y (a .stop) (s .result .end) (c .before .min .result) e (s .ok .1 .1 .1 .0 .1) (c .before .min .ensures)) (c .if1 .left))) ∙ h .inv y e
 
 returns-2 : tie.Need-returns-2 Inv-loop μ-loop
 returns-2 c = λ y e.
@@ -68,8 +68,8 @@ ram-before-spec =
     entry-count-requires
     loop-holds
     span-at-requires
-    greatest-requires
-    least-requires
+    max-requires
+    min-requires
     returns
     loop-less
     loop-again

@@ -15,8 +15,8 @@ Inv-loop registered failed set from to len stop c₀ c = firstNot (alike registe
 abbrev μ-loop : tie.MeasureT-loop
 μ-loop registered failed set from to len stop c₀ c = stop - c
 
-greatest-requires : tie.Need-greatest-requires Inv-loop μ-loop
-greatest-requires c κs = search needs
+max-requires : tie.Need-max-requires Inv-loop μ-loop
+max-requires c κs = search needs
 
 stop-at-requires : tie.Need-stop-at-requires Inv-loop μ-loop
 stop-at-requires c κs = search needs
@@ -53,7 +53,7 @@ returns-2 : tie.Need-returns-2 Inv-loop μ-loop
 returns-2 c =
     let a = c .before .before .before .before .before .before .before .args in
     let h = c .before .before .loop in
-    c .alike-past .ensures ∙ sym (laws.run-past (a .registered .now) (a .failed .now) (a .set) (h .c) (a .to) _ _ (c .before .before .before .before .greatest .ensures) (c .before .before .before .stop-at .ensures) (omega arith)) ∙ h .inv
+    c .alike-past .ensures ∙ sym (laws.run-past (a .registered .now) (a .failed .now) (a .set) (h .c) (a .to) _ _ (c .before .before .before .before .max .ensures) (c .before .before .before .stop-at .ensures) (omega arith)) ∙ h .inv
 
 pub run-end-spec : {M : Type 1} → statement M
 run-end-spec =
@@ -61,7 +61,7 @@ run-end-spec =
     (tie.spec
     Inv-loop
     μ-loop
-    greatest-requires
+    max-requires
     stop-at-requires
     loop-holds
     alike-here-requires

@@ -12,7 +12,7 @@ use Rattle.default_change.proofs.first_piece.Reads as first-piece
 use Rattle.default_change.proofs.first_piece.Kinds as first-piece-kinds
 use Rattle.default_change.proofs.+first_piece.Lts-first_piece as first-piece-lts
 use Rattle.default_change.proofs.find_inside.Reads as find-inside-reads
-use Rattle.default_change.proofs.overlay_count.Reads as overlay-count-reads
+use Rattle.overlay_table.proofs.entry_count.Reads as entry-count-reads
 use Rattle.numbers.proofs.word_at.Reads as word-at-reads
 use Rattle.default_change.proofs.+first_piece.{statement}
 use Rattle.default_change.proofs.+first_piece.Tie.{close}
@@ -31,8 +31,8 @@ first-piece-below t =
 first-piece-find-inside-requires : (t : ℕ) → first-piece-lts.Need-find-inside-requires (
   find-inside-reads.Asked,
   find-inside-reads.Learnt,
-  overlay-count-reads.Asked,
-  overlay-count-reads.Learnt,
+  entry-count-reads.Asked,
+  entry-count-reads.Learnt,
   word-at-reads.Asked,
   word-at-reads.Learnt,
   first-piece-below t,
@@ -40,23 +40,23 @@ first-piece-find-inside-requires : (t : ℕ) → first-piece-lts.Need-find-insid
 ) (first-piece-at t) first-piece.Post
 first-piece-find-inside-requires t c κs = search needs
 
-first-piece-overlay-count-requires : (t : ℕ) → first-piece-lts.Need-overlay-count-requires (
+first-piece-entry-count-requires : (t : ℕ) → first-piece-lts.Need-entry-count-requires (
   find-inside-reads.Asked,
   find-inside-reads.Learnt,
-  overlay-count-reads.Asked,
-  overlay-count-reads.Learnt,
+  entry-count-reads.Asked,
+  entry-count-reads.Learnt,
   word-at-reads.Asked,
   word-at-reads.Learnt,
   first-piece-below t,
   first-piece.Post,
 ) (first-piece-at t) first-piece.Post
-first-piece-overlay-count-requires t c κs = search needs
+first-piece-entry-count-requires t c κs = search needs
 
 first-piece-returns : (t : ℕ) → first-piece-lts.Need-returns (
   find-inside-reads.Asked,
   find-inside-reads.Learnt,
-  overlay-count-reads.Asked,
-  overlay-count-reads.Learnt,
+  entry-count-reads.Asked,
+  entry-count-reads.Learnt,
   word-at-reads.Asked,
   word-at-reads.Learnt,
   first-piece-below t,
@@ -67,38 +67,38 @@ first-piece-returns t c =
     let a = b .args in
     let i = c .before .before .find-inside .result in
     let e = c .before .before .find-inside .ensures in
-    let all : used (a .overlays .now) ≤ i = omega (arith, c .if1 .taken, c .before .overlay-count .ensures) in
+    let all : used (a .overlays .now) ≤ i = omega (arith, c .if1 .taken, c .before .entry-count .ensures) in
     (laws.piece-start-whole (a .overlays .now) (a .first) (a .count) i e all, laws.piece-len-whole (a .overlays .now) (a .first) (a .count) i e all)
 
 first-piece-mul-word-at : (t : ℕ) → first-piece-lts.Need-mul-word-at (
   find-inside-reads.Asked,
   find-inside-reads.Learnt,
-  overlay-count-reads.Asked,
-  overlay-count-reads.Learnt,
+  entry-count-reads.Asked,
+  entry-count-reads.Learnt,
   word-at-reads.Asked,
   word-at-reads.Learnt,
   first-piece-below t,
   first-piece.Post,
 ) (first-piece-at t) first-piece.Post
-first-piece-mul-word-at t c = omega (arith, c .if1 .left, c .before .overlay-count .ensures)
+first-piece-mul-word-at t c = omega (arith, c .if1 .left, c .before .entry-count .ensures)
 
 first-piece-add-word-at : (t : ℕ) → first-piece-lts.Need-add-word-at (
   find-inside-reads.Asked,
   find-inside-reads.Learnt,
-  overlay-count-reads.Asked,
-  overlay-count-reads.Learnt,
+  entry-count-reads.Asked,
+  entry-count-reads.Learnt,
   word-at-reads.Asked,
   word-at-reads.Learnt,
   first-piece-below t,
   first-piece.Post,
 ) (first-piece-at t) first-piece.Post
-first-piece-add-word-at t c = omega (arith, c .if1 .left, c .before .overlay-count .ensures)
+first-piece-add-word-at t c = omega (arith, c .if1 .left, c .before .entry-count .ensures)
 
 first-piece-word-at-requires : (t : ℕ) → first-piece-lts.Need-word-at-requires (
   find-inside-reads.Asked,
   find-inside-reads.Learnt,
-  overlay-count-reads.Asked,
-  overlay-count-reads.Learnt,
+  entry-count-reads.Asked,
+  entry-count-reads.Learnt,
   word-at-reads.Asked,
   word-at-reads.Learnt,
   first-piece-below t,
@@ -109,8 +109,8 @@ first-piece-word-at-requires t c κs = search needs
 first-piece-sub-first-piece : (t : ℕ) → first-piece-lts.Need-sub-first-piece (
   find-inside-reads.Asked,
   find-inside-reads.Learnt,
-  overlay-count-reads.Asked,
-  overlay-count-reads.Learnt,
+  entry-count-reads.Asked,
+  entry-count-reads.Learnt,
   word-at-reads.Asked,
   word-at-reads.Learnt,
   first-piece-below t,
@@ -121,7 +121,7 @@ first-piece-sub-first-piece t c =
     let a = b .args in
     let i = c .before .before .before .find-inside .result in
     let e = c .before .before .before .find-inside .ensures in
-    let below : i < used (a .overlays .now) = omega (arith, c .before .if1 .left, c .before .before .overlay-count .ensures) in
+    let below : i < used (a .overlays .now) = omega (arith, c .before .if1 .left, c .before .before .entry-count .ensures) in
     let p = c .word-at .result in
     let read = c .word-at .ensures in
     laws.p-low (a .overlays .now) (a .first) (a .count) i e below p read
@@ -129,8 +129,8 @@ first-piece-sub-first-piece t c =
 first-piece-first-piece-requires : (t : ℕ) → first-piece-lts.Need-first-piece-requires (
   find-inside-reads.Asked,
   find-inside-reads.Learnt,
-  overlay-count-reads.Asked,
-  overlay-count-reads.Learnt,
+  entry-count-reads.Asked,
+  entry-count-reads.Learnt,
   word-at-reads.Asked,
   word-at-reads.Learnt,
   first-piece-below t,
@@ -141,7 +141,7 @@ first-piece-first-piece-requires t c κs =
     let a = b .args in
     let i = c .before .before .before .find-inside .result in
     let e = c .before .before .before .find-inside .ensures in
-    let below : i < used (a .overlays .now) = omega (arith, c .before .if1 .left, c .before .before .overlay-count .ensures) in
+    let below : i < used (a .overlays .now) = omega (arith, c .before .if1 .left, c .before .before .entry-count .ensures) in
     let p = c .word-at .result in
     let read = c .word-at .ensures in
     (subst (λ (j : ℕ). inside (overlayPages (a .overlays .now)) (a .first) (p - a .first) < j) (b .pre .0) (laws.left-falls (a .overlays .now) (a .first) (a .count) i e below p read), omega (arith, laws.p-low (a .overlays .now) (a .first) (a .count) i e below p read, laws.p-high (a .overlays .now) (a .first) (a .count) i e below p read, b .pre .1))
@@ -149,8 +149,8 @@ first-piece-first-piece-requires t c κs =
 first-piece-returns-2 : (t : ℕ) → first-piece-lts.Need-returns-2 (
   find-inside-reads.Asked,
   find-inside-reads.Learnt,
-  overlay-count-reads.Asked,
-  overlay-count-reads.Learnt,
+  entry-count-reads.Asked,
+  entry-count-reads.Learnt,
   word-at-reads.Asked,
   word-at-reads.Learnt,
   first-piece-below t,
@@ -161,7 +161,7 @@ first-piece-returns-2 t c =
     let a = b .args in
     let i = c .before .before .before .before .before .before .find-inside .result in
     let e = c .before .before .before .before .before .before .find-inside .ensures in
-    let below : i < used (a .overlays .now) = omega (arith, c .before .before .before .before .if1 .left, c .before .before .before .before .before .overlay-count .ensures) in
+    let below : i < used (a .overlays .now) = omega (arith, c .before .before .before .before .if1 .left, c .before .before .before .before .before .entry-count .ensures) in
     let p = c .before .before .before .word-at .result in
     let read = c .before .before .before .word-at .ensures in
     let r = c .before .before .first-piece in
@@ -170,8 +170,8 @@ first-piece-returns-2 t c =
 first-piece-add-first-piece : (t : ℕ) → first-piece-lts.Need-add-first-piece (
   find-inside-reads.Asked,
   find-inside-reads.Learnt,
-  overlay-count-reads.Asked,
-  overlay-count-reads.Learnt,
+  entry-count-reads.Asked,
+  entry-count-reads.Learnt,
   word-at-reads.Asked,
   word-at-reads.Learnt,
   first-piece-below t,
@@ -182,7 +182,7 @@ first-piece-add-first-piece t c =
     let a = b .args in
     let i = c .before .before .before .before .before .before .find-inside .result in
     let e = c .before .before .before .before .before .before .find-inside .ensures in
-    let below : i < used (a .overlays .now) = omega (arith, c .before .before .before .before .if1 .left, c .before .before .before .before .before .overlay-count .ensures) in
+    let below : i < used (a .overlays .now) = omega (arith, c .before .before .before .before .if1 .left, c .before .before .before .before .before .entry-count .ensures) in
     let p = c .before .before .before .word-at .result in
     let read = c .before .before .before .word-at .ensures in
     record { fits = omega (arith, laws.p-low (a .overlays .now) (a .first) (a .count) i e below p read, laws.p-high (a .overlays .now) (a .first) (a .count) i e below p read, b .pre .1) }
@@ -190,8 +190,8 @@ first-piece-add-first-piece t c =
 first-piece-add-first-piece-2 : (t : ℕ) → first-piece-lts.Need-add-first-piece-2 (
   find-inside-reads.Asked,
   find-inside-reads.Learnt,
-  overlay-count-reads.Asked,
-  overlay-count-reads.Learnt,
+  entry-count-reads.Asked,
+  entry-count-reads.Learnt,
   word-at-reads.Asked,
   word-at-reads.Learnt,
   first-piece-below t,
@@ -202,7 +202,7 @@ first-piece-add-first-piece-2 t c =
     let a = b .args in
     let i = c .before .before .before .before .before .before .find-inside .result in
     let e = c .before .before .before .before .before .before .find-inside .ensures in
-    let below : i < used (a .overlays .now) = omega (arith, c .before .before .before .before .if1 .left, c .before .before .before .before .before .overlay-count .ensures) in
+    let below : i < used (a .overlays .now) = omega (arith, c .before .before .before .before .if1 .left, c .before .before .before .before .before .entry-count .ensures) in
     let p = c .before .before .before .word-at .result in
     let read = c .before .before .before .word-at .ensures in
     record { fits = omega (arith, laws.p-low (a .overlays .now) (a .first) (a .count) i e below p read, laws.p-high (a .overlays .now) (a .first) (a .count) i e below p read, b .pre .1) }
@@ -210,8 +210,8 @@ first-piece-add-first-piece-2 t c =
 first-piece-add-first-piece-3 : (t : ℕ) → first-piece-lts.Need-add-first-piece-3 (
   find-inside-reads.Asked,
   find-inside-reads.Learnt,
-  overlay-count-reads.Asked,
-  overlay-count-reads.Learnt,
+  entry-count-reads.Asked,
+  entry-count-reads.Learnt,
   word-at-reads.Asked,
   word-at-reads.Learnt,
   first-piece-below t,
@@ -222,7 +222,7 @@ first-piece-add-first-piece-3 t c =
     let a = b .args in
     let i = c .before .before .before .before .before .before .find-inside .result in
     let e = c .before .before .before .before .before .before .find-inside .ensures in
-    let below : i < used (a .overlays .now) = omega (arith, c .before .before .before .before .if1 .left, c .before .before .before .before .before .overlay-count .ensures) in
+    let below : i < used (a .overlays .now) = omega (arith, c .before .before .before .before .if1 .left, c .before .before .before .before .before .entry-count .ensures) in
     let p = c .before .before .before .word-at .result in
     let read = c .before .before .before .word-at .ensures in
     record { fits = omega (arith, laws.p-low (a .overlays .now) (a .first) (a .count) i e below p read, laws.p-high (a .overlays .now) (a .first) (a .count) i e below p read, b .pre .1) }
@@ -230,8 +230,8 @@ first-piece-add-first-piece-3 t c =
 first-piece-sub-first-piece-2 : (t : ℕ) → first-piece-lts.Need-sub-first-piece-2 (
   find-inside-reads.Asked,
   find-inside-reads.Learnt,
-  overlay-count-reads.Asked,
-  overlay-count-reads.Learnt,
+  entry-count-reads.Asked,
+  entry-count-reads.Learnt,
   word-at-reads.Asked,
   word-at-reads.Learnt,
   first-piece-below t,
@@ -242,7 +242,7 @@ first-piece-sub-first-piece-2 t c =
     let a = b .args in
     let i = c .before .before .before .before .before .before .find-inside .result in
     let e = c .before .before .before .before .before .before .find-inside .ensures in
-    let below : i < used (a .overlays .now) = omega (arith, c .before .before .before .before .if1 .left, c .before .before .before .before .before .overlay-count .ensures) in
+    let below : i < used (a .overlays .now) = omega (arith, c .before .before .before .before .if1 .left, c .before .before .before .before .before .entry-count .ensures) in
     let p = c .before .before .before .word-at .result in
     let read = c .before .before .before .word-at .ensures in
     omega (arith, laws.p-low (a .overlays .now) (a .first) (a .count) i e below p read, laws.p-high (a .overlays .now) (a .first) (a .count) i e below p read, b .pre .1)
@@ -250,8 +250,8 @@ first-piece-sub-first-piece-2 t c =
 first-piece-first-piece-requires-2 : (t : ℕ) → first-piece-lts.Need-first-piece-requires-2 (
   find-inside-reads.Asked,
   find-inside-reads.Learnt,
-  overlay-count-reads.Asked,
-  overlay-count-reads.Learnt,
+  entry-count-reads.Asked,
+  entry-count-reads.Learnt,
   word-at-reads.Asked,
   word-at-reads.Learnt,
   first-piece-below t,
@@ -262,7 +262,7 @@ first-piece-first-piece-requires-2 t c κs =
     let a = b .args in
     let i = c .before .before .before .before .before .before .find-inside .result in
     let e = c .before .before .before .before .before .before .find-inside .ensures in
-    let below : i < used (a .overlays .now) = omega (arith, c .before .before .before .before .if1 .left, c .before .before .before .before .before .overlay-count .ensures) in
+    let below : i < used (a .overlays .now) = omega (arith, c .before .before .before .before .if1 .left, c .before .before .before .before .before .entry-count .ensures) in
     let p = c .before .before .before .word-at .result in
     let read = c .before .before .before .word-at .ensures in
     (subst (λ (j : ℕ). inside (overlayPages (a .overlays .now)) (p + 1) (a .first + a .count - (p + 1)) < j) (b .pre .0) (laws.right-falls (a .overlays .now) (a .first) (a .count) i e below p read), omega (arith, laws.p-low (a .overlays .now) (a .first) (a .count) i e below p read, laws.p-high (a .overlays .now) (a .first) (a .count) i e below p read, b .pre .1))
@@ -270,8 +270,8 @@ first-piece-first-piece-requires-2 t c κs =
 first-piece-returns-3 : (t : ℕ) → first-piece-lts.Need-returns-3 (
   find-inside-reads.Asked,
   find-inside-reads.Learnt,
-  overlay-count-reads.Asked,
-  overlay-count-reads.Learnt,
+  entry-count-reads.Asked,
+  entry-count-reads.Learnt,
   word-at-reads.Asked,
   word-at-reads.Learnt,
   first-piece-below t,
@@ -283,7 +283,7 @@ first-piece-returns-3 t c =
     let a = b .args in
     let i = c7 .find-inside .result in
     let e = c7 .find-inside .ensures in
-    let below : i < used (a .overlays .now) = omega (arith, c5 .if1 .left, c6 .overlay-count .ensures) in
+    let below : i < used (a .overlays .now) = omega (arith, c5 .if1 .left, c6 .entry-count .ensures) in
     let p = c4 .word-at .result in
     let read = c4 .word-at .ensures in
     let r = c .before .before .before .first-piece in
@@ -298,8 +298,8 @@ pub +first-piece-spec : {M : Type 1} → statement M
 +first-piece-spec = close μ-first-piece λ t. first-piece-lts.spec (
   find-inside-reads.Asked,
   find-inside-reads.Learnt,
-  overlay-count-reads.Asked,
-  overlay-count-reads.Learnt,
+  entry-count-reads.Asked,
+  entry-count-reads.Learnt,
   word-at-reads.Asked,
   word-at-reads.Learnt,
   first-piece-below t,
@@ -308,7 +308,7 @@ pub +first-piece-spec : {M : Type 1} → statement M
     (first-piece-at t)
     first-piece.Post
     (first-piece-find-inside-requires t)
-    (first-piece-overlay-count-requires t)
+    (first-piece-entry-count-requires t)
     (first-piece-returns t)
     (first-piece-mul-word-at t)
     (first-piece-add-word-at t)

@@ -15,17 +15,17 @@ Inv-loop overlays first count n i₀ i = stopAt (outside first count) (overlayPa
 abbrev μ-loop : tie.MeasureT-loop
 μ-loop overlays first count n i₀ i = n - i
 
-overlay-count-requires : tie.Need-overlay-count-requires Inv-loop μ-loop
-overlay-count-requires c κs = search needs
+entry-count-requires : tie.Need-entry-count-requires Inv-loop μ-loop
+entry-count-requires c κs = search needs
 
 loop-holds : tie.Need-loop-holds Inv-loop μ-loop
-loop-holds c = let a = c .before .before .args in laws.find-start (outside (a .first) (a .count)) (a .overlays .now) 0 (c .overlay-count .result) 0 (c .overlay-count .ensures) refl
+loop-holds c = let a = c .before .before .args in laws.find-start (outside (a .first) (a .count)) (a .overlays .now) 0 (c .entry-count .result) 0 (c .entry-count .ensures) refl
 
 mul-word-at : tie.Need-mul-word-at Inv-loop μ-loop
-mul-word-at c = omega (arith, c .loop-test .taken, c .before .before .overlay-count .ensures)
+mul-word-at c = omega (arith, c .loop-test .taken, c .before .before .entry-count .ensures)
 
 add-word-at : tie.Need-add-word-at Inv-loop μ-loop
-add-word-at c = omega (arith, c .loop-test .taken, c .before .before .overlay-count .ensures)
+add-word-at c = omega (arith, c .loop-test .taken, c .before .before .entry-count .ensures)
 
 word-at-requires : tie.Need-word-at-requires Inv-loop μ-loop
 word-at-requires c κs = search needs
@@ -41,7 +41,7 @@ returns c =
     omega (
       arith,
       h .inv,
-      laws.find-hit (outside (a .first) (a .count)) (a .overlays .now) (c .before .before .word-at .result) (c5 .overlay-count .result) (h .i)
+      laws.find-hit (outside (a .first) (a .count)) (a .overlays .now) (c .before .before .word-at .result) (c5 .entry-count .result) (h .i)
           (c .before .before .before .loop-test .taken) (c .before .before .word-at .ensures) (sym (c .before .is-outside .ensures) ∙ not-true _ (c .if1 .taken)),
     )
 
@@ -59,12 +59,12 @@ loop-again c =
     omega (
       arith,
       h .inv,
-      laws.find-miss (outside (a .first) (a .count)) (a .overlays .now) (c .before .before .word-at .result) (c5 .overlay-count .result) (h .i)
+      laws.find-miss (outside (a .first) (a .count)) (a .overlays .now) (c .before .before .word-at .result) (c5 .entry-count .result) (h .i)
           (c .before .before .before .loop-test .taken) (c .before .before .word-at .ensures) (sym (c .before .is-outside .ensures) ∙ not-false _ (c .if1 .left)),
     )
 
 returns-2 : tie.Need-returns-2 Inv-loop μ-loop
-returns-2 c = let a = c .before .before .before .before .args in let h = c .before .loop in omega (arith, h .inv, laws.find-end (outside (a .first) (a .count)) (a .overlays .now) 0 (c .before .before .overlay-count .result) (h .i) (c .loop-test .left))
+returns-2 c = let a = c .before .before .before .before .args in let h = c .before .loop in omega (arith, h .inv, laws.find-end (outside (a .first) (a .count)) (a .overlays .now) 0 (c .before .before .entry-count .result) (h .i) (c .loop-test .left))
 
 pub find-inside-spec : {M : Type 1} → statement M
 find-inside-spec =
@@ -72,7 +72,7 @@ find-inside-spec =
     (tie.spec
     Inv-loop
     μ-loop
-    overlay-count-requires
+    entry-count-requires
     loop-holds
     mul-word-at
     add-word-at

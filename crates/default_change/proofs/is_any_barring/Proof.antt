@@ -16,8 +16,8 @@ Inv-loop private overlays locks ram from to end i₀ i = anyOf (barring private 
 abbrev μ-loop : tie.MeasureT-loop
 μ-loop private overlays locks ram from to end i₀ i = end - i
 
-least-requires : tie.Need-least-requires Inv-loop μ-loop
-least-requires c κs = search needs
+min-requires : tie.Need-min-requires Inv-loop μ-loop
+min-requires c κs = search needs
 
 loop-holds : tie.Need-loop-holds Inv-loop μ-loop
 loop-holds c = refl
@@ -33,7 +33,7 @@ returns c =
     let c4 = c .before .before .before .before in let c5 = c4 .before in
     let a = c5 .before .before .before .before .before .args in
     let h = c4 .loop in
-    let least = c5 .least .ensures in
+    let least = c5 .min .ensures in
     laws.any-hit (barring (a .private .now) (a .overlays .now) (entriesOf (a .ram .now))) (a .locks .now) (h .i) (a .to) (c .before .before .word-at .result) (omega arith)
     (omega arith) (c .before .before .word-at .ensures) (anyOf (barring (a .private .now) (a .overlays .now) (entriesOf (a .ram .now))) (part (a .locks .now) (a .to) (a .from)))
     (h .inv) (c .before .is-barring .result) (c .before .is-barring .ensures) (c .if1 .taken)
@@ -49,7 +49,7 @@ loop-again c =
     let c4 = c .before .before .before .before in let c5 = c4 .before in
     let a = c5 .before .before .before .before .before .args in
     let h = c4 .loop in
-    let least = c5 .least .ensures in
+    let least = c5 .min .ensures in
     laws.any-miss (barring (a .private .now) (a .overlays .now) (entriesOf (a .ram .now))) (a .locks .now) (h .i) (a .to) (c .before .before .word-at .result) (omega arith)
     (omega arith) (c .before .before .word-at .ensures) (anyOf (barring (a .private .now) (a .overlays .now) (entriesOf (a .ram .now))) (part (a .locks .now) (a .to) (a .from)))
     (h .inv) (c .before .is-barring .result) (c .before .is-barring .ensures) (c .if1 .left)
@@ -58,7 +58,7 @@ returns-2 : tie.Need-returns-2 Inv-loop μ-loop
 returns-2 c =
     let a = c .before .before .before .before .before .before .before .args in
     let h = c .before .loop in
-    laws.any-end (barring (a .private .now) (a .overlays .now) (entriesOf (a .ram .now))) (a .locks .now) (h .i) (a .to) (omega (arith, c .before .before .least .ensures))
+    laws.any-end (barring (a .private .now) (a .overlays .now) (entriesOf (a .ram .now))) (a .locks .now) (h .i) (a .to) (omega (arith, c .before .before .min .ensures))
     (anyOf (barring (a .private .now) (a .overlays .now) (entriesOf (a .ram .now))) (part (a .locks .now) (a .to) (a .from))) (h .inv)
 
 pub is-any-barring-spec : {M : Type 1} → statement M
@@ -67,7 +67,7 @@ is-any-barring-spec =
     (tie.spec
     Inv-loop
     μ-loop
-    least-requires
+    min-requires
     loop-holds
     word-at-requires
     is-barring-requires

@@ -21,12 +21,12 @@ returns-2 c = λ e. true-false (sym e)
 byte-at-requires : tie.Need-byte-at-requires
 byte-at-requires c κs = search needs
 
-whole-byte-requires : tie.Need-whole-byte-requires
-whole-byte-requires c κs = search needs
+full-requires : tie.Need-full-requires
+full-requires c κs = search needs
 
 returns-3 : tie.Need-returns-3
-returns-3 c = λ e. let a = c .before .before .before .before .before .args in (omega (arith, c .before .before .if2 .left, c .before .before .before .before .before .pre), laws.whole-span (a .state) (a .map .now) (a .p) (c .before .before .before .if1 .left) (sym (c .before .byte-at .ensures) ∙ eqb-true _ _ e ∙ c .whole-byte .ensures))
+returns-3 c = λ e. let a = c .before .before .before .before .before .args in (omega (arith, c .before .before .if2 .left, c .before .before .before .before .before .pre), laws.whole-span (a .state) (a .map .now) (a .p) (c .before .before .before .if1 .left) (sym (c .before .byte-at .ensures) ∙ eqb-true _ _ e ∙ c .full .ensures))
 
 pub is-whole-spec : {M : Type 1} → statement M
 is-whole-spec =
-    tie.close (tie.spec returns sub-if2 returns-2 byte-at-requires whole-byte-requires returns-3)
+    tie.close (tie.spec returns sub-if2 returns-2 byte-at-requires full-requires returns-3)

@@ -28,8 +28,8 @@ entry-at-requires c κs = search needs
 page-up-requires : tie.Need-page-up-requires Inv-loop μ-loop
 page-up-requires c κs = search needs
 
-greatest-requires : tie.Need-greatest-requires Inv-loop μ-loop
-greatest-requires c κs = search needs
+max-requires : tie.Need-max-requires Inv-loop μ-loop
+max-requires c κs = search needs
 
 page-up-requires-2 : tie.Need-page-up-requires-2 Inv-loop μ-loop
 page-up-requires-2 c κs = search needs
@@ -46,11 +46,11 @@ returns c =
     let P = wanted (a .private .now) (a .overlays .now) in
     let es = entriesOf (a .ram .now) in (
       laws.next-hit P es (a .at) (h .i) (omega (arith, c7 .loop-test .taken, c9 .entry-count .ensures)) (c6 .entry-at .result) (c6 .entry-at .ensures) (c5 .page-up .result)
-          (c .before .before .before .page-up2 .result) (c4 .greatest .result) (c5 .page-up .ensures) (c4 .greatest .ensures) (c .before .before .before .page-up2 .ensures) (r .result)
+          (c .before .before .before .page-up2 .result) (c4 .max .result) (c5 .page-up .ensures) (c4 .max .ensures) (c .before .before .before .page-up2 .ensures) (r .result)
           (r .ensures) (c .if1 .taken) ∙ h .inv,
       omega (
         arith,
-        laws.piece-low P (c4 .greatest .result) (c .before .before .before .page-up2 .result) (r .result) (r .ensures)
+        laws.piece-low P (c4 .max .result) (c .before .before .before .page-up2 .result) (r .result) (r .ensures)
             (c .if1 .taken),
         c .before .before .before .page-up2 .ok,
       ),
@@ -71,7 +71,7 @@ loop-again c =
     let P = wanted (a .private .now) (a .overlays .now) in
     let es = entriesOf (a .ram .now) in
     sym (laws.next-miss P es (a .at) (h .i) (omega (arith, c7 .loop-test .taken, c9 .entry-count .ensures)) (c6 .entry-at .result) (c6 .entry-at .ensures) (c5 .page-up .result)
-    (c .before .before .before .page-up2 .result) (c4 .greatest .result) (c5 .page-up .ensures) (c4 .greatest .ensures) (c .before .before .before .page-up2 .ensures) (r .result)
+    (c .before .before .before .page-up2 .result) (c4 .max .result) (c5 .page-up .ensures) (c4 .max .ensures) (c .before .before .before .page-up2 .ensures) (r .result)
     (r .ensures) (c .if1 .left)) ∙ h .inv
 
 returns-2 : tie.Need-returns-2 Inv-loop μ-loop
@@ -90,7 +90,7 @@ next-piece-spec =
     loop-holds
     entry-at-requires
     page-up-requires
-    greatest-requires
+    max-requires
     page-up-requires-2
     piece-between-requires
     returns

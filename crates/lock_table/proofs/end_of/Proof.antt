@@ -17,8 +17,8 @@ abbrev μ-loop : tie.MeasureT-loop
 loop-holds : tie.Need-loop-holds Inv-loop μ-loop
 loop-holds c = refl
 
-next-requires : tie.Need-next-requires Inv-loop μ-loop
-next-requires c κs = search needs
+list-end-requires : tie.Need-list-end-requires Inv-loop μ-loop
+list-end-requires c κs = search needs
 
 sub-left : tie.Need-sub-left Inv-loop μ-loop
 sub-left c = search needs
@@ -27,7 +27,7 @@ loop-less : tie.Need-loop-less Inv-loop μ-loop
 loop-less c = search needs
 
 loop-again : tie.Need-loop-again Inv-loop μ-loop
-loop-again c = let h = c .before .before .loop in laws.end-more (c .before .before .before .before .args .t .now) (h .left) (h .place) _ (omega arith) (c .next .ensures) ∙ h .inv
+loop-again c = let h = c .before .before .loop in laws.end-more (c .before .before .before .before .args .t .now) (h .left) (h .place) _ (omega arith) (c .list-end .ensures) ∙ h .inv
 
 returns : tie.Need-returns Inv-loop μ-loop
 returns c = let h = c .before .loop in sym (laws.end-end (c .before .before .before .args .t .now) (h .left) (h .place) (omega arith)) ∙ h .inv
@@ -35,4 +35,4 @@ returns c = let h = c .before .loop in sym (laws.end-end (c .before .before .bef
 pub end-of-spec : {M : Type 1} → statement M
 end-of-spec =
     tie.close
-    (tie.spec Inv-loop μ-loop loop-holds next-requires sub-left loop-less loop-again returns)
+    (tie.spec Inv-loop μ-loop loop-holds list-end-requires sub-left loop-less loop-again returns)

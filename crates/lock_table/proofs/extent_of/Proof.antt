@@ -18,14 +18,14 @@ abbrev μ-loop : tie.MeasureT-loop
 loop-holds : tie.Need-loop-holds Inv-loop μ-loop
 loop-holds c = (omega arith, omega arith, omega arith, refl)
 
-next-requires : tie.Need-next-requires Inv-loop μ-loop
-next-requires c κs = search needs
+list-end-requires : tie.Need-list-end-requires Inv-loop μ-loop
+list-end-requires c κs = search needs
 
 pages-between-requires : tie.Need-pages-between-requires Inv-loop μ-loop
 pages-between-requires c κs = search needs
 
 add-sum : tie.Need-add-sum Inv-loop μ-loop
-add-sum c = omega (arith, c .pages-between .ensures, c .before .next .ensures)
+add-sum c = omega (arith, c .pages-between .ensures, c .before .list-end .ensures)
 
 sub-left : tie.Need-sub-left Inv-loop μ-loop
 sub-left c = search needs
@@ -37,7 +37,7 @@ loop-again : tie.Need-loop-again Inv-loop μ-loop
 loop-again c =
     let h = c .before .before .before .loop in
     let n = c .pages-between .ensures in
-    let e = c .before .next .ensures in
+    let e = c .before .list-end .ensures in
     let t = c .before .before .before .before .before .args .t .now in (
       omega arith,
       omega arith,
@@ -58,7 +58,7 @@ extent-of-spec =
     Inv-loop
     μ-loop
     loop-holds
-    next-requires
+    list-end-requires
     pages-between-requires
     add-sum
     sub-left

@@ -18,11 +18,11 @@ abbrev μ-loop : tie.MeasureT-loop
 loop-holds : tie.Need-loop-holds Inv-loop μ-loop
 loop-holds c = (refl, λ h. refl)
 
-next-requires : tie.Need-next-requires Inv-loop μ-loop
-next-requires c κs = search needs
+list-end-requires : tie.Need-list-end-requires Inv-loop μ-loop
+list-end-requires c κs = search needs
 
 is-same-requires : tie.Need-is-same-requires Inv-loop μ-loop
-is-same-requires c κs = omega (arith, c .next .ensures)
+is-same-requires c κs = omega (arith, c .list-end .ensures)
 
 sub-t9 : tie.Need-sub-t9 Inv-loop μ-loop
 sub-t9 c = search needs
@@ -31,7 +31,7 @@ returns : tie.Need-returns Inv-loop μ-loop
 returns c =
     let a = c .before .before .before .before .before .before .before .args in
     let h = c .before .before .before .before .loop in
-    (sym (laws.place-hit (a .t .now) (h .place) (pagesOf (a .list .now)) _ (h .left) (omega arith) (c .before .before .next .ensures) (sym (c .before .is-same .ensures) ∙ c .if1 .taken)) ∙ h .inv .0, λ some. h .inv .1 (omega arith))
+    (sym (laws.place-hit (a .t .now) (h .place) (pagesOf (a .list .now)) _ (h .left) (omega arith) (c .before .before .list-end .ensures) (sym (c .before .is-same .ensures) ∙ c .if1 .taken)) ∙ h .inv .0, λ some. h .inv .1 (omega arith))
 
 sub-left : tie.Need-sub-left Inv-loop μ-loop
 sub-left c = search needs
@@ -43,8 +43,8 @@ loop-again : tie.Need-loop-again Inv-loop μ-loop
 loop-again c =
     let a = c .before .before .before .before .before .before .before .args in
     let h = c .before .before .before .before .loop in (
-      sym (laws.place-miss (a .t .now) (h .place) (pagesOf (a .list .now)) _ (h .left) (omega arith) (c .before .before .next .ensures) (sym (c .before .is-same .ensures) ∙ c .if1 .left)) ∙ h .inv .0,
-      λ more. laws.end-more (a .t .now) (h .left - 1) (h .place) _ more (c .before .before .next .ensures) ∙ h .inv .1 (omega arith),
+      sym (laws.place-miss (a .t .now) (h .place) (pagesOf (a .list .now)) _ (h .left) (omega arith) (c .before .before .list-end .ensures) (sym (c .before .is-same .ensures) ∙ c .if1 .left)) ∙ h .inv .0,
+      λ more. laws.end-more (a .t .now) (h .left - 1) (h .place) _ more (c .before .before .list-end .ensures) ∙ h .inv .1 (omega arith),
     )
 
 returns-2 : tie.Need-returns-2 Inv-loop μ-loop
@@ -60,7 +60,7 @@ find-spec =
     Inv-loop
     μ-loop
     loop-holds
-    next-requires
+    list-end-requires
     is-same-requires
     sub-t9
     returns

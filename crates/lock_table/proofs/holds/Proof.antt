@@ -14,14 +14,14 @@ Inv-loop t gpn left₀ place₀ left place = (place ≤ 0x8000_0000_0000_0000) �
 abbrev μ-loop : tie.MeasureT-loop
 μ-loop t gpn left₀ place₀ left place = left
 
-count-requires : tie.Need-count-requires Inv-loop μ-loop
-count-requires c κs = search needs
+list-count-requires : tie.Need-list-count-requires Inv-loop μ-loop
+list-count-requires c κs = search needs
 
 loop-holds : tie.Need-loop-holds Inv-loop μ-loop
-loop-holds c = (omega arith, ap (λ (k : ℕ). held (listsFrom (c .before .before .args .t .now) k 1) (c .before .before .args .gpn)) (c .count .ensures))
+loop-holds c = (omega arith, ap (λ (k : ℕ). held (listsFrom (c .before .before .args .t .now) k 1) (c .before .before .args .gpn)) (c .list-count .ensures))
 
-next-requires : tie.Need-next-requires Inv-loop μ-loop
-next-requires c κs = search needs
+list-end-requires : tie.Need-list-end-requires Inv-loop μ-loop
+list-end-requires c κs = search needs
 
 add-is-among : tie.Need-add-is-among Inv-loop μ-loop
 add-is-among c = search needs
@@ -33,7 +33,7 @@ returns : tie.Need-returns Inv-loop μ-loop
 returns c =
     let a = c .before .before .before .before .before .before .before .args in
     let h = c .before .before .before .before .loop in
-    sym (laws.held-hit (a .t .now) (h .place) (a .gpn) _ (h .left) (omega arith) (c .before .before .next .ensures) (sym (c .before .is-among .ensures) ∙ c .if1 .taken)) ∙ h .inv .1
+    sym (laws.held-hit (a .t .now) (h .place) (a .gpn) _ (h .left) (omega arith) (c .before .before .list-end .ensures) (sym (c .before .is-among .ensures) ∙ c .if1 .taken)) ∙ h .inv .1
 
 sub-left : tie.Need-sub-left Inv-loop μ-loop
 sub-left c = search needs
@@ -45,7 +45,7 @@ loop-again : tie.Need-loop-again Inv-loop μ-loop
 loop-again c =
     let a = c .before .before .before .before .before .before .before .args in
     let h = c .before .before .before .before .loop in
-    (omega (arith, c .before .before .next .ensures), sym (laws.held-miss (a .t .now) (h .place) (a .gpn) _ (h .left) (omega arith) (c .before .before .next .ensures) (sym (c .before .is-among .ensures) ∙ c .if1 .left)) ∙ h .inv .1)
+    (omega (arith, c .before .before .list-end .ensures), sym (laws.held-miss (a .t .now) (h .place) (a .gpn) _ (h .left) (omega arith) (c .before .before .list-end .ensures) (sym (c .before .is-among .ensures) ∙ c .if1 .left)) ∙ h .inv .1)
 
 returns-2 : tie.Need-returns-2 Inv-loop μ-loop
 returns-2 c =
@@ -59,9 +59,9 @@ holds-spec =
     (tie.spec
     Inv-loop
     μ-loop
-    count-requires
+    list-count-requires
     loop-holds
-    next-requires
+    list-end-requires
     add-is-among
     is-among-requires
     returns

@@ -15,8 +15,8 @@ Inv-loop t from to gpn end i₀ i = among (part t to i) gpn ≡ among (part t to
 abbrev μ-loop : tie.MeasureT-loop
 μ-loop t from to gpn end i₀ i = end - i
 
-least-requires : tie.Need-least-requires Inv-loop μ-loop
-least-requires c κs = search needs
+min-requires : tie.Need-min-requires Inv-loop μ-loop
+min-requires c κs = search needs
 
 loop-holds : tie.Need-loop-holds Inv-loop μ-loop
 loop-holds c = refl
@@ -28,7 +28,7 @@ returns : tie.Need-returns Inv-loop μ-loop
 returns c =
     let a = c .before .before .before .before .before .before .args in
     let h = c .before .before .before .loop in
-    let least = c .before .before .before .before .least .ensures in
+    let least = c .before .before .before .before .min .ensures in
     sym (laws.among-hit (a .t .now) (h .i) (a .to) (a .gpn) _ (omega arith) (omega arith) (c .before .word-at .ensures) (c .if1 .taken)) ∙ h .inv
 
 add-i : tie.Need-add-i Inv-loop μ-loop
@@ -41,14 +41,14 @@ loop-again : tie.Need-loop-again Inv-loop μ-loop
 loop-again c =
     let a = c .before .before .before .before .before .before .args in
     let h = c .before .before .before .loop in
-    let least = c .before .before .before .before .least .ensures in
+    let least = c .before .before .before .before .min .ensures in
     sym (laws.among-miss (a .t .now) (h .i) (a .to) (a .gpn) _ (omega arith) (omega arith) (c .before .word-at .ensures) (c .if1 .left)) ∙ h .inv
 
 returns-2 : tie.Need-returns-2 Inv-loop μ-loop
 returns-2 c =
     let a = c .before .before .before .before .args in
     let h = c .before .loop in
-    sym (laws.among-end (a .t .now) (h .i) (a .to) (a .gpn) (omega (arith, c .before .before .least .ensures))) ∙ h .inv
+    sym (laws.among-end (a .t .now) (h .i) (a .to) (a .gpn) (omega (arith, c .before .before .min .ensures))) ∙ h .inv
 
 pub is-among-spec : {M : Type 1} → statement M
 is-among-spec =
@@ -56,7 +56,7 @@ is-among-spec =
     (tie.spec
     Inv-loop
     μ-loop
-    least-requires
+    min-requires
     loop-holds
     word-at-requires
     returns

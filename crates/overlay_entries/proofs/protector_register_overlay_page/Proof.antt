@@ -139,8 +139,8 @@ into-bits-requires c κs = search needs
 start-new-requires : tie.Need-start-new-requires
 start-new-requires c κs = search needs
 
-carry-out-requires : tie.Need-carry-out-requires
-carry-out-requires c κs =
+apply-step-requires : tie.Need-apply-step-requires
+apply-step-requires c κs =
     let c6 = c .before .before .before .before .before .before in let c14 = c6 .before .before .before .before .before .before .before .before in let c15 = c14 .before in
     let c18 = c15 .before .before .before in let c24 = c18 .before .before .before .before .before .before in
     let c34 = c24 .before .before .before .before .before .before .before .before .before .before in
@@ -185,7 +185,7 @@ returns-3 c =
     (c31 .current-flags .ensures) (c28 .register-refusal .ensures)) (registerTaken w (vtlOf (a .vtl)) (a .gpn) (a .source) (a .new)) _ (c27 .if1 .left)
     (laws.register-carried w (c37 .vtl-of .result) (a .gpn) (a .source) (a .new) _ _ (c25 .overlays-of .ensures) (c24 .is-overlay .ensures) (c21 .settings .result)
     (c31 .current-flags .result) _ (c19 .start-new .result) _ _ _ _ (c23 .if2 .left) (c21 .settings .ensures) (c31 .current-flags .ensures) (c20 .into-bits .ensures)
-    (c19 .start-new .ensures) (c12 .carry-out .ensures .0) (c12 .carry-out .ensures .1 .0) (c12 .carry-out .ensures .1 .1 .0) (c12 .carry-out .ensures .1 .1 .1) ∙ ap
+    (c19 .start-new .ensures) (c12 .apply-step .ensures .0) (c12 .apply-step .ensures .1 .0) (c12 .apply-step .ensures .1 .1 .0) (c12 .apply-step .ensures .1 .1 .1) ∙ ap
     (λ (x : GuestVtl). registerTaken w x (a .gpn) (a .source) (a .new)) (c37 .vtl-of .ensures))
 
 pub protector-register-overlay-page-spec : {M : Type 1} → statement M
@@ -219,7 +219,7 @@ protector-register-overlay-page-spec =
     settings-requires
     into-bits-requires
     start-new-requires
-    carry-out-requires
+    apply-step-requires
     same-length-13
     same-length-14
     same-length-15

@@ -81,8 +81,8 @@ settings-requires c κs =
 start-old-requires : tie.Need-start-old-requires
 start-old-requires c κs = search needs
 
-carry-out-requires : tie.Need-carry-out-requires
-carry-out-requires c κs =
+apply-step-requires : tie.Need-apply-step-requires
+apply-step-requires c κs =
     let c6 = c .before .before .before .before .before .before in let c13 = c6 .before .before .before .before .before .before .before in let c14 = c13 .before in
     let c15 = c14 .before in let c27 = c15 .before .before .before .before .before .before .before .before .before .before .before .before in
     let a = c27 .args in
@@ -122,8 +122,8 @@ returns-3 c =
     let w = world (maps (a .private .now) (a .shared .now) (a .read .now) (a .write .now) (a .kernel .now) (a .user .now)) (a .state .now) (a .pages .now) (a .tables .now) in
     call-taken w _ _ (c28 .unregister-refusal .ensures) (unregisterTaken w (vtlOf (a .vtl)) (a .gpn)) _ (c27 .if1 .left)
     (laws.unregister-carried w (c26 .vtl-of .result) (a .gpn) _ (c24 .entry-of .ensures) (c20 .settings .result) (c19 .start-old .result) _ _ _ _ (c22 .if2 .left)
-    (c20 .settings .ensures) (c19 .start-old .ensures) (c12 .carry-out .ensures .0) (c12 .carry-out .ensures .1 .0) (c12 .carry-out .ensures .1 .1 .0)
-    (c12 .carry-out .ensures .1 .1 .1) ∙ ap (λ (x : GuestVtl). unregisterTaken w x (a .gpn)) (c26 .vtl-of .ensures))
+    (c20 .settings .ensures) (c19 .start-old .ensures) (c12 .apply-step .ensures .0) (c12 .apply-step .ensures .1 .0) (c12 .apply-step .ensures .1 .1 .0)
+    (c12 .apply-step .ensures .1 .1 .1) ∙ ap (λ (x : GuestVtl). unregisterTaken w x (a .gpn)) (c26 .vtl-of .ensures))
 
 pub protector-unregister-overlay-page-spec : {M : Type 1} → statement M
 protector-unregister-overlay-page-spec =
@@ -144,7 +144,7 @@ protector-unregister-overlay-page-spec =
     returns-2
     settings-requires
     start-old-requires
-    carry-out-requires
+    apply-step-requires
     same-length-5
     same-length-6
     same-length-7

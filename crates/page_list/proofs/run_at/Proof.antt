@@ -22,8 +22,8 @@ returns c = let a = c .before .before .args in laws.run-none (a .t .now) (a .n) 
 word-at-requires : tie.Need-word-at-requires Inv-loop μ-loop
 word-at-requires c κs = search needs
 
-least-requires : tie.Need-least-requires Inv-loop μ-loop
-least-requires c κs = search needs
+min-requires : tie.Need-min-requires Inv-loop μ-loop
+min-requires c κs = search needs
 
 add-i : tie.Need-add-i Inv-loop μ-loop
 add-i c = search needs
@@ -45,7 +45,7 @@ returns-2 c =
     let a = c .before .before .before .before .before .before .before .before .before .args in
     let t = a .t .now in
     let h = c .before .before .before .before .loop in
-    let least = c .before .before .before .before .before .least .ensures in
+    let least = c .before .before .before .before .before .min .ensures in
     let e = ap (λ (q : ℕ). eqb q (h .p + 1)) (sym (c .before .before .word-at2 .ensures)) ∙ sym (c .before .is-neighbour .ensures) ∙ not-true (c .before .is-neighbour .result) (c .if2 .taken) in
     let z = laws.apart t (a .n) (h .i) (h .p) (omega arith) (omega arith) e in
     let f = ap (λ (q : ℕ). neighbours q (part t (a .n) (a .from + 1))) (c .before .before .before .before .before .before .word-at .ensures) in
@@ -62,7 +62,7 @@ loop-again c =
     let a = c .before .before .before .before .before .before .before .before .before .args in
     let t = a .t .now in
     let h = c .before .before .before .before .loop in
-    let least = c .before .before .before .before .before .least .ensures in
+    let least = c .before .before .before .before .before .min .ensures in
     let e = ap (λ (q : ℕ). eqb q (h .p + 1)) (sym (c .before .before .word-at2 .ensures)) ∙ sym (c .before .is-neighbour .ensures) ∙ not-false (c .before .is-neighbour .result) (c .if2 .left) in
     let k = laws.next t (a .n) (h .i) (h .p) (omega arith) (omega arith) e in
     let f = ap (λ (q : ℕ). neighbours q (part t (a .n) (h .i + 1))) (c .before .before .word-at2 .ensures) in
@@ -76,7 +76,7 @@ returns-3 c =
     let a = c .before .before .before .before .before .before .args in
     let t = a .t .now in
     let h = c .before .loop in
-    let least = c .before .before .least .ensures in
+    let least = c .before .before .min .ensures in
     let z = laws.over t (a .n) (h .i) (h .p) (omega arith) in
     let f = ap (λ (q : ℕ). neighbours q (part t (a .n) (a .from + 1))) (c .before .before .before .word-at .ensures) in
     laws.run-here t (a .n) (a .from) _ _ (omega arith) (c .before .before .before .word-at .ensures) (omega (arith, z, f, h .inv .1))
@@ -89,7 +89,7 @@ run-at-spec =
     μ-loop
     returns
     word-at-requires
-    least-requires
+    min-requires
     add-i
     loop-holds
     word-at-requires-2

@@ -36,8 +36,8 @@ store-default-requires c κs =
     laws.state-fits (world (maps (a .private .now) (a .shared .now) (a .read .now) (a .write .now) (a .kernel .now) (a .user .now)) (a .state .now) (a .pages .now)
     (a .tables .now)) (a .vtl) (a .flags) _ (c .before .before .before .default-refusal .ensures) (c .before .before .if1 .left)
 
-is-barred-requires : tie.Need-is-barred-requires
-is-barred-requires c κs =
+has-locked-page-requires : tie.Need-has-locked-page-requires
+has-locked-page-requires c κs =
     let c4 = c .before .before .before .before in let c6 = c4 .before .before in let c7 = c6 .before in let c8 = c7 .before in
     let a = c8 .before .before .before .before .before .before .before .before .before .before .before .args in
     let w = world (maps (a .private .now) (a .shared .now) (a .read .now) (a .write .now) (a .kernel .now) (a .user .now)) (a .state .now) (a .pages .now) (a .tables .now) in (
@@ -64,11 +64,11 @@ returns-2 c =
     let w = world m (a .state .now) (a .pages .now) (a .tables .now) in
     call-taken w _ _ (c11 .default-refusal .ensures) (defaultTaken (stored w (vtlOf (a .vtl)) (a .flags)) (vtlOf (a .vtl)) (a .flags)) _ (c10 .if1 .left)
     (laws.default-stored w (c9 .vtl-of .result) (vtlOf (a .vtl)) (a .flags) _ _ (c9 .vtl-of .ensures) (c7 .store-default .ensures)
-    (laws.default-barred (world m _ (a .pages .now) (a .tables .now)) (c9 .vtl-of .result) (a .flags) _ (c .before .before .is-barred .ensures) _ (c .before .if2 .taken)
+    (laws.default-barred (world m _ (a .pages .now) (a .tables .now)) (c9 .vtl-of .result) (a .flags) _ (c .before .before .has-locked-page .ensures) _ (c .before .if2 .taken)
     (c .refused2 .ensures)))
 
-renew-requires : tie.Need-renew-requires
-renew-requires c κs =
+update-previous-permissions-requires : tie.Need-update-previous-permissions-requires
+update-previous-permissions-requires c κs =
     let c8 = c .before .before .before .before .before .before .before .before in let c10 = c8 .before .before in let c11 = c10 .before in let c12 = c11 .before in
     let a = c12 .before .before .before .before .before .before .before .before .before .before .before .args in
     let w = world (maps (a .private .now) (a .shared .now) (a .read .now) (a .write .now) (a .kernel .now) (a .user .now)) (a .state .now) (a .pages .now) (a .tables .now) in (
@@ -84,12 +84,12 @@ default-step-requires c κs =
     let a = c17 .before .before .before .before .before .before .before .before .before .before .before .args in
     let w = world (maps (a .private .now) (a .shared .now) (a .read .now) (a .write .now) (a .kernel .now) (a .user .now)) (a .state .now) (a .pages .now) (a .tables .now) in (
       laws.stored-fits w (a .vtl) (a .flags) _ (c17 .default-refusal .ensures) (c16 .if1 .left) (c15 .vtl-of .result) _ (c13 .store-default .ensures),
-      c4 .renew .kept .0 ∙ laws.tables-fit w
+      c4 .update-previous-permissions .kept .0 ∙ laws.tables-fit w
           (a .vtl) (a .flags) _ (c17 .default-refusal .ensures) (c16 .if1 .left),
     )
 
-carry-out-requires : tie.Need-carry-out-requires
-carry-out-requires c κs =
+apply-step-requires : tie.Need-apply-step-requires
+apply-step-requires c κs =
     let c5 = c .before .before .before .before .before in
     let c19 = c5 .before .before .before .before .before .before .before .before .before .before .before .before .before .before in let c21 = c19 .before .before in
     let c22 = c21 .before in let c23 = c22 .before in
@@ -112,7 +112,7 @@ same-length-7 : tie.Need-same-length-7
 same-length-7 c = search needs
 
 same-length-8 : tie.Need-same-length-8
-same-length-8 c = c .before .before .before .before .before .before .before .before .before .before .carry-out .kept .1 .1 .1 .1 .0 ∙ c .before .before .before .before .before .before .before .before .before .before .before .before .before .before .before .before .before .before .before .before .before .before .before .before .before .before .before .before .before .before .store-default .kept .0
+same-length-8 c = c .before .before .before .before .before .before .before .before .before .before .apply-step .kept .1 .1 .1 .1 .0 ∙ c .before .before .before .before .before .before .before .before .before .before .before .before .before .before .before .before .before .before .before .before .before .before .before .before .before .before .before .before .before .before .store-default .kept .0
 
 same-length-9 : tie.Need-same-length-9
 same-length-9 c = search needs
@@ -128,9 +128,9 @@ returns-3 c =
     call-taken (world m (a .state .now) (a .pages .now) (a .tables .now)) _ _ (c34 .default-refusal .ensures)
     (defaultTaken (stored (world m (a .state .now) (a .pages .now) (a .tables .now)) (vtlOf (a .vtl)) (a .flags)) (vtlOf (a .vtl)) (a .flags)) _ (c33 .if1 .left)
     (laws.default-stored (world m (a .state .now) (a .pages .now) (a .tables .now)) (c32 .vtl-of .result) (vtlOf (a .vtl)) (a .flags) _ _ (c32 .vtl-of .ensures)
-    (c30 .store-default .ensures) (laws.default-free (world m _ (a .pages .now) (a .tables .now)) (c32 .vtl-of .result) (a .flags) _ (c25 .is-barred .ensures) _ (c24 .if2 .left)
-    (laws.default-started (world m _ (a .pages .now) (a .tables .now)) (c32 .vtl-of .result) (a .flags) _ _ _ _ _ (c21 .renew .ensures) (c16 .default-step .ensures .0)
-    (c10 .carry-out .ensures .0) (c10 .carry-out .ensures .1 .0) (c10 .carry-out .ensures .1 .1))))
+    (c30 .store-default .ensures) (laws.default-free (world m _ (a .pages .now) (a .tables .now)) (c32 .vtl-of .result) (a .flags) _ (c25 .has-locked-page .ensures) _ (c24 .if2 .left)
+    (laws.default-started (world m _ (a .pages .now) (a .tables .now)) (c32 .vtl-of .result) (a .flags) _ _ _ _ _ (c21 .update-previous-permissions .ensures) (c16 .default-step .ensures .0)
+    (c10 .apply-step .ensures .0) (c10 .apply-step .ensures .1 .0) (c10 .apply-step .ensures .1 .1))))
 
 pub protector-change-default-vtl-protections-spec : {M : Type 1} → statement M
 protector-change-default-vtl-protections-spec =
@@ -142,14 +142,14 @@ protector-change-default-vtl-protections-spec =
     returns
     vtl-of-requires
     store-default-requires
-    is-barred-requires
+    has-locked-page-requires
     refused-requires-2
     same-length-2
     same-length-3
     returns-2
-    renew-requires
+    update-previous-permissions-requires
     default-step-requires
-    carry-out-requires
+    apply-step-requires
     same-length-4
     same-length-5
     same-length-6

@@ -43,8 +43,8 @@ protection-step-requires c κs =
     let w = world (maps (a .private .now) (a .shared .now) (a .read .now) (a .write .now) (a .kernel .now) (a .user .now)) (a .state .now) (a .pages .now) (a .tables .now) in
     laws.protection-passed w (a .vtl) (a .flags) (a .list .now) _ (c .before .before .before .before .before .before .before .before .before .protection-refusal .ensures) (c .before .before .before .before .before .before .before .before .if1 .left) .0
 
-carry-out-requires : tie.Need-carry-out-requires
-carry-out-requires c κs =
+apply-step-requires : tie.Need-apply-step-requires
+apply-step-requires c κs =
     let c5 = c .before .before .before .before .before in let c14 = c5 .before .before .before .before .before .before .before .before .before in let c15 = c14 .before in
     let a = c15 .before .before .before .before .before .before .before .before .before .before .before .before .args in
     let w = world (maps (a .private .now) (a .shared .now) (a .read .now) (a .write .now) (a .kernel .now) (a .user .now)) (a .state .now) (a .pages .now) (a .tables .now) in
@@ -76,9 +76,9 @@ returns-2 c =
     let a = c26 .before .before .before .before .before .before .before .before .before .before .before .before .args in
     let w = world (maps (a .private .now) (a .shared .now) (a .read .now) (a .write .now) (a .kernel .now) (a .user .now)) (a .state .now) (a .pages .now) (a .tables .now) in
     call-taken w _ _ (c26 .protection-refusal .ensures) (protectionTaken w (vtlOf (a .vtl)) (a .flags) (a .list .now)) _ (c25 .if1 .left)
-    (laws.protection-made w (c24 .vtl-of .result) (vtlOf (a .vtl)) (a .flags) (a .list .now) (c23 .page-count .result) _ (c16 .protection-step .result) _ _ (c10 .carry-out .result)
-    (c24 .vtl-of .ensures) (c23 .page-count .ensures) (c21 .store-all .ensures) (c16 .protection-step .ensures .0) (c10 .carry-out .ensures .0) (c10 .carry-out .ensures .1 .0)
-    (c10 .carry-out .ensures .1 .1))
+    (laws.protection-made w (c24 .vtl-of .result) (vtlOf (a .vtl)) (a .flags) (a .list .now) (c23 .page-count .result) _ (c16 .protection-step .result) _ _ (c10 .apply-step .result)
+    (c24 .vtl-of .ensures) (c23 .page-count .ensures) (c21 .store-all .ensures) (c16 .protection-step .ensures .0) (c10 .apply-step .ensures .0) (c10 .apply-step .ensures .1 .0)
+    (c10 .apply-step .ensures .1 .1))
 
 pub protector-change-vtl-protections-spec : {M : Type 1} → statement M
 protector-change-vtl-protections-spec =
@@ -92,7 +92,7 @@ protector-change-vtl-protections-spec =
     page-count-requires
     store-all-requires
     protection-step-requires
-    carry-out-requires
+    apply-step-requires
     same-length-2
     same-length-3
     same-length-4

@@ -22,8 +22,8 @@ load-requires c κs = search needs
 done-requires : tie.Need-done-requires
 done-requires c κs = search needs
 
-carry-on-requires : tie.Need-carry-on-requires
-carry-on-requires c κs =
+apply-done-requires : tie.Need-apply-done-requires
+apply-done-requires c κs =
     let c8 = c .before .before .before .before .before .before .before .before in
     let c22 = c8 .before .before .before .before .before .before .before .before .before .before .before .before .before .before in
     (c22 .pre .0, omega (arith, laws.in-use (c22 .args .state .now) _ (c8 .load .ensures), c22 .pre .1))
@@ -59,10 +59,10 @@ returns c =
     let m = maps (a .private .now) (a .shared .now) (a .read .now) (a .write .now) (a .kernel .now) (a .user .now) in
     let x = c22 .done .result in
     let e = laws.done-is s t _ (settingsOf s) _ _ (requestOf s) x (c27 .settings .ensures) (c25 .phase .ensures) (c23 .load .ensures) (c22 .done .ensures) in (
-      c14 .carry-on .ensures .0 ∙ ap (λ (y : Step). applied t (y .writes) m) e,
+      c14 .apply-done .ensures .0 ∙ ap (λ (y : Step). applied t (y .writes) m) e,
       (
-        c14 .carry-on .ensures .1 .0 ∙ ap (λ (y : Step). withRequest (y .phase) (y .request) s) e,
-        c14 .carry-on .ensures .1 .1 ∙ ap
+        c14 .apply-done .ensures .1 .0 ∙ ap (λ (y : Step). withRequest (y .phase) (y .request) s) e,
+        c14 .apply-done .ensures .1 .1 ∙ ap
             (λ (y : Step). flatOf (settingsOf s .isolation) (y .answer)) e,
       ),
     )
@@ -75,7 +75,7 @@ answer-done-spec =
     phase-requires
     load-requires
     done-requires
-    carry-on-requires
+    apply-done-requires
     same-length
     same-length-2
     same-length-3

@@ -12,11 +12,11 @@ shared-slice-read-vtl-of c = search needs
 vtl-of-requires : tie.Need-vtl-of-requires
 vtl-of-requires c κs = search needs
 
-shared-slice-read-least : tie.Need-shared-slice-read-least
-shared-slice-read-least c = search needs
+shared-slice-read-min : tie.Need-shared-slice-read-min
+shared-slice-read-min c = search needs
 
-least-requires : tie.Need-least-requires
-least-requires c κs = search needs
+min-requires : tie.Need-min-requires
+min-requires c κs = search needs
 
 shared-slice-read-t12 : tie.Need-shared-slice-read-t12
 shared-slice-read-t12 c = search needs
@@ -46,8 +46,8 @@ load-spec =
     shared-slice-read-t3
     shared-slice-read-vtl-of
     vtl-of-requires
-    shared-slice-read-least
-    least-requires
+    shared-slice-read-min
+    min-requires
     shared-slice-read-t12
     shared-slice-read-t14
     shared-slice-read-t17

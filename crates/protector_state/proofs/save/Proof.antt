@@ -12,14 +12,14 @@ phase-number-requires c κs = search needs
 vtl-number-requires : tie.Need-vtl-number-requires
 vtl-number-requires c κs = search needs
 
-digit-of-requires : tie.Need-digit-of-requires
-digit-of-requires c κs = search needs
+bool-to-u64-requires : tie.Need-bool-to-u64-requires
+bool-to-u64-requires c κs = search needs
 
-digit-of-requires-2 : tie.Need-digit-of-requires-2
-digit-of-requires-2 c κs = search needs
+bool-to-u64-requires-2 : tie.Need-bool-to-u64-requires-2
+bool-to-u64-requires-2 c κs = search needs
 
-digit-of-requires-3 : tie.Need-digit-of-requires-3
-digit-of-requires-3 c κs = search needs
+bool-to-u64-requires-3 : tie.Need-bool-to-u64-requires-3
+bool-to-u64-requires-3 c κs = search needs
 
 slice-write-state : tie.Need-slice-write-state
 slice-write-state c = search needs
@@ -57,8 +57,8 @@ same-length c = search needs
 returns : tie.Need-returns
 returns c =
     let a = c .before .before .before .before .before .before .args in
-    laws.request-saved (a .phase) (a .q) (a .state .now) _ _ _ _ _ (omega arith) (c .before .before .before .before .phase-number .ensures) (c .before .before .digit-of .ensures .0)
-    (c .before .before .before .vtl-number .ensures) (c .before .digit-of2 .ensures .0) (c .digit-of3 .ensures .0)
+    laws.request-saved (a .phase) (a .q) (a .state .now) _ _ _ _ _ (omega arith) (c .before .before .before .before .phase-number .ensures) (c .before .before .bool-to-u64 .ensures .0)
+    (c .before .before .before .vtl-number .ensures) (c .before .bool-to-u642 .ensures .0) (c .bool-to-u643 .ensures .0)
 
 pub save-spec : {M : Type 1} → statement M
 save-spec =
@@ -66,9 +66,9 @@ save-spec =
     (tie.spec
     phase-number-requires
     vtl-number-requires
-    digit-of-requires
-    digit-of-requires-2
-    digit-of-requires-3
+    bool-to-u64-requires
+    bool-to-u64-requires-2
+    bool-to-u64-requires-3
     slice-write-state
     slice-write-state-2
     slice-write-state-3

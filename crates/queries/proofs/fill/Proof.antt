@@ -21,8 +21,8 @@ abbrev μ-loop : tie.MeasureT-loop
 page-count-requires : tie.Need-page-count-requires Inv-loop μ-loop
 page-count-requires c κs = search needs
 
-least-requires : tie.Need-least-requires Inv-loop μ-loop
-least-requires c κs = search needs
+min-requires : tie.Need-min-requires Inv-loop μ-loop
+min-requires c κs = search needs
 
 loop-holds : tie.Need-loop-holds Inv-loop μ-loop
 loop-holds c = let a = c .before .before .before .before .before .args in (omega arith, refl, laws.filled-none (visibilities (a .shared .now) (pagesOf (a .list .now))) (a .out .now))
@@ -34,7 +34,7 @@ shared-byte-requires : tie.Need-shared-byte-requires Inv-loop μ-loop
 shared-byte-requires c κs = search needs
 
 slice-write-out : tie.Need-slice-write-out Inv-loop μ-loop
-slice-write-out c = let h = c .before .before .before .loop in omega (arith, h .inv .1, c .before .before .before .before .least .ensures)
+slice-write-out c = let h = c .before .before .before .loop in omega (arith, h .inv .1, c .before .before .before .before .min .ensures)
 
 add-i : tie.Need-add-i Inv-loop μ-loop
 add-i c = search needs
@@ -50,7 +50,7 @@ loop-again c =
     let bs = visibilities (a .shared .now) ps in
     let h = c .before .before .before .loop in
     let n = c5 .page-count .ensures in
-    let l = c4 .least .ensures in
+    let l = c4 .min .ensures in
     let g = laws.count-visibilities (a .shared .now) ps in (
       omega arith,
       simp length-set (h .inv .1),
@@ -69,7 +69,7 @@ returns c =
     let bs = visibilities (a .shared .now) ps in
     let h = c .before .loop in
     let n = c .before .before .before .page-count .ensures in
-    let l = c .before .before .least .ensures in
+    let l = c .before .before .min .ensures in
     let g = laws.count-visibilities (a .shared .now) ps in
     h .inv .2 ∙ laws.filled-all bs (a .out .now) (h .i) (omega (arith, n, l, g))
 
@@ -80,7 +80,7 @@ fill-spec =
     Inv-loop
     μ-loop
     page-count-requires
-    least-requires
+    min-requires
     loop-holds
     page-at-requires
     shared-byte-requires

@@ -34,14 +34,14 @@ returns c =
     let a = c .before .before .before .before .before .before .before .before .before .before .args in
     laws.answer-asked (a .state .now) (a .total) (a .count) (a .until) (a .chunk) (c .asked .result) (c .before .before .before .before .wrapping-add-u64 .result) (c .before .wrapping-add-u642 .result) (c .before .before .before .before .before .before .before .if1 .taken) (c .before .before .before .before .wrapping-add-u64 .ensures) (c .before .wrapping-add-u642 .ensures) (c .asked .ensures)
 
-least-requires : tie.Need-least-requires
-least-requires c κs = search needs
+min-requires : tie.Need-min-requires
+min-requires c κs = search needs
 
 shared-slice-read-registration-failed : tie.Need-shared-slice-read-registration-failed
 shared-slice-read-registration-failed c = search needs
 
 mul-registration-failed : tie.Need-mul-registration-failed
-mul-registration-failed c = omega (arith, c .before .before .before .before .before .before .pre .1 (omega (arith, c .before .before .least .ensures, c .before .if2 .taken)))
+mul-registration-failed c = omega (arith, c .before .before .before .before .before .before .pre .1 (omega (arith, c .before .before .min .ensures, c .before .if2 .taken)))
 
 registration-failed-requires : tie.Need-registration-failed-requires
 registration-failed-requires c κs = search needs
@@ -49,7 +49,7 @@ registration-failed-requires c κs = search needs
 returns-2 : tie.Need-returns-2
 returns-2 c =
     let a = c .before .before .before .before .before .before .before .args in
-    laws.answer-failed (a .state .now) (a .total) (a .count) (a .until) (a .chunk) (c .registration-failed .result) (c .before .before .before .before .if1 .left) (c .before .before .before .least .result) (c .before .before .before .least .ensures) (c .before .before .if2 .taken) (c .registration-failed .ensures)
+    laws.answer-failed (a .state .now) (a .total) (a .count) (a .until) (a .chunk) (c .registration-failed .result) (c .before .before .before .before .if1 .left) (c .before .before .before .min .result) (c .before .before .before .min .ensures) (c .before .before .if2 .taken) (c .registration-failed .ensures)
 
 done-requires : tie.Need-done-requires
 done-requires c κs = search needs
@@ -57,7 +57,7 @@ done-requires c κs = search needs
 returns-3 : tie.Need-returns-3
 returns-3 c =
     let a = c .before .before .before .before .before .before .args in
-    laws.answer-done (a .state .now) (a .total) (a .count) (a .until) (a .chunk) (c .done .result) (c .before .before .before .if1 .left) (c .before .before .least .result) (c .before .before .least .ensures) (c .before .if2 .left) (c .done .ensures)
+    laws.answer-done (a .state .now) (a .total) (a .count) (a .until) (a .chunk) (c .done .result) (c .before .before .before .if1 .left) (c .before .before .min .result) (c .before .before .min .ensures) (c .before .if2 .left) (c .done .ensures)
 
 pub answer-spec : {M : Type 1} → statement M
 answer-spec =
@@ -72,7 +72,7 @@ answer-spec =
     wrapping-add-u64-requires-2
     asked-requires
     returns
-    least-requires
+    min-requires
     shared-slice-read-registration-failed
     mul-registration-failed
     registration-failed-requires

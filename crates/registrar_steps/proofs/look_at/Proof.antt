@@ -33,8 +33,8 @@ returns-2 c =
 div-requires : tie.Need-div-requires
 div-requires c κs = search needs
 
-greatest-requires : tie.Need-greatest-requires
-greatest-requires c κs = search needs
+max-requires : tie.Need-max-requires
+max-requires c κs = search needs
 
 div-requires-2 : tie.Need-div-requires-2
 div-requires-2 c κs = search needs
@@ -47,8 +47,8 @@ returns-3 c =
     let a = c .before .before .before .before .before .before .before .before .before .before .before .before .args in
     let p = c .before .before .before .before .before .before .aligned-subrange in
     let unaligned-edge = c .before .before .before .before .before .before .before .before .before .unaligned-edge in
-    let greatest = c .before .before .greatest in
-    laws.look-in (a .granularity) (a .registered .now) (a .failed .now) (a .alignment) (a .ignore) (a .chunk) (a .span) (unaligned-edge .result) (unaligned-edge .ensures) (sym (c .before .before .before .before .before .before .before .before .edge-refused .ensures) ∙ c .before .before .before .before .before .before .before .if1 .left) (p .result) (p .ensures) (greatest .result) (c .before .div2 .result) (c .stretch-in .result) (c .before .before .before .before .if2 .left) (greatest .ensures ∙ ap (max (a .chunk)) (c .before .before .before .div .ensures)) (c .before .div2 .ensures) (c .stretch-in .ensures)
+    let most = c .before .before .max in
+    laws.look-in (a .granularity) (a .registered .now) (a .failed .now) (a .alignment) (a .ignore) (a .chunk) (a .span) (unaligned-edge .result) (unaligned-edge .ensures) (sym (c .before .before .before .before .before .before .before .before .edge-refused .ensures) ∙ c .before .before .before .before .before .before .before .if1 .left) (p .result) (p .ensures) (most .result) (c .before .div2 .result) (c .stretch-in .result) (c .before .before .before .before .if2 .left) (most .ensures ∙ ap (max (a .chunk)) (c .before .before .before .div .ensures)) (c .before .div2 .ensures) (c .stretch-in .ensures)
 
 pub look-at-spec : {M : Type 1} → statement M
 look-at-spec =
@@ -60,7 +60,7 @@ look-at-spec =
     aligned-subrange-requires
     returns-2
     div-requires
-    greatest-requires
+    max-requires
     div-requires-2
     stretch-in-requires
     returns-3)

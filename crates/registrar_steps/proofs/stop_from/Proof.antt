@@ -8,17 +8,17 @@ use Rattle.registrar_steps.proofs.Laws as laws
 use Rattle.registrar_steps.proofs.stop_from.Statement.{statement}
 use Rattle.registrar_steps.proofs.stop_from.Tie as tie
 
-least-requires : tie.Need-least-requires
-least-requires c κs = search needs
+min-requires : tie.Need-min-requires
+min-requires c κs = search needs
 
 walk-requires : tie.Need-walk-requires
 walk-requires c κs = λ k h.
-    laws.walk-fits (c .before .before .before .before .args .ram .now) (c .before .before .before .before .args .granularity) (c .before .before .before .before .args .until) (c .before .before .before .before .args .total) (c .least .result) k (λ j. c .before .before .before .shared-slice-known .given j .fits) (c .before .before .before .before .pre) (c .least .ensures) h
+    laws.walk-fits (c .before .before .before .before .args .ram .now) (c .before .before .before .before .args .granularity) (c .before .before .before .before .args .until) (c .before .before .before .before .args .total) (c .min .result) k (λ j. c .before .before .before .shared-slice-known .given j .fits) (c .before .before .before .before .pre) (c .min .ensures) h
 
 returns : tie.Need-returns
 returns c =
     let a = c .before .before .before .before .before .args in
-    (c .walk .ensures ∙ ap (stopAt (seen (a .granularity) (entriesOf (a .ram .now)) (a .registered .now) (a .failed .now)) (a .from)) (c .before .least .ensures), λ h. laws.walk-fits (a .ram .now) (a .granularity) (a .until) (a .total) (min (a .until) (a .total)) (c .walk .result .chunk) (λ j. c .before .before .before .before .shared-slice-known .given j .fits) (c .before .before .before .before .before .pre) refl h)
+    (c .walk .ensures ∙ ap (stopAt (seen (a .granularity) (entriesOf (a .ram .now)) (a .registered .now) (a .failed .now)) (a .from)) (c .before .min .ensures), λ h. laws.walk-fits (a .ram .now) (a .granularity) (a .until) (a .total) (min (a .until) (a .total)) (c .walk .result .chunk) (λ j. c .before .before .before .before .shared-slice-known .given j .fits) (c .before .before .before .before .before .pre) refl h)
 
 pub stop-from-spec : {M : Type 1} → statement M
-stop-from-spec = tie.close (tie.spec least-requires walk-requires returns)
+stop-from-spec = tie.close (tie.spec min-requires walk-requires returns)

@@ -15,8 +15,8 @@ Inv-loop map₀ t from to state stop i₀ map i = (length map ≡ length map₀)
 abbrev μ-loop : tie.MeasureT-loop
 μ-loop map₀ t from to state stop i₀ map i = stop - i
 
-least-requires : tie.Need-least-requires Inv-loop μ-loop
-least-requires c κs = search needs
+min-requires : tie.Need-min-requires Inv-loop μ-loop
+min-requires c κs = search needs
 
 loop-holds : tie.Need-loop-holds Inv-loop μ-loop
 loop-holds c = (refl, refl)
@@ -31,7 +31,7 @@ sub-word-at : tie.Need-sub-word-at Inv-loop μ-loop
 sub-word-at c =
     let a = c .before .before .before .before .before .before .before .before .args in
     let h = c .before .before .before .before .loop in
-    let before-to : h .i < a .to = omega (arith, c .before .before .before .before .before .least .ensures) in
+    let before-to : h .i < a .to = omega (arith, c .before .before .before .before .before .min .ensures) in
     omega (arith, c .before .before .run-end .ensures, laws.end-after (a .t .now) (a .to) (h .i) before-to)
 
 word-at-requires-2 : tie.Need-word-at-requires-2 Inv-loop μ-loop
@@ -41,7 +41,7 @@ set-run-requires : tie.Need-set-run-requires Inv-loop μ-loop
 set-run-requires c κs =
     let a = c .before .before .before .before .before .before .before .before .before .args in
     let h = c .before .before .before .before .before .loop in
-    let stop = c .before .before .before .before .before .before .least .ensures in
+    let stop = c .before .before .before .before .before .before .min .ensures in
     laws.last-above (a .t .now) (a .to) (h .i) _ _ _ (omega arith) (omega arith) (c .before .before .before .run-end .ensures)
     (c .before .word-at .ensures) (c .word-at2 .ensures)
 
@@ -49,14 +49,14 @@ loop-less : tie.Need-loop-less Inv-loop μ-loop
 loop-less c =
     let a = c .before .before .before .before .before .before .before .before .before .before .before .before .args in
     let h = c .before .before .before .before .before .before .before .before .loop in
-    let before-to : h .i < a .to = omega (arith, c .before .before .before .before .before .before .before .before .before .least .ensures) in
+    let before-to : h .i < a .to = omega (arith, c .before .before .before .before .before .before .before .before .before .min .ensures) in
     omega (arith, c .before .before .before .before .before .before .run-end .ensures, laws.end-after (a .t .now) (a .to) (h .i) before-to)
 
 loop-again : tie.Need-loop-again Inv-loop μ-loop
 loop-again c =
     let a = c .before .before .before .before .before .before .before .before .before .before .before .before .args in
     let h = c .before .before .before .before .before .before .before .before .loop in
-    let stop = c .before .before .before .before .before .before .before .before .before .least .ensures in (
+    let stop = c .before .before .before .before .before .before .before .before .before .min .ensures in (
       search needs,
       laws.put-run (a .t .now) (a .to) (h .i) _ _ _ (omega arith) (omega arith) (c .before .before .before .before .before .before .run-end .ensures)
           (c .before .before .before .before .word-at .ensures) (c .before .before .before .word-at2 .ensures) (a .state) (h .map) _ (c .before .before .set-run .ensures)
@@ -70,7 +70,7 @@ returns : tie.Need-returns Inv-loop μ-loop
 returns c =
     let a = c .before .before .before .before .before .args in
     let h = c .before .loop in
-    sym (laws.put-past (a .t .now) (a .to) (h .i) (a .state) (h .map) (omega (arith, c .before .before .least .ensures))) ∙ h .inv .1
+    sym (laws.put-past (a .t .now) (a .to) (h .i) (a .state) (h .map) (omega (arith, c .before .before .min .ensures))) ∙ h .inv .1
 
 pub set-places-spec : {M : Type 1} → statement M
 set-places-spec =
@@ -78,7 +78,7 @@ set-places-spec =
     (tie.spec
     Inv-loop
     μ-loop
-    least-requires
+    min-requires
     loop-holds
     run-end-requires
     word-at-requires

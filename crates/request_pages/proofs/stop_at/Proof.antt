@@ -32,8 +32,8 @@ loop-holds c = omega arith
 page-at-requires : tie.Need-page-at-requires Inv-loop μ-loop
 page-at-requires c κs = search needs
 
-is-open-requires : tie.Need-is-open-requires Inv-loop μ-loop
-is-open-requires c κs = search needs
+is-readable-and-writable-requires : tie.Need-is-readable-and-writable-requires Inv-loop μ-loop
+is-readable-and-writable-requires c κs = search needs
 
 returns-2 : tie.Need-returns-2 Inv-loop μ-loop
 returns-2 c =
@@ -42,7 +42,7 @@ returns-2 c =
     let f = isOpen (a .read .now) (a .write .now) (a .asked) in
     let count = c .before .before .before .before .before .before .page-count .ensures in
     let z = laws.stop-hit f (pagesOf (a .list .now)) (h .i) _ _ (omega arith) (c .before .before .page-at .ensures)
-    (laws.open-asked (a .read .now) (a .write .now) (a .asked) (not-false _ (c .before .before .before .before .before .if1 .left)) _ _ (c .before .is-open .ensures)) (not-true _ (c .if2 .taken)) in
+    (laws.open-asked (a .read .now) (a .write .now) (a .asked) (not-false _ (c .before .before .before .before .before .if1 .left)) _ _ (c .before .is-readable-and-writable .ensures)) (not-true _ (c .if2 .taken)) in
     omega (arith, z, h .inv)
 
 add-i : tie.Need-add-i Inv-loop μ-loop
@@ -58,7 +58,7 @@ loop-again c =
     let f = isOpen (a .read .now) (a .write .now) (a .asked) in
     let count = c .before .before .before .before .before .before .page-count .ensures in
     let z = laws.stop-miss f (pagesOf (a .list .now)) (h .i) _ _ (omega arith) (c .before .before .page-at .ensures)
-    (laws.open-asked (a .read .now) (a .write .now) (a .asked) (not-false _ (c .before .before .before .before .before .if1 .left)) _ _ (c .before .is-open .ensures)) (not-false _ (c .if2 .left)) in
+    (laws.open-asked (a .read .now) (a .write .now) (a .asked) (not-false _ (c .before .before .before .before .before .if1 .left)) _ _ (c .before .is-readable-and-writable .ensures)) (not-false _ (c .if2 .left)) in
     omega (arith, z, h .inv)
 
 returns-3 : tie.Need-returns-3 Inv-loop μ-loop
@@ -78,7 +78,7 @@ stop-at-spec =
     returns
     loop-holds
     page-at-requires
-    is-open-requires
+    is-readable-and-writable-requires
     returns-2
     add-i
     loop-less

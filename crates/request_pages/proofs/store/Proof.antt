@@ -21,8 +21,8 @@ abbrev μ-loop : tie.MeasureT-loop
 page-count-requires : tie.Need-page-count-requires Inv-loop μ-loop
 page-count-requires c κs = search needs
 
-least-requires : tie.Need-least-requires Inv-loop μ-loop
-least-requires c κs = search needs
+min-requires : tie.Need-min-requires Inv-loop μ-loop
+min-requires c κs = search needs
 
 loop-holds : tie.Need-loop-holds Inv-loop μ-loop
 unfolding pick
@@ -40,7 +40,7 @@ store-one-requires c κs =
     let h = c .before .before .before .before .loop in
     let P = wanted (s .args .shared .now) (s .args .share) in
     let ps = pagesOf (s .args .list .now) in
-    let least = c .before .before .before .before .before .least .ensures in
+    let least = c .before .before .before .before .before .min .ensures in
     let count = c .before .before .before .before .before .before .page-count .ensures in
     let few : h .i < 512 = omega (arith, laws.pages-few (s .args .list .now) (s .pre .1)) in
     let l = length-take (h .i) ps in (
@@ -63,7 +63,7 @@ loop-again c =
     let one = c .before .before .store-one in
     let e = c .before .before .before .before .before .page-at .ensures in
     let w = c .before .before .before .is-wanted .ensures in
-    let least = c .before .before .before .before .before .before .before .before .least .ensures in
+    let least = c .before .before .before .before .before .before .before .before .min .ensures in
     let count = c .before .before .before .before .before .before .before .before .before .page-count .ensures in
     let in-list : h .i < length ps = omega arith in
     let few : h .i < 512 = omega (arith, laws.pages-few (s .args .list .now) (s .pre .1)) in (
@@ -89,7 +89,7 @@ returns c =
     let h = c .before .loop in
     let P = wanted (a .shared .now) (a .share) in
     let ps = pagesOf (a .list .now) in
-    let n = c .before .before .least .ensures in
+    let n = c .before .before .min .ensures in
     let m = c .before .before .before .page-count .ensures in
     let all : take (h .i) ps ≡ take (a .stop) ps = laws.take-stop (h .i) (a .stop) ps (omega arith) (omega arith) in (
       h .inv .1 ∙ ap (λ (l : List ℕ). length (pick P l)) all,
@@ -103,7 +103,7 @@ store-spec =
     Inv-loop
     μ-loop
     page-count-requires
-    least-requires
+    min-requires
     loop-holds
     page-at-requires
     is-wanted-requires

@@ -16,8 +16,8 @@ returns c = laws.enabled-refused (c .before .before .before .before .args .state
 settings-requires : tie.Need-settings-requires
 settings-requires c κs = laws.passed-length (c .before .before .before .args .state .now) (c .before .state-refusal .result) (c .before .state-refusal .ensures) (c .if1 .left)
 
-digit-of-requires : tie.Need-digit-of-requires
-digit-of-requires c κs = search needs
+bool-to-u64-requires : tie.Need-bool-to-u64-requires
+bool-to-u64-requires c κs = search needs
 
 ok-value-requires : tie.Need-ok-value-requires
 ok-value-requires c κs = search needs
@@ -26,7 +26,7 @@ returns-2 : tie.Need-returns-2
 returns-2 c =
     let c4 = c .before .before .before .before in let c6 = c4 .before .before in
     laws.enabled-told (c6 .args .state .now) (c4 .state-refusal .result) (c4 .state-refusal .ensures) (c .ok-value .result) (c .before .before .before .if1 .left)
-    (c .before .before .settings .result) (c .before .before .settings .ensures) (c .before .digit-of .result) (c .ok-value .ensures) (c .before .digit-of .ensures .0)
+    (c .before .before .settings .result) (c .before .before .settings .ensures) (c .before .bool-to-u64 .result) (c .ok-value .ensures) (c .before .bool-to-u64 .ensures .0)
 
 pub protector-vtl1-protections-enabled-spec : {M : Type 1} → statement M
 protector-vtl1-protections-enabled-spec =
@@ -36,6 +36,6 @@ protector-vtl1-protections-enabled-spec =
     refused-value-requires
     returns
     settings-requires
-    digit-of-requires
+    bool-to-u64-requires
     ok-value-requires
     returns-2)

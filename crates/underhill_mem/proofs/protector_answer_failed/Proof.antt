@@ -92,8 +92,8 @@ load-requires c κs =
 failed-requires : tie.Need-failed-requires
 failed-requires c κs = search needs
 
-carry-out-requires : tie.Need-carry-out-requires
-carry-out-requires c κs =
+apply-step-requires : tie.Need-apply-step-requires
+apply-step-requires c κs =
     let c19 = c .before .before .before .before .before .before .before .before .before .before .before .before .before .before .before .before .before .before .before in
     let c20 = c19 .before in let c31 = c20 .before .before .before .before .before .before .before .before .before .before .before in
     laws.answer-passed (c31 .args .state .now) _ _ (c19 .if1 .left) true (c20 .answer-refusal .ensures)
@@ -132,10 +132,10 @@ returns-3 c =
     let w = world (maps (a .private .now) (a .shared .now) (a .read .now) (a .write .now) (a .kernel .now) (a .user .now)) (a .state .now) (a .pages .now) (a .tables .now) in
     call-taken w _ _ (c35 .answer-refusal .ensures) (cond (isChanging (a .state .now)) (changeFailed w) (visibilityFailed w (a .code) (a .processed))) _ (c34 .if1 .left)
     (chose-not _ _ (changeFailed w) (visibilityFailed w (a .code) (a .processed)) _ (c32 .is-changing .ensures) (c31 .if2 .left)
-    (laws.carried w (a .pages .now) (c29 .settings .result) (c23 .failed .result) _ _ _ (c14 .carry-out .result) (c29 .settings .ensures)
+    (laws.carried w (a .pages .now) (c29 .settings .result) (c23 .failed .result) _ _ _ (c14 .apply-step .result) (c29 .settings .ensures)
     (c23 .failed .ensures ∙ ap₂ (λ (s : Settings) (p : Phase). failedOf s p (c25 .load .result) (a .pages .now) (a .code) (a .processed)) (c29 .settings .ensures)
     (c27 .phase .ensures) ∙ ap (λ (x : Request). failedOf (settingsOf (a .state .now)) (phaseIn (a .state .now)) x (a .pages .now) (a .code) (a .processed)) (c25 .load .ensures))
-    (c14 .carry-out .ensures .0) (c14 .carry-out .ensures .1 .0) (c14 .carry-out .ensures .1 .1)))
+    (c14 .apply-step .ensures .0) (c14 .apply-step .ensures .1 .0) (c14 .apply-step .ensures .1 .1)))
 
 pub protector-answer-failed-spec : {M : Type 1} → statement M
 protector-answer-failed-spec =
@@ -158,7 +158,7 @@ protector-answer-failed-spec =
     phase-requires
     load-requires
     failed-requires
-    carry-out-requires
+    apply-step-requires
     same-length-8
     same-length-9
     same-length-10

@@ -36,8 +36,8 @@ settings-requires c κs =
 vtl-of-requires : tie.Need-vtl-of-requires
 vtl-of-requires c κs = search needs
 
-looks-at-requires : tie.Need-looks-at-requires
-looks-at-requires c κs = search needs
+checks-permissions-requires : tie.Need-checks-permissions-requires
+checks-permissions-requires c κs = search needs
 
 stop-at-requires : tie.Need-stop-at-requires
 stop-at-requires c κs = search needs
@@ -91,8 +91,8 @@ returns-2 c =
     let a = c37 .before .before .before .before .before .before .before .before .before .before .before .before .args in
     let w = world (maps (a .private .now) (a .shared .now) (a .read .now) (a .write .now) (a .kernel .now) (a .user .now)) (a .state .now) (a .pages .now) (a .tables .now) in
     call-taken w _ _ (c37 .visibility-refusal .ensures) (visibilityTaken w (vtlOf (a .vtl)) (boolOf (a .visibility)) (a .list .now)) _ (c36 .if1 .left)
-    (laws.visibility-made w (c33 .vtl-of .result) (boolOf (a .visibility)) (a .list .now) (c34 .settings .result) (c32 .looks-at .result) (c29 .stop-at .result)
-    (c26 .store .result) (c23 .page-count .result) _ _ _ _ (c34 .settings .ensures) (c32 .looks-at .ensures) (c29 .stop-at .ensures) (c26 .store .ensures .0)
+    (laws.visibility-made w (c33 .vtl-of .result) (boolOf (a .visibility)) (a .list .now) (c34 .settings .result) (c32 .checks-permissions .result) (c29 .stop-at .result)
+    (c26 .store .result) (c23 .page-count .result) _ _ _ _ (c34 .settings .ensures) (c32 .checks-permissions .ensures) (c29 .stop-at .ensures) (c26 .store .ensures .0)
     (c26 .store .ensures .1) (c23 .page-count .ensures) (c14 .begin .ensures .0) (c14 .begin .ensures .1 .0) (c14 .begin .ensures .1 .1) ∙ ap
     (λ (x : GuestVtl). visibilityTaken w x (boolOf (a .visibility)) (a .list .now)) (c33 .vtl-of .ensures))
 
@@ -106,7 +106,7 @@ protector-change-host-visibility-spec =
     returns
     settings-requires
     vtl-of-requires
-    looks-at-requires
+    checks-permissions-requires
     stop-at-requires
     store-requires
     page-count-requires

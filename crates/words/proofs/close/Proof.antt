@@ -21,8 +21,8 @@ Inv-loop2 t₀ place n len end i₀ t i = (length t ≡ length t₀) × (i₀ �
 abbrev μ-loop2 : tie.MeasureT-loop2
 μ-loop2 t₀ place n len end i₀ t i = len - i
 
-minus-requires : tie.Need-minus-requires Inv-loop μ-loop Inv-loop2 μ-loop2
-minus-requires c κs = search needs
+saturating-sub-requires : tie.Need-saturating-sub-requires Inv-loop μ-loop Inv-loop2 μ-loop2
+saturating-sub-requires c κs = search needs
 
 loop-holds : tie.Need-loop-holds Inv-loop μ-loop Inv-loop2 μ-loop2
 loop-holds c = (refl, refl)
@@ -34,13 +34,13 @@ mul-w : tie.Need-mul-w Inv-loop μ-loop Inv-loop2 μ-loop2
 mul-w c = omega arith
 
 slice-read-w : tie.Need-slice-read-w Inv-loop μ-loop Inv-loop2 μ-loop2
-slice-read-w c = omega (arith, c .before .before .before .minus .ensures, c .before .before .loop .inv .0)
+slice-read-w c = omega (arith, c .before .before .before .saturating-sub .ensures, c .before .before .loop .inv .0)
 
 mul-t : tie.Need-mul-t Inv-loop μ-loop Inv-loop2 μ-loop2
 mul-t c = omega arith
 
 slice-write-t : tie.Need-slice-write-t Inv-loop μ-loop Inv-loop2 μ-loop2
-slice-write-t c = omega (arith, c .before .before .before .minus .ensures, c .before .before .loop .inv .0)
+slice-write-t c = omega (arith, c .before .before .before .saturating-sub .ensures, c .before .before .loop .inv .0)
 
 add-i : tie.Need-add-i Inv-loop μ-loop Inv-loop2 μ-loop2
 add-i c = omega arith
@@ -52,7 +52,7 @@ loop-again : tie.Need-loop-again Inv-loop μ-loop Inv-loop2 μ-loop2
 loop-again c =
     let a = c .before .before .before .before .before .args in
     let h = c .before .before .loop in
-    (simp length-set (h .inv .0), laws.gap-more (h .t) (h .i) (a .n) _ _ (omega (arith, c .before .before .before .minus .ensures, c .before .before .loop .inv .0)) refl refl ∙ h .inv .1)
+    (simp length-set (h .inv .0), laws.gap-more (h .t) (h .i) (a .n) _ _ (omega (arith, c .before .before .before .saturating-sub .ensures, c .before .before .loop .inv .0)) refl refl ∙ h .inv .1)
 
 loop2-holds : tie.Need-loop2-holds Inv-loop μ-loop Inv-loop2 μ-loop2
 loop2-holds c = (refl, omega arith, refl)
@@ -74,7 +74,7 @@ loop2-again c =
     let a = c .before .before .before .before .before .before .args in
     let h = c .before .loop2 in
     let first = c .before .before .before .loop in
-    let past : length (h .t) ≤ h .i + a .n = omega (arith, c .before .before .before .before .minus .ensures, first .inv .0, h .inv .0, h .inv .1) in (
+    let past : length (h .t) ≤ h .i + a .n = omega (arith, c .before .before .before .before .saturating-sub .ensures, first .inv .0, h .inv .0, h .inv .1) in (
       simp length-set (h .inv .0),
       omega arith,
       laws.gap-more (h .t) (h .i) (a .n) 0 _ (omega (arith, first .inv .0, h .inv .0)) (sym (List·getD-eq-default (h .t) 0 past)) refl ∙ h .inv .2,
@@ -97,7 +97,7 @@ close-spec =
     μ-loop
     Inv-loop2
     μ-loop2
-    minus-requires
+    saturating-sub-requires
     loop-holds
     add-from
     mul-w

@@ -14,14 +14,14 @@ place-after-requires-2 c κs = search needs
 place-after-requires-3 : tie.Need-place-after-requires-3
 place-after-requires-3 c κs = search needs
 
-turn-requires : tie.Need-turn-requires
-turn-requires c κs = search needs
+reverse-requires : tie.Need-reverse-requires
+reverse-requires c κs = search needs
 
-turn-requires-2 : tie.Need-turn-requires-2
-turn-requires-2 c κs = search needs
+reverse-requires-2 : tie.Need-reverse-requires-2
+reverse-requires-2 c κs = search needs
 
-turn-requires-3 : tie.Need-turn-requires-3
-turn-requires-3 c κs = search needs
+reverse-requires-3 : tie.Need-reverse-requires-3
+reverse-requires-3 c κs = search needs
 
 same-length : tie.Need-same-length
 same-length c = search needs
@@ -31,8 +31,8 @@ returns c =
     let c6 = c .before .before .before .before .before .before in let c10 = c6 .before .before .before .before in let c12 = c10 .before .before in let c14 = c12 .before .before in
     let c16 = c14 .before .before in
     let a = c16 .before .before .before .args in
-    laws.runs-swapped (a .t .now) (a .place) (a .n) (a .m) _ _ _ _ _ _ (c16 .place-after .ensures) (c14 .place-after2 .ensures) (c12 .place-after3 .ensures) (c10 .turn .ensures)
-    (c6 .turn2 .ensures) (c .before .before .turn3 .ensures)
+    laws.runs-swapped (a .t .now) (a .place) (a .n) (a .m) _ _ _ _ _ _ (c16 .place-after .ensures) (c14 .place-after2 .ensures) (c12 .place-after3 .ensures) (c10 .reverse .ensures)
+    (c6 .reverse2 .ensures) (c .before .before .reverse3 .ensures)
 
 pub swap-runs-spec : {M : Type 1} → statement M
 swap-runs-spec =
@@ -41,8 +41,8 @@ swap-runs-spec =
     place-after-requires
     place-after-requires-2
     place-after-requires-3
-    turn-requires
-    turn-requires-2
-    turn-requires-3
+    reverse-requires
+    reverse-requires-2
+    reverse-requires-3
     same-length
     returns)

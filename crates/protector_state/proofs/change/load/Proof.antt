@@ -15,11 +15,11 @@ shared-slice-read-vtl-of-2 c = search needs
 vtl-of-requires-2 : tie.Need-vtl-of-requires-2
 vtl-of-requires-2 c κs = search needs
 
-shared-slice-read-least : tie.Need-shared-slice-read-least
-shared-slice-read-least c = search needs
+shared-slice-read-min : tie.Need-shared-slice-read-min
+shared-slice-read-min c = search needs
 
-least-requires : tie.Need-least-requires
-least-requires c κs = search needs
+min-requires : tie.Need-min-requires
+min-requires c κs = search needs
 
 shared-slice-read-t12 : tie.Need-shared-slice-read-t12
 shared-slice-read-t12 c = search needs
@@ -47,8 +47,8 @@ load-spec =
     vtl-of-requires
     shared-slice-read-vtl-of-2
     vtl-of-requires-2
-    shared-slice-read-least
-    least-requires
+    shared-slice-read-min
+    min-requires
     shared-slice-read-t12
     shared-slice-read-t14
     shared-slice-read-t16
