@@ -3,6 +3,9 @@ use mathlib.Core.List.{List, [], _∷_}
 use Prim.Native.Nat.{ℕ, _*_, _/_, _%_, _^_}
 use lib.Bits.{bitXor}
 
+abbrev pub start : ℕ
+start = 14695981039346656037
+
 -- the product with 2^40 + 435, modulo 2^64
 abbrev pub timesPrime : ℕ → ℕ
 timesPrime x = x * 1099511628211 % 2 ^ 64

@@ -1,5 +1,4 @@
 // Lists of pages, 8 bytes a page, from runs of a first page and a count.
-ghost use mathlib.Core.Bool.{cond};
 ghost use mathlib.Core.Path.{_≡_};
 ghost use Prim.Native.Nat.{_*_, _%_};
 ghost use Rattle.recording.specs.Lists.{afterRuns, filling, withByte, withBytes, withPages, withRuns, entryPlace, withEntry, withEntries, partOf};

@@ -4,8 +4,6 @@ use native.Mathlib.Omega.{arith}
 use borrow.Author.Needs.{needs}
 use Rattle.recording.proofs.decode.digit.Statement.{statement}
 use Rattle.recording.proofs.decode.digit.Tie as tie
-use Rattle.recording.proofs.decode.digit.Reads as reads
-use Rattle.recording.proofs.decode.digit.Lts as lts
 
 returns : tie.Need-returns
 returns c = digit-none _ (omega arith)

@@ -1,19 +1,14 @@
 -- `recording::decode::number` meets its contract. Assumes nothing.
 use mathlib.Core.List.{List}
-use mathlib.Core.Path.{ap}
+use mathlib.Core.Path.{ap, _≡_, refl, _∙_}
 use borrow.Author.Needs.{needs}
-use Prim.Native.Nat.{ℕ, _+_, _-_, _≤_, _<_}
-use mathlib.Core.Path.{_≡_, refl, _∙_, sym}
+use Prim.Native.Nat.{ℕ, _+_, _-_}
 use native.Mathlib.Omega.{arith}
-use lib.ListN.{length, drop, take}
+use lib.ListN.{length, drop}
 use Rattle.recording.proofs.Laws.{digits-end, digits-stop, digits-next}
 use Rattle.recording.specs.Decode.{digitsFrom, numberAt}
 use Rattle.recording.proofs.decode.number.Statement.{statement}
 use Rattle.recording.proofs.decode.number.Tie as tie
-use Rattle.recording.proofs.decode.number.Reads as reads
-use Rattle.recording.proofs.decode.number.Lts as lts
-use Rattle.recording.proofs.decode.digit.Reads as digit-reads
-use Rattle.recording.proofs.decode.with_digit.Reads as with-digit-reads
 
 abbrev Inv-loop : tie.InvT-loop
 Inv-loop input at value₀ i₀ value i = digitsFrom (drop i input) value i ≡ numberAt input at

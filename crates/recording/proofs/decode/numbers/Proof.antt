@@ -2,16 +2,13 @@
 use borrow.Author.Needs.{needs}
 use mathlib.Core.Path.{_≡_, refl, ap, _∙_}
 use mathlib.Core.List.{List, _++_}
-use Prim.Native.Nat.{ℕ, _+_, _-_}
+use Prim.Native.Nat.{ℕ, _-_}
 use native.Mathlib.Omega.{arith}
 use lib.ListN.{length, take, length-set}
 use Rattle.recording.specs.Decode.{numbersAt, afterNumbers}
 use Rattle.recording.proofs.Laws.{numbers-step, after-step, numbers-end, after-end}
 use Rattle.recording.proofs.decode.numbers.Statement.{statement}
 use Rattle.recording.proofs.decode.numbers.Tie as tie
-use Rattle.recording.proofs.decode.numbers.Reads as reads
-use Rattle.recording.proofs.decode.numbers.Lts as lts
-use Rattle.recording.proofs.decode.number.Reads as number-reads
 
 abbrev Inv-loop : tie.InvT-loop
 Inv-loop input at run₀ next₀ i₀ run next i = (length run ≡ length run₀) × (take i run ++ numbersAt (length run - i) input next ≡ numbersAt (length run₀) input at) × (afterNumbers (length run - i) input next ≡ afterNumbers (length run₀) input at)

@@ -4,9 +4,6 @@ use Rattle.recording.proofs.Laws.{times-law}
 use borrow.Author.Needs.{needs}
 use Rattle.recording.proofs.digest.times_prime.Statement.{statement}
 use Rattle.recording.proofs.digest.times_prime.Tie as tie
-use Rattle.recording.proofs.digest.times_prime.Reads as reads
-use Rattle.recording.proofs.digest.times_prime.Lts as lts
-use Rattle.recording.proofs.digest.plus.Reads as plus-reads
 
 plus-requires : tie.Need-plus-requires
 plus-requires c κs = search needs

@@ -4,9 +4,6 @@ use Rattle.recording.specs.Digest.{folded, digestWord}
 use borrow.Author.Needs.{needs}
 use Rattle.recording.proofs.digest.word.Statement.{statement}
 use Rattle.recording.proofs.digest.word.Tie as tie
-use Rattle.recording.proofs.digest.word.Reads as reads
-use Rattle.recording.proofs.digest.word.Lts as lts
-use Rattle.recording.proofs.digest.times_prime.Reads as times-prime-reads
 
 times-prime-requires : tie.Need-times-prime-requires
 times-prime-requires c κs = search needs

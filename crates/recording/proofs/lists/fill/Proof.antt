@@ -1,18 +1,14 @@
 -- `recording::lists::fill` meets its contract. Assumes nothing.
 use borrow.Author.Needs.{needs}
-use mathlib.Core.Path.{_≡_, refl, ap, _∙_}
-use mathlib.Core.List.{List, _++_}
-use Prim.Native.Nat.{ℕ, _+_, _-_}
+use mathlib.Core.Path.{_≡_, refl, _∙_}
+use mathlib.Core.List.{List}
+use Prim.Native.Nat.{ℕ}
 use native.Mathlib.Omega.{arith}
 use lib.ListN.{length}
 use Rattle.recording.specs.Lists.{filling, withRuns, afterRuns}
 use Rattle.recording.proofs.Laws.{runs-step, after-runs-step, no-runs, after-none}
 use Rattle.recording.proofs.lists.fill.Statement.{statement}
 use Rattle.recording.proofs.lists.fill.Tie as tie
-use Rattle.recording.proofs.lists.fill.Reads as reads
-use Rattle.recording.proofs.lists.fill.Lts as lts
-use Rattle.recording.proofs.decode.number.Reads as number-reads
-use Rattle.recording.proofs.lists.put_run.Reads as put-run-reads
 
 abbrev Inv-loop : tie.InvT-loop
 Inv-loop list₀ input at runs next₀ len₀ left₀ list next len left = (length list ≡ length list₀) × (withRuns left input next (filling list len) ≡ withRuns runs input at (filling list₀ 0)) × (afterRuns left input next ≡ afterRuns runs input at)

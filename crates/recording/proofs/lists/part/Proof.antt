@@ -7,8 +7,6 @@ use Rattle.recording.proofs.Laws.{part-in, part-past}
 use borrow.Author.Needs.{needs}
 use Rattle.recording.proofs.lists.part.Statement.{statement}
 use Rattle.recording.proofs.lists.part.Tie as tie
-use Rattle.recording.proofs.lists.part.Reads as reads
-use Rattle.recording.proofs.lists.part.Lts as lts
 
 sub-result : tie.Need-sub-result
 sub-result c = search needs

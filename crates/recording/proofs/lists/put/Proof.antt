@@ -4,8 +4,6 @@ use Rattle.recording.proofs.Laws.{byte-in, byte-past}
 use borrow.Author.Needs.{needs}
 use Rattle.recording.proofs.lists.put.Statement.{statement}
 use Rattle.recording.proofs.lists.put.Tie as tie
-use Rattle.recording.proofs.lists.put.Reads as reads
-use Rattle.recording.proofs.lists.put.Lts as lts
 
 cast-list : tie.Need-cast-list
 cast-list c = search needs

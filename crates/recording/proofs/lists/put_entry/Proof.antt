@@ -2,9 +2,6 @@
 use borrow.Author.Needs.{needs}
 use Rattle.recording.proofs.lists.put_entry.Statement.{statement}
 use Rattle.recording.proofs.lists.put_entry.Tie as tie
-use Rattle.recording.proofs.lists.put_entry.Reads as reads
-use Rattle.recording.proofs.lists.put_entry.Lts as lts
-use Rattle.words.proofs.put.Reads as put-reads
 
 mul-start : tie.Need-mul-start
 mul-start c = search needs

@@ -1,19 +1,13 @@
 -- `recording::lists::put_page` meets its contract. Assumes nothing.
-use mathlib.Core.Path.{ap}
-use Prim.Native.Nat.{_/_}
-use Rattle.recording.specs.Lists.{Filling}
+use mathlib.Core.Path.{ap, _≡_, refl, _∙_}
+use Prim.Native.Nat.{_/_, _-_}
+use Rattle.recording.specs.Lists.{Filling, filling, withBytes}
 use borrow.Author.Needs.{needs}
-use Prim.Native.Nat.{ℕ, _+_, _-_, _≤_, _<_}
-use mathlib.Core.Path.{_≡_, refl, _∙_, sym}
 use native.Mathlib.Omega.{arith}
-use lib.ListN.{length, drop, take}
+use lib.ListN.{length}
 use Rattle.recording.proofs.Laws.{bytes-next, no-bytes}
-use Rattle.recording.specs.Lists.{filling, withBytes}
 use Rattle.recording.proofs.lists.put_page.Statement.{statement}
 use Rattle.recording.proofs.lists.put_page.Tie as tie
-use Rattle.recording.proofs.lists.put_page.Reads as reads
-use Rattle.recording.proofs.lists.put_page.Lts as lts
-use Rattle.recording.proofs.lists.put.Reads as put-reads
 
 abbrev Inv-loop : tie.InvT-loop
 Inv-loop list₀ at page next₀ rest₀ left₀ list next rest left = (length list ≡ length list₀) × (withBytes left (filling list next) rest ≡ withBytes 8 (filling list₀ at) page)

@@ -1,19 +1,13 @@
 -- `recording::lists::put_run` meets its contract. Assumes nothing.
 use borrow.Author.Needs.{needs}
-use mathlib.Core.Path.{_≡_, refl, ap, _∙_}
-use mathlib.Core.List.{List, _++_}
-use Prim.Native.Nat.{ℕ, _+_, _-_}
+use mathlib.Core.Path.{_≡_, refl, _∙_, ap₂}
+use Prim.Native.Nat.{ℕ, _-_}
 use native.Mathlib.Omega.{arith}
-use mathlib.Core.Path.{ap₂}
 use lib.ListN.{length}
 use Rattle.recording.specs.Lists.{Filling, filling, withPages}
 use Rattle.recording.proofs.Laws.{pages-next, no-pages}
 use Rattle.recording.proofs.lists.put_run.Statement.{statement}
 use Rattle.recording.proofs.lists.put_run.Tie as tie
-use Rattle.recording.proofs.lists.put_run.Reads as reads
-use Rattle.recording.proofs.lists.put_run.Lts as lts
-use Rattle.recording.proofs.lists.put_page.Reads as put-page-reads
-use Rattle.std.proofs.num.wrapping_add_u64.Reads as wrapping-add-u64-reads
 
 abbrev Inv-loop : tie.InvT-loop
 Inv-loop list₀ at first count next₀ page₀ left₀ list next page left = (length list ≡ length list₀) × (withPages left (filling list next) page ≡ withPages count (filling list₀ at) first)

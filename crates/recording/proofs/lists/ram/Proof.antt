@@ -1,18 +1,13 @@
 -- `recording::lists::ram` meets its contract. Assumes nothing.
 use borrow.Author.Needs.{needs}
 use mathlib.Core.Path.{_≡_, refl, ap, _∙_}
-use mathlib.Core.List.{List, _++_}
-use Prim.Native.Nat.{ℕ, _+_, _-_}
+use Prim.Native.Nat.{ℕ, _-_}
 use native.Mathlib.Omega.{arith}
 use lib.ListN.{length}
 use Rattle.recording.specs.Lists.{withEntries}
 use Rattle.recording.proofs.Laws.{entries-step, entries-end}
 use Rattle.recording.proofs.lists.ram.Statement.{statement}
 use Rattle.recording.proofs.lists.ram.Tie as tie
-use Rattle.recording.proofs.lists.ram.Reads as reads
-use Rattle.recording.proofs.lists.ram.Lts as lts
-use Rattle.recording.proofs.decode.number.Reads as number-reads
-use Rattle.recording.proofs.lists.put_entry.Reads as put-entry-reads
 
 abbrev Inv-loop : tie.InvT-loop
 Inv-loop run₀ input at runs next₀ i₀ run next i = (length run ≡ length run₀) × (withEntries (runs - i) input next i run ≡ withEntries runs input at 0 run₀)

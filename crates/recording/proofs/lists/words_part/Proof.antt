@@ -7,8 +7,6 @@ use Rattle.recording.proofs.Laws.{part-in, part-past}
 use borrow.Author.Needs.{needs}
 use Rattle.recording.proofs.lists.words_part.Statement.{statement}
 use Rattle.recording.proofs.lists.words_part.Tie as tie
-use Rattle.recording.proofs.lists.words_part.Reads as reads
-use Rattle.recording.proofs.lists.words_part.Lts as lts
 
 mul-result : tie.Need-mul-result
 mul-result c = search needs
