@@ -14,7 +14,7 @@ fn code_of(code: u64) -> u16
     (code % 65536) as u16
 }
 
-// A build.
+// The world after a build that is lent it.
 pub fn build(w: World, n: usize, c: Call, ram: &[u64]) -> World
     requires { ⌜ n ≤ 64 ⌝ }
     ensures { λ r. ⌜ r ≡ after n w (buildOf (lentOf n w) (now (ram .entry)) (c .a) (c .b) (c .c)) ⌝ }
@@ -57,7 +57,7 @@ pub fn build(w: World, n: usize, c: Call, ram: &[u64]) -> World
     v
 }
 
-// A visibility change.
+// The world after a visibility change.
 pub fn visibility(w: World, n: usize, c: Call, list: &[u8]) -> World
     requires { ⌜ n ≤ 64 ⌝ }
     ensures { λ r. ⌜ r ≡ after n w (visibilityOf (lentOf n w) (c .a) (c .b) (now (list .entry))) ⌝ }
@@ -98,7 +98,7 @@ pub fn visibility(w: World, n: usize, c: Call, list: &[u8]) -> World
     v
 }
 
-// A protection change.
+// The world after a protection change.
 pub fn protections(w: World, n: usize, c: Call, list: &[u8]) -> World
     requires { ⌜ n ≤ 64 ⌝ }
     ensures { λ r. ⌜ r ≡ after n w (protectionOf (lentOf n w) (c .a) (c .b) (now (list .entry))) ⌝ }
@@ -137,7 +137,7 @@ pub fn protections(w: World, n: usize, c: Call, list: &[u8]) -> World
     v
 }
 
-// A default change.
+// The world after a default change.
 pub fn default(w: World, n: usize, c: Call) -> World
     requires { ⌜ n ≤ 64 ⌝ }
     ensures { λ r. ⌜ r ≡ after n w (defaultOf (lentOf n w) (c .a) (c .b)) ⌝ }
@@ -175,7 +175,7 @@ pub fn default(w: World, n: usize, c: Call) -> World
     v
 }
 
-// An overlay page is registered.
+// The world after an overlay page is registered.
 pub fn register(w: World, n: usize, c: Call) -> World
     requires { ⌜ n ≤ 64 ⌝ }
     ensures { λ r. ⌜ r ≡ after n w (registerOf (lentOf n w) (c .a) (c .b) (c .c) (c .d) (c .e)) ⌝ }
@@ -216,7 +216,7 @@ pub fn register(w: World, n: usize, c: Call) -> World
     v
 }
 
-// An overlay page is unregistered.
+// The world after an overlay page is unregistered.
 pub fn unregister(w: World, n: usize, c: Call) -> World
     requires { ⌜ n ≤ 64 ⌝ }
     ensures { λ r. ⌜ r ≡ after n w (unregisterOf (lentOf n w) (c .a) (c .b)) ⌝ }
@@ -254,7 +254,7 @@ pub fn unregister(w: World, n: usize, c: Call) -> World
     v
 }
 
-// The operation asked for is done.
+// The world after the answer that the operation asked for is done.
 pub fn done(w: World, n: usize) -> World
     requires { ⌜ n ≤ 64 ⌝ }
     ensures { λ r. ⌜ r ≡ after n w (answerDone (lentOf n w)) ⌝ }
@@ -293,7 +293,7 @@ pub fn done(w: World, n: usize) -> World
     v
 }
 
-// The operation asked for failed, with the code and the pages processed that the call names.
+// The world after the answer that it failed, with the code and the pages processed that the call names.
 pub fn failed(w: World, n: usize, c: Call) -> World
     requires { ⌜ n ≤ 64 ⌝ }
     ensures { λ r. ⌜ r ≡ after n w (answerFailed (lentOf n w) (codeOf (c .code)) (c .processed)) ⌝ }

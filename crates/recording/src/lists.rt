@@ -51,6 +51,21 @@ fn put_run(list: &mut [u8], at: usize, first: u64, count: u64) -> usize
     next
 }
 
+// The place after so many runs, read at a place.
+pub fn after_runs(input: &[u8], at: usize, runs: u64) -> usize
+    ensures { λ r. ⌜ r ≡ afterRuns runs (now (input .entry)) at ⌝ }
+{
+    let mut next = at;
+    let mut left = runs;
+    while 0 < left {
+        let first = decode::number(input, next);
+        let count = decode::number(input, first.next);
+        next = count.next;
+        left -= 1;
+    }
+    next
+}
+
 // A list filled with so many runs, each a first page and a count, read at a place.
 pub fn fill(list: &mut [u8], input: &[u8], at: usize, runs: u64) -> Filled
     ensures { λ r. ⌜ (filling (now (list .exit)) (r .len) ≡ withRuns runs (now (input .entry)) at (filling (now (list .entry)) 0)) × (r .next ≡ afterRuns runs (now (input .entry)) at) ⌝ }
@@ -111,7 +126,7 @@ pub fn part(list: &[u8], len: usize) -> &[u8]
     }
 }
 
-// The same of words.
+// The first so many words of a run: none where it is shorter.
 pub fn words_part(run: &[u64], len: usize) -> &[u64]
     ensures { λ r. ⌜ now r ≡ partOf (now (run .entry)) len ⌝ }
 {

@@ -1,8 +1,8 @@
--- `replay::show::all` ends. Assumes nothing.
-use Prim.Native.Nat.{_-_, _≤_}
+-- `replay::say_all` meets its contract. Assumes nothing.
 use borrow.Author.Needs.{needs}
-use Rattle.replay.proofs.show.all.Statement.{statement}
-use Rattle.replay.proofs.show.all.Tie as tie
+use Prim.Native.Nat.{_-_, _≤_}
+use Rattle.replay.proofs.say_all.Statement.{statement}
+use Rattle.replay.proofs.say_all.Tie as tie
 
 abbrev Inv-loop : tie.InvT-loop
 Inv-loop tally kind₀ kind = kind ≤ 19
@@ -20,7 +20,7 @@ loop-holds : tie.Need-loop-holds Inv-loop μ-loop Inv-loop2 μ-loop2
 loop-holds c = search needs
 
 say-row-requires : tie.Need-say-row-requires Inv-loop μ-loop Inv-loop2 μ-loop2
-say-row-requires c κs = tt
+say-row-requires c κs = search needs
 
 add-kind : tie.Need-add-kind Inv-loop μ-loop Inv-loop2 μ-loop2
 add-kind c = search needs
@@ -35,7 +35,7 @@ loop2-holds : tie.Need-loop2-holds Inv-loop μ-loop Inv-loop2 μ-loop2
 loop2-holds c = search needs
 
 say-refusal-requires : tie.Need-say-refusal-requires Inv-loop μ-loop Inv-loop2 μ-loop2
-say-refusal-requires c κs = tt
+say-refusal-requires c κs = search needs
 
 add-number : tie.Need-add-number Inv-loop μ-loop Inv-loop2 μ-loop2
 add-number c = search needs
@@ -47,13 +47,13 @@ loop2-again : tie.Need-loop2-again Inv-loop μ-loop Inv-loop2 μ-loop2
 loop2-again c = search needs
 
 say-end-requires : tie.Need-say-end-requires Inv-loop μ-loop Inv-loop2 μ-loop2
-say-end-requires c κs = tt
+say-end-requires c κs = search needs
 
 returns : tie.Need-returns Inv-loop μ-loop Inv-loop2 μ-loop2
 returns c = search needs
 
-pub all-spec : {M : Type 1} → statement M
-all-spec =
+pub say-all-spec : {M : Type 1} → statement M
+say-all-spec =
     tie.close
     (tie.spec
     Inv-loop
