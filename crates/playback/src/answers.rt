@@ -1,67 +1,71 @@
 // A call run to its end: each operation that it asks for goes into the digest and is answered.
-use crate::tracked;
-use crate::untracked;
+ghost use mathlib.Core.Path.{_≡_};
+ghost use Rattle.playback.specs.Answers.{flagsOf, fieldsOf, askedOf, answered, finishedOf};
+use crate::entries;
+use crate::world;
 use crate::world::Call;
 use crate::world::World;
+use abi::operation;
+use abi::place;
 use protector_state::Reply;
 use recording::digest;
 
 // The original hands CCA's backend no flags.
-fn flags_of(r: Reply, isolation: u64) -> u64 {
-    if isolation == 4 { 0 } else { r.flags }
-}
-
-fn modified(h: u64, pages: &[u64], r: Reply) -> u64 {
-    if r.operation == 6 {
-        return digest::words(h, recording::lists::words_part(pages, r.pages as usize));
+fn flags_of(r: Reply, isolation: u64) -> u64
+    ensures { λ x. ⌜ x ≡ flagsOf r isolation ⌝ }
+{
+    if isolation == 4 {
+        return 0;
     }
-    h
+    r.flags
 }
 
-fn asked(h: u64, pages: &[u64], r: Reply, isolation: u64) -> u64 {
+fn fields(h: u64, r: Reply, isolation: u64) -> u64
+    ensures { λ x. ⌜ x ≡ fieldsOf h r isolation ⌝ }
+{
     let kind = digest::word(digest::word(h, r.operation), r.vtl);
     let flags = digest::word(digest::word(kind, flags_of(r, isolation)), r.operand);
     let run = digest::word(digest::word(flags, r.first), r.pages);
-    modified(digest::word(run, r.shared), pages, r)
+    digest::word(run, r.shared)
 }
 
-fn done(w: World) -> World {
-    let state = w.state;
-    if state[17] == 1 {
-        return tracked::done(w);
+fn asked(h: u64, pages: &[u64], r: Reply, isolation: u64) -> u64
+    ensures { λ x. ⌜ x ≡ askedOf h (now (pages .entry)) r isolation ⌝ }
+{
+    let all = fields(h, r, isolation);
+    if r.operation == operation::MODIFY {
+        return digest::words(all, recording::lists::words_part(pages, r.pages as usize));
     }
-    untracked::done(w)
+    all
 }
 
-fn failed(w: World, c: Call) -> World {
-    let state = w.state;
-    if state[17] == 1 {
-        return tracked::failed(w, c);
-    }
-    untracked::failed(w, c)
-}
-
-fn answer(w: World, c: Call, place: u64) -> World {
+fn answer(w: World, c: Call, at: u64) -> World
+    ensures { λ r. ⌜ r ≡ answered w c at ⌝ }
+{
     let state = w.state;
     let pages = w.pages;
     let r = w.reply;
+    let n = world::bytes_if(state[place::TRACKED]);
     let mut v = w;
-    v.asked = asked(w.asked, &pages, r, state[16]);
-    if place == c.place {
-        return failed(v, c);
+    v.asked = asked(w.asked, &pages, r, state[place::ISOLATION]);
+    if at == c.place {
+        return entries::failed(v, n, c);
     }
-    done(v)
+    entries::done(v, n)
 }
 
-pub fn finish(first: World, c: Call) -> World {
+// The world when the call asks for nothing more, or after 8,192 answers.
+pub fn finish(first: World, c: Call) -> World
+    ensures { λ r. ⌜ r ≡ finishedOf first c ⌝ }
+{
     let mut w = first;
-    let mut place: u64 = 0;
-    while place < 8192 {
+    let mut at: u64 = 0;
+    while at < 8192 {
         if w.reply.operation == 0 {
-            break;
+            return w;
         }
-        place += 1;
-        w = answer(w, c, place);
+        at += 1;
+        w = answer(w, c, at);
     }
     w
 }

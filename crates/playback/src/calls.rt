@@ -1,100 +1,106 @@
 // A recorded call put to the entry of its kind.
-use crate::tracked;
-use crate::untracked;
+ghost use mathlib.Core.Path.{_≡_};
+ghost use Prim.Native.Nat.{_≤_};
+ghost use Rattle.mapping.specs.Maps.{maps};
+ghost use Rattle.queries.specs.Queries.{queryOf};
+ghost use Rattle.lock_entries.specs.Calls.{lockOf, unlockOf};
+ghost use Rattle.setting_entries.specs.Calls.{enableOf};
+ghost use Rattle.overlay_entries.specs.Calls.{isOverlayIn};
+ghost use Rattle.playback.specs.World.{lentOf, after, replied, valued};
+ghost use Rattle.playback.specs.Calls.{buildOf, changeIn, changeOf, keptIn, enabledOf, queriedOf, outOf, settingOf, lookIn, lookOf, callOf};
+use crate::entries;
 use crate::world;
 use crate::world::Call;
 use crate::world::World;
+use abi::place;
 use protector_state::Value;
 use recording::digest;
 
-fn is_tracked(w: World) -> bool {
-    let state = w.state;
-    state[17] == 1
-}
-
-fn replied(w: World, r: protector_state::Reply) -> World {
+fn replied(w: World, r: protector_state::Reply) -> World
+    ensures { λ x. ⌜ x ≡ replied w r ⌝ }
+{
     let mut v = w;
     v.reply = r;
     v
 }
 
-fn valued(w: World, r: Value) -> World {
-    replied(w, world::told(r.number, r.value, 0))
+fn valued(w: World, r: Value) -> World
+    ensures { λ x. ⌜ x ≡ valued w r ⌝ }
+{
+    replied(w, protector_state::finished(r.number, 0, r.value, 0))
 }
 
-fn change_tracked(w: World, c: Call, list: &[u8]) -> World {
+fn change_in(w: World, n: usize, c: Call, list: &[u8]) -> World
+    requires { ⌜ n ≤ 64 ⌝ }
+    ensures { λ r. ⌜ r ≡ after n w (changeIn (lentOf n w) c (now (list .entry))) ⌝ }
+{
     if c.kind == 1 {
-        return tracked::visibility(w, c, list);
+        return entries::visibility(w, n, c, list);
     }
     if c.kind == 2 {
-        return tracked::protections(w, c, list);
+        return entries::protections(w, n, c, list);
     }
     if c.kind == 3 {
-        return tracked::default(w, c);
+        return entries::default(w, n, c);
     }
     if c.kind == 4 {
-        return tracked::register(w, c);
+        return entries::register(w, n, c);
     }
-    tracked::unregister(w, c)
+    entries::unregister(w, n, c)
 }
 
-fn change_untracked(w: World, c: Call, list: &[u8]) -> World {
-    if c.kind == 1 {
-        return untracked::visibility(w, c, list);
-    }
-    if c.kind == 2 {
-        return untracked::protections(w, c, list);
-    }
-    if c.kind == 3 {
-        return untracked::default(w, c);
-    }
-    if c.kind == 4 {
-        return untracked::register(w, c);
-    }
-    untracked::unregister(w, c)
+fn change(w: World, c: Call, list: &[u8]) -> World
+    ensures { λ r. ⌜ r ≡ changeOf w c (now (list .entry)) ⌝ }
+{
+    let state = w.state;
+    change_in(w, world::bytes_if(state[place::TRACKED]), c, list)
 }
 
-fn change(w: World, c: Call, list: &[u8]) -> World {
-    if is_tracked(w) {
-        return change_tracked(w, c, list);
-    }
-    change_untracked(w, c, list)
+// The world after a build.
+pub fn build(w: World, c: Call, ram: &[u64]) -> World
+    ensures { λ r. ⌜ r ≡ buildOf w c (now (ram .entry)) ⌝ }
+{
+    entries::build(w, world::bytes_if(c.b), c, ram)
 }
 
-pub fn build(w: World, c: Call, ram: &[u64]) -> World {
-    if c.b == 1 {
-        return tracked::build(w, c, ram);
-    }
-    untracked::build(w, c, ram)
-}
-
-fn lock(w: World, c: Call, list: &[u8]) -> World {
+fn lock(w: World, c: Call, list: &[u8]) -> World
+    ensures { λ r. ⌜ r ≡ keptIn w (lockOf (w .state) (w .tables) (c .a) (now (list .entry))) ⌝ }
+{
     let state = w.state;
     let mut tables = w.tables;
     let r = lock_entries::protector_lock_gpns(&state, &mut tables, c.a, list);
     let mut v = w;
     v.tables = tables;
-    replied(v, r)
+    v.reply = r;
+    v
 }
 
-fn unlock(w: World, c: Call, list: &[u8]) -> World {
+fn unlock(w: World, c: Call, list: &[u8]) -> World
+    ensures { λ r. ⌜ r ≡ keptIn w (unlockOf (w .state) (w .tables) (c .a) (now (list .entry))) ⌝ }
+{
     let state = w.state;
     let mut tables = w.tables;
     let r = lock_entries::protector_unlock_gpns(&state, &mut tables, c.a, list);
     let mut v = w;
     v.tables = tables;
-    replied(v, r)
+    v.reply = r;
+    v
 }
 
-fn enable(w: World) -> World {
+fn enable(w: World) -> World
+    ensures { λ r. ⌜ r ≡ enabledOf w (enableOf (w .state)) ⌝ }
+{
     let mut state = w.state;
     let r = setting_entries::protector_set_vtl1_protections_enabled(&mut state);
     let mut v = w;
     v.state = state;
-    replied(v, r)
+    v.reply = r;
+    v
 }
 
-fn is_overlay(w: World, c: Call) -> World {
+fn is_overlay(w: World, c: Call) -> World
+    ensures { λ r. ⌜ r ≡ valued w (isOverlayIn (w .state) (w .tables) (c .a) (c .b)) ⌝ }
+{
     let state = w.state;
     let tables = w.tables;
     valued(
@@ -103,45 +109,44 @@ fn is_overlay(w: World, c: Call) -> World {
     )
 }
 
-fn setting(w: World, c: Call) -> World {
-    let state = w.state;
+fn setting_in(state: &[u64], c: Call) -> Value
+    ensures { λ r. ⌜ r ≡ settingOf (now (state .entry)) c ⌝ }
+{
     if c.kind == 9 {
-        return valued(
-            w,
-            setting_entries::protector_vtl1_protections_enabled(&state),
-        );
+        return setting_entries::protector_vtl1_protections_enabled(state);
     }
-    valued(
-        w,
-        setting_entries::protector_default_vtl0_protections(&state),
-    )
+    setting_entries::protector_default_vtl0_protections(state)
+}
+
+fn setting(w: World, c: Call) -> World
+    ensures { λ r. ⌜ r ≡ valued w (settingOf (w .state) c) ⌝ }
+{
+    let state = w.state;
+    valued(w, setting_in(&state, c))
 }
 
 // The output goes into the digest.
-fn query_in(w: World, list: &[u8], out: &mut [u8]) -> World {
+fn query_in(w: World, list: &[u8], out: &mut [u8]) -> World
+    ensures { λ r. ⌜ r ≡ queriedOf w (queryOf (w .state) (w .shared) (now (list .entry)) (now (out .entry))) ⌝ }
+{
     let state = w.state;
     let shared = w.shared;
     let r = underhill_mem::protector_query_host_visibility(&state, &shared, list, out);
     let mut v = w;
     v.asked = digest::bytes(w.asked, out);
-    replied(v, r)
+    v.reply = r;
+    v
 }
 
-fn query_part(w: World, c: Call, list: &[u8], out: &mut [u8]) -> World {
-    let n = c.a as usize;
-    if n <= out.len() {
-        let start: usize = 0;
-        return query_in(w, list, &mut out[start..n]);
-    }
-    query_in(w, list, out)
-}
-
-fn query(w: World, c: Call, list: &[u8]) -> World {
+fn query(w: World, c: Call, list: &[u8]) -> World
+    ensures { λ r. ⌜ r ≡ queriedOf w (queryOf (w .state) (w .shared) (now (list .entry)) (outOf c)) ⌝ }
+{
     let mut out = [0xa5u8; 520];
-    query_part(w, c, list, &mut out)
+    let n = numbers::least(c.a, 520) as usize;
+    query_in(w, list, &mut out[..n])
 }
 
-fn look(
+fn look_in(
     private: &[u8],
     shared: &[u8],
     read: &[u8],
@@ -150,7 +155,9 @@ fn look(
     user: &[u8],
     state: &[u64],
     c: Call,
-) -> Value {
+) -> Value
+    ensures { λ r. ⌜ r ≡ lookIn (now (state .entry)) (maps (now (private .entry)) (now (shared .entry)) (now (read .entry)) (now (write .entry)) (now (kernel .entry)) (now (user .entry))) c ⌝ }
+{
     if c.kind == 13 {
         return underhill_mem::protector_page_fault(
             private,
@@ -192,40 +199,34 @@ fn look(
     )
 }
 
-fn look_tracked(w: World, c: Call) -> World {
+fn look(w: World, c: Call) -> World
+    ensures { λ r. ⌜ r ≡ lookOf w c ⌝ }
+{
+    let private = w.private;
+    let shared = w.shared;
     let read = w.read;
     let write = w.write;
     let kernel = w.kernel;
     let user = w.user;
-    let private = w.private;
-    let shared = w.shared;
     let state = w.state;
-    valued(
-        w,
-        look(&private, &shared, &read, &write, &kernel, &user, &state, c),
-    )
+    let n = world::bytes_if(state[place::TRACKED]);
+    let seen = look_in(
+        &private,
+        &shared,
+        &read[..n],
+        &write[..n],
+        &kernel[..n],
+        &user[..n],
+        &state,
+        c,
+    );
+    valued(w, seen)
 }
 
-fn look_untracked(w: World, c: Call) -> World {
-    let none = [0u8; 0];
-    let private = w.private;
-    let shared = w.shared;
-    let state = w.state;
-    valued(
-        w,
-        look(&private, &shared, &none, &none, &none, &none, &state, c),
-    )
-}
-
-fn looked(w: World, c: Call) -> World {
-    if is_tracked(w) {
-        return look_tracked(w, c);
-    }
-    look_untracked(w, c)
-}
-
-// A call that is no build.
-pub fn call(w: World, c: Call, list: &[u8]) -> World {
+// The world after a call that is no build, before its operations are answered.
+pub fn call(w: World, c: Call, list: &[u8]) -> World
+    ensures { λ r. ⌜ r ≡ callOf w c (now (list .entry)) ⌝ }
+{
     if c.kind < 6 {
         return change(w, c, list);
     }
@@ -247,5 +248,5 @@ pub fn call(w: World, c: Call, list: &[u8]) -> World {
     if c.kind == 12 {
         return query(w, c, list);
     }
-    looked(w, c)
+    look(w, c)
 }

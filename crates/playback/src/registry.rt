@@ -1,4 +1,8 @@
 // The registrar's calls, by a registry that is handed on by value.
+ghost use mathlib.Core.Path.{_≡_};
+ghost use Rattle.registrar_state.specs.World as lent;
+ghost use Rattle.recording.specs.Digest.{start};
+ghost use Rattle.playback.specs.Registry.{lentOf, after, startIn, answered, finishedFrom, callOf, askedOf, leftOf};
 use crate::world::Call;
 use recording::digest;
 use registrar_state::Reply;
@@ -11,7 +15,9 @@ pub struct Registry {
     pub asked: u64,
 }
 
-fn build(w: Registry, c: Call, ram: &[u64]) -> Registry {
+fn build(w: Registry, c: Call, ram: &[u64]) -> Registry
+    ensures { λ r. ⌜ r ≡ after (lent.buildOf (lentOf w) (now (ram .entry)) (c .a) (c .b)) start ⌝ }
+{
     let mut state = w.state;
     let mut registered = w.registered;
     let mut failed = w.failed;
@@ -25,7 +31,9 @@ fn build(w: Registry, c: Call, ram: &[u64]) -> Registry {
     }
 }
 
-fn register(w: Registry, c: Call) -> Registry {
+fn register(w: Registry, c: Call) -> Registry
+    ensures { λ r. ⌜ r ≡ after (lent.registerOf (lentOf w) (c .a) (c .b)) start ⌝ }
+{
     let mut state = w.state;
     let mut registered = w.registered;
     let mut failed = w.failed;
@@ -39,7 +47,9 @@ fn register(w: Registry, c: Call) -> Registry {
     }
 }
 
-fn register_all(w: Registry, c: Call) -> Registry {
+fn register_all(w: Registry, c: Call) -> Registry
+    ensures { λ r. ⌜ r ≡ after (lent.allOf (lentOf w) (c .a) (c .b)) start ⌝ }
+{
     let mut state = w.state;
     let mut registered = w.registered;
     let mut failed = w.failed;
@@ -59,7 +69,9 @@ fn register_all(w: Registry, c: Call) -> Registry {
     }
 }
 
-fn answer_done(w: Registry) -> Registry {
+fn answer_done(w: Registry) -> Registry
+    ensures { λ r. ⌜ r ≡ after (lent.doneOf (lentOf w)) (w .asked) ⌝ }
+{
     let mut state = w.state;
     let mut registered = w.registered;
     let mut failed = w.failed;
@@ -73,7 +85,9 @@ fn answer_done(w: Registry) -> Registry {
     }
 }
 
-fn answer_failed(w: Registry) -> Registry {
+fn answer_failed(w: Registry) -> Registry
+    ensures { λ r. ⌜ r ≡ after (lent.failedOf (lentOf w)) (w .asked) ⌝ }
+{
     let mut state = w.state;
     let mut registered = w.registered;
     let mut failed = w.failed;
@@ -87,17 +101,21 @@ fn answer_failed(w: Registry) -> Registry {
     }
 }
 
-fn answer(w: Registry, c: Call, place: u64) -> Registry {
+fn answer(w: Registry, c: Call, at: u64) -> Registry
+    ensures { λ r. ⌜ r ≡ answered w c at ⌝ }
+{
     let r = w.reply;
     let mut v = w;
     v.asked = digest::word(digest::word(w.asked, r.start), r.end);
-    if place == c.place {
+    if at == c.place {
         return answer_failed(v);
     }
     answer_done(v)
 }
 
-fn start(w: Registry, c: Call, ram: &[u64]) -> Registry {
+fn start(w: Registry, c: Call, ram: &[u64]) -> Registry
+    ensures { λ r. ⌜ r ≡ after (startIn (lentOf w) c (now (ram .entry))) start ⌝ }
+{
     if c.kind == 16 {
         return build(w, c, ram);
     }
@@ -107,36 +125,43 @@ fn start(w: Registry, c: Call, ram: &[u64]) -> Registry {
     register_all(w, c)
 }
 
-// The fields of a span that is not aligned.
-fn unaligned(h: u64, r: Reply) -> u64 {
-    let span = digest::word(digest::word(h, r.span_start), r.span_end);
-    let edge = digest::word(digest::word(span, r.edge_start), r.edge_end);
-    let node = digest::word(
-        digest::word(digest::word(edge, r.vnode), r.node_start),
-        r.node_end,
-    );
-    digest::word(node, r.alignment)
-}
-
-// A call run to its end.
-pub fn call(first: Registry, c: Call, ram: &[u64]) -> Registry {
-    let mut w = start(first, c, ram);
-    let mut place: u64 = 0;
-    while place < 8192 {
+fn finish(first: Registry, c: Call) -> Registry
+    ensures { λ r. ⌜ r ≡ finishedFrom 8192 0 first c ⌝ }
+{
+    let mut w = first;
+    let mut at: u64 = 0;
+    while at < 8192 {
         if w.reply.asked == 0 {
-            break;
+            return w;
         }
-        place += 1;
-        w = answer(w, c, place);
+        at += 1;
+        w = answer(w, c, at);
     }
     w
 }
 
-pub fn asked(w: Registry) -> u64 {
-    unaligned(w.asked, w.reply)
+// The registry after a call that is run to its end, or to 8,192 answers.
+pub fn call(w: Registry, c: Call, ram: &[u64]) -> Registry
+    ensures { λ r. ⌜ r ≡ callOf w c (now (ram .entry)) ⌝ }
+{
+    finish(start(w, c, ram), c)
 }
 
-pub fn left(w: Registry) -> u64 {
+// The digest of what a call asked for, with the fields of a span that is not aligned.
+pub fn asked(w: Registry) -> u64
+    ensures { λ x. ⌜ x ≡ askedOf w ⌝ }
+{
+    let r = w.reply;
+    let span = digest::word(digest::word(w.asked, r.span_start), r.span_end);
+    let edge = digest::word(digest::word(span, r.edge_start), r.edge_end);
+    let node = digest::word(digest::word(edge, r.vnode), r.node_start);
+    digest::word(digest::word(node, r.node_end), r.alignment)
+}
+
+// The digest of the two bitmaps.
+pub fn left(w: Registry) -> u64
+    ensures { λ x. ⌜ x ≡ leftOf w ⌝ }
+{
     let registered = w.registered;
     let failed = w.failed;
     digest::words(digest::words(digest::START, &registered), &failed)

@@ -1,4 +1,7 @@
 // What is lent to the protector's calls, and a recorded call.
+ghost use mathlib.Core.Path.{_≡_};
+ghost use Prim.Native.Nat.{_≤_};
+ghost use Rattle.playback.specs.World.{bytesIf, noWorld};
 use protector_state::Reply;
 
 // The runs of docs/ABI.md, the last reply, and the digest of what the call under way asked for.
@@ -30,28 +33,20 @@ pub struct Call {
     pub runs: u64,
 }
 
-pub fn code_of(code: u64) -> u16 {
-    (code % 65536) as u16
-}
-
-// An answer that is one value, as a reply: the value in the place of the index.
-pub fn told(number: u64, value: u64, count: u64) -> Reply {
-    Reply {
-        number: number,
-        code: 0,
-        index: value,
-        count: count,
-        operation: 0,
-        vtl: 0,
-        flags: 0,
-        operand: 0,
-        first: 0,
-        pages: 0,
-        shared: 0,
+// How many bytes of each permission map are lent: all where permissions are tracked, else none.
+pub fn bytes_if(tracked: u64) -> usize
+    ensures { λ r. ⌜ (r ≡ bytesIf tracked) × (r ≤ 64) ⌝ }
+{
+    if tracked == 1 {
+        return 64;
     }
+    0
 }
 
-pub fn nothing() -> World {
+// The world before the first build.
+pub fn nothing() -> World
+    ensures { λ r. ⌜ r ≡ noWorld ⌝ }
+{
     World {
         private: [0; 64],
         shared: [0; 64],
@@ -62,7 +57,7 @@ pub fn nothing() -> World {
         state: [0; 128],
         pages: [0; 1024],
         tables: [0; 3460],
-        reply: told(0, 0, 0),
+        reply: protector_state::finished(0, 0, 0, 0),
         asked: 0,
     }
 }

@@ -1,5 +1,10 @@
 // The protector's part of the file.
+ghost use mathlib.Core.Path.{_≡_};
+ghost use Rattle.recording.specs.Decode.{numberAt};
+ghost use Rattle.playback.specs.World.{noWorld};
+ghost use Rattle.replay.specs.Lines.{fieldsAt, afterLine, putOf, timesBefore, putOften, comparedTo, worldAfter, tallyAfter, afterLines};
 use crate::tally;
+use abi::place;
 use playback::answers;
 use playback::calls;
 use playback::left;
@@ -15,7 +20,9 @@ struct Step {
     next: usize,
 }
 
-fn put(w: World, c: Call, list: &[u8], ram: &[u64]) -> World {
+fn put(w: World, c: Call, list: &[u8], ram: &[u64]) -> World
+    ensures { λ r. ⌜ r ≡ putOf w c (now (list .entry)) (now (ram .entry)) ⌝ }
+{
     let mut fresh = w;
     fresh.asked = recording::digest::START;
     if c.kind == 0 {
@@ -25,42 +32,42 @@ fn put(w: World, c: Call, list: &[u8], ram: &[u64]) -> World {
 }
 
 // Of a call that fails nowhere the place of the code says how often it is put before.
-fn times_before(c: Call) -> u64 {
-    if c.place == 0 { c.code } else { 0 }
+fn times_before(c: Call) -> u64
+    ensures { λ r. ⌜ r ≡ timesBefore c ⌝ }
+{
+    if c.place == 0 {
+        return c.code;
+    }
+    0
 }
 
-fn put_often(w: World, c: Call, list: &[u8], ram: &[u64]) -> World {
-    let n = times_before(c);
+fn put_often(w: World, c: Call, list: &[u8], ram: &[u64]) -> World
+    ensures { λ r. ⌜ r ≡ putOften w c (now (list .entry)) (now (ram .entry)) ⌝ }
+{
     let mut v = w;
-    let mut i: u64 = 0;
-    while i < n {
+    let mut left = times_before(c);
+    while 0 < left {
         v = put(v, c, list, ram);
-        i += 1;
+        left -= 1;
     }
     put(v, c, list, ram)
 }
 
-fn compare(w: World, f: &[u64; 16], tally: &mut [u64]) {
+fn compare(w: World, f: &[u64; 16], tally: &mut [u64])
+    ensures { λ _. ⌜ now (tally .exit) ≡ comparedTo w (now (f .entry)) (now (tally .entry)) ⌝ }
+{
     let r = w.reply;
     let state = w.state;
-    let g: [u64; 6] = [
-        tally::result_of(r.number),
-        r.code,
-        r.index,
-        r.count,
-        w.asked,
-        left::left(w),
-    ];
-    tally::note(
-        tally,
-        f,
-        &g,
-        r.number,
-        std::num::wrapping_sub_u64(state[16], 2),
-    );
+    let result = tally::result_of(r.number);
+    let left = left::left(w);
+    let g: [u64; 6] = [result, r.code, r.index, r.count, w.asked, left];
+    let column = state[place::ISOLATION] % 4 + 2;
+    tally::note(tally, f, &g, r.number, column);
 }
 
-fn line(input: &[u8], s: Step, tally: &mut [u64]) -> Step {
+fn line(input: &[u8], s: Step, tally: &mut [u64]) -> Step
+    ensures { λ r. ⌜ (r .world ≡ worldAfter (now (input .entry)) (s .world) (s .next)) × (r .next ≡ afterLine (now (input .entry)) (s .next)) × (now (tally .exit) ≡ comparedTo (worldAfter (now (input .entry)) (s .world) (s .next)) (fieldsAt (now (input .entry)) (s .next)) (now (tally .entry))) ⌝ }
+{
     let mut f = [0u64; 16];
     let mut list = [0u8; 4096];
     let mut ram = [0u64; 96];
@@ -81,17 +88,19 @@ fn line(input: &[u8], s: Step, tally: &mut [u64]) -> Step {
     }
 }
 
-// The number of lines, then a line for each call: the place after them.
-pub fn run(input: &[u8], from: usize, tally: &mut [u64]) -> usize {
+// The calls of this part are put and counted: how many lines, then a line for each. The place after them.
+pub fn run(input: &[u8], from: usize, tally: &mut [u64]) -> usize
+    ensures { λ r. ⌜ (now (tally .exit) ≡ tallyAfter (numberAt (now (input .entry)) from .value) (now (input .entry)) noWorld (numberAt (now (input .entry)) from .next) (now (tally .entry))) × (r ≡ afterLines (numberAt (now (input .entry)) from .value) (now (input .entry)) (numberAt (now (input .entry)) from .next)) ⌝ }
+{
     let count = decode::number(input, from);
     let mut s = Step {
         world: world::nothing(),
         next: count.next,
     };
-    let mut i: u64 = 0;
-    while i < count.value {
+    let mut left = count.value;
+    while 0 < left {
         s = line(input, s, tally);
-        i += 1;
+        left -= 1;
     }
     s.next
 }

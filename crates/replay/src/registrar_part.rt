@@ -1,72 +1,44 @@
 // The registrar's part of the file.
+ghost use mathlib.Core.Path.{_≡_};
+ghost use Rattle.recording.specs.Decode.{numberAt};
+ghost use Rattle.replay.specs.Lines.{fieldsAt, afterLine, noRegistry, registryComparedTo, registryAfter, registryTally};
 use crate::tally;
 use playback::registry;
 use playback::registry::Registry;
 use recording::decode;
 use recording::lists;
-use registrar_state::Reply;
 
 struct Step {
     registry: Registry,
     next: usize,
 }
 
-fn no_reply() -> Reply {
-    Reply {
-        number: 0,
-        asked: 0,
-        count: 0,
-        start: 0,
-        end: 0,
-        address: 0,
-        span_start: 0,
-        span_end: 0,
-        edge_start: 0,
-        edge_end: 0,
-        vnode: 0,
-        node_start: 0,
-        node_end: 0,
-        alignment: 0,
-    }
-}
-
-fn nothing() -> Registry {
+fn nothing() -> Registry
+    ensures { λ r. ⌜ r ≡ noRegistry ⌝ }
+{
     Registry {
         state: [0; 108],
         registered: [0; 8],
         failed: [0; 8],
-        reply: no_reply(),
+        reply: registrar_state::done(0),
         asked: 0,
     }
 }
 
-fn compare(w: Registry, f: &[u64; 16], tally: &mut [u64]) {
+fn compare(w: Registry, f: &[u64; 16], tally: &mut [u64])
+    ensures { λ _. ⌜ now (tally .exit) ≡ registryComparedTo w (now (f .entry)) (now (tally .entry)) ⌝ }
+{
     let r = w.reply;
-    let g: [u64; 6] = [
-        tally::result_of(r.number),
-        0,
-        r.address,
-        r.count,
-        registry::asked(w),
-        registry::left(w),
-    ];
+    let result = tally::result_of(r.number);
+    let asked = registry::asked(w);
+    let left = registry::left(w);
+    let g: [u64; 6] = [result, 0, r.address, r.count, asked, left];
     tally::note(tally, f, &g, r.number, 3);
 }
 
-// The place after so many runs.
-fn after_runs(input: &[u8], at: usize, runs: u64) -> usize {
-    let mut next = at;
-    let mut i: u64 = 0;
-    while i < runs {
-        let first = decode::number(input, next);
-        let count = decode::number(input, first.next);
-        next = count.next;
-        i += 1;
-    }
-    next
-}
-
-fn line(input: &[u8], s: Step, tally: &mut [u64]) -> Step {
+fn line(input: &[u8], s: Step, tally: &mut [u64]) -> Step
+    ensures { λ r. ⌜ (r .registry ≡ registryAfter (now (input .entry)) (s .registry) (s .next)) × (r .next ≡ afterLine (now (input .entry)) (s .next)) × (now (tally .exit) ≡ registryComparedTo (registryAfter (now (input .entry)) (s .registry) (s .next)) (fieldsAt (now (input .entry)) (s .next)) (now (tally .entry))) ⌝ }
+{
     let mut f = [0u64; 16];
     let mut ram = [0u64; 96];
     let at = decode::numbers(input, s.next, &mut f);
@@ -76,19 +48,22 @@ fn line(input: &[u8], s: Step, tally: &mut [u64]) -> Step {
     compare(w, &f, tally);
     Step {
         registry: w,
-        next: after_runs(input, at, c.runs),
+        next: lists::after_runs(input, at, c.runs),
     }
 }
 
-pub fn run(input: &[u8], from: usize, tally: &mut [u64]) {
+// The calls of this part are put and counted: how many lines, then a line for each.
+pub fn run(input: &[u8], from: usize, tally: &mut [u64])
+    ensures { λ _. ⌜ now (tally .exit) ≡ registryTally (numberAt (now (input .entry)) from .value) (now (input .entry)) noRegistry (numberAt (now (input .entry)) from .next) (now (tally .entry)) ⌝ }
+{
     let count = decode::number(input, from);
     let mut s = Step {
         registry: nothing(),
         next: count.next,
     };
-    let mut i: u64 = 0;
-    while i < count.value {
+    let mut left = count.value;
+    while 0 < left {
         s = line(input, s, tally);
-        i += 1;
+        left -= 1;
     }
 }

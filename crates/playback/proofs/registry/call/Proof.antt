@@ -1,50 +1,19 @@
--- `playback::registry::call` ends. Assumes nothing.
-use Prim.Native.Nat.{_-_, _≤_}
+-- `playback::registry::call` meets its contract. Assumes nothing.
+use mathlib.Core.Path.{ap, _∙_}
+use Rattle.playback.specs.declared.registry.Registry.{Registry}
+use Rattle.playback.specs.Registry.{finishedFrom}
 use borrow.Author.Needs.{needs}
 use Rattle.playback.proofs.registry.call.Statement.{statement}
 use Rattle.playback.proofs.registry.call.Tie as tie
 
-abbrev Inv-loop : tie.InvT-loop
-Inv-loop c ram w₀ place₀ w place = place ≤ 8192
-
-abbrev μ-loop : tie.MeasureT-loop
-μ-loop c ram w₀ place₀ w place = 8192 - place
-
-start-requires : tie.Need-start-requires Inv-loop μ-loop
+start-requires : tie.Need-start-requires
 start-requires c κs = search needs
 
-loop-holds : tie.Need-loop-holds Inv-loop μ-loop
-loop-holds c = search needs
+finish-requires : tie.Need-finish-requires
+finish-requires c κs = search needs
 
-add-place : tie.Need-add-place Inv-loop μ-loop
-add-place c = search needs
-
-answer-requires : tie.Need-answer-requires Inv-loop μ-loop
-answer-requires c κs = search needs
-
-loop-less : tie.Need-loop-less Inv-loop μ-loop
-loop-less c = search needs
-
-loop-again : tie.Need-loop-again Inv-loop μ-loop
-loop-again c = search needs
-
-returns : tie.Need-returns Inv-loop μ-loop
-returns c = search needs
-
-returns-2 : tie.Need-returns-2 Inv-loop μ-loop
-returns-2 c = search needs
+returns : tie.Need-returns
+returns c = c .finish .ensures ∙ ap (λ (w : Registry). finishedFrom 8192 0 w (c .before .before .before .args .c)) (c .before .start .ensures)
 
 pub call-spec : {M : Type 1} → statement M
-call-spec =
-    tie.close
-    (tie.spec
-    Inv-loop
-    μ-loop
-    start-requires
-    loop-holds
-    add-place
-    answer-requires
-    loop-less
-    loop-again
-    returns
-    returns-2)
+call-spec = tie.close (tie.spec start-requires finish-requires returns)

@@ -1,24 +1,35 @@
 -- `recording::decode::number` meets its contract. Assumes nothing.
+use mathlib.Core.List.{List}
+use mathlib.Core.Path.{ap, _≡_, refl, _∙_}
 use borrow.Author.Needs.{needs}
-use Prim.Native.Nat.{_-_, _≤_, max}
-use lib.ListN.{length}
+use Prim.Native.Nat.{ℕ, _+_, _-_}
+use native.Mathlib.Omega.{arith}
+use lib.ListN.{length, drop}
+use Rattle.recording.proofs.Laws.{digits-end, digits-stop, digits-next}
+use Rattle.recording.specs.Decode.{digitsFrom, numberAt}
 use Rattle.recording.proofs.decode.number.Statement.{statement}
 use Rattle.recording.proofs.decode.number.Tie as tie
 
 abbrev Inv-loop : tie.InvT-loop
-Inv-loop input at value₀ i₀ value i = (at ≤ i) × (i ≤ max at (length input))
+Inv-loop input at value₀ i₀ value i = digitsFrom (drop i input) value i ≡ numberAt input at
 
 abbrev μ-loop : tie.MeasureT-loop
 μ-loop input at value₀ i₀ value i = length input - i
 
 loop-holds : tie.Need-loop-holds Inv-loop μ-loop
-loop-holds c = search needs
+loop-holds c = refl
 
 shared-slice-read-digit : tie.Need-shared-slice-read-digit Inv-loop μ-loop
 shared-slice-read-digit c = search needs
 
 digit-requires : tie.Need-digit-requires Inv-loop μ-loop
 digit-requires c κs = search needs
+
+add-t10 : tie.Need-add-t10 Inv-loop μ-loop
+add-t10 c = search needs
+
+returns : tie.Need-returns Inv-loop μ-loop
+returns c = digits-stop (c .before .before .before .before .before .before .args .input .now) (c .before .before .before .before .loop .value) (c .before .before .before .before .loop .i) (c .before .digit .result) (omega arith) (c .before .digit .ensures) (omega arith) ∙ c .before .before .before .before .loop .inv
 
 with-digit-requires : tie.Need-with-digit-requires Inv-loop μ-loop
 with-digit-requires c κs = search needs
@@ -30,13 +41,14 @@ loop-less : tie.Need-loop-less Inv-loop μ-loop
 loop-less c = search needs
 
 loop-again : tie.Need-loop-again Inv-loop μ-loop
-loop-again c = search needs
+loop-again c =
+    let s : List ℕ = c .before .before .before .before .before .before .before .args .input .now in
+    let i : ℕ = c .before .before .before .before .before .loop .i in
+    ap (λ (v : ℕ). digitsFrom (drop (i + 1) s) v (i + 1)) (c .with-digit .ensures)
+    ∙ digits-next s (c .before .before .before .before .before .loop .value) i (c .before .before .digit .result) (omega arith) (c .before .before .digit .ensures) (omega arith) ∙ c .before .before .before .before .before .loop .inv
 
-after-requires : tie.Need-after-requires Inv-loop μ-loop
-after-requires c κs = search needs
-
-returns : tie.Need-returns Inv-loop μ-loop
-returns c = search needs
+returns-2 : tie.Need-returns-2 Inv-loop μ-loop
+returns-2 c = digits-end (c .before .before .before .args .input .now) (c .before .loop .value) (c .before .loop .i) (omega arith) ∙ c .before .loop .inv
 
 pub number-spec : {M : Type 1} → statement M
 number-spec =
@@ -47,9 +59,10 @@ number-spec =
     loop-holds
     shared-slice-read-digit
     digit-requires
+    add-t10
+    returns
     with-digit-requires
     add-i
     loop-less
     loop-again
-    after-requires
-    returns)
+    returns-2)

@@ -1,19 +1,23 @@
 -- `recording::lists::fill` meets its contract. Assumes nothing.
 use borrow.Author.Needs.{needs}
-use Prim.Native.Nat.{_-_, _≤_}
+use mathlib.Core.Path.{_≡_, refl, _∙_}
+use mathlib.Core.List.{List}
+use Prim.Native.Nat.{ℕ}
+use native.Mathlib.Omega.{arith}
 use lib.ListN.{length}
-use mathlib.Core.Path.{_≡_}
+use Rattle.recording.specs.Lists.{filling, withRuns, afterRuns}
+use Rattle.recording.proofs.Laws.{runs-step, after-runs-step, no-runs, after-none}
 use Rattle.recording.proofs.lists.fill.Statement.{statement}
 use Rattle.recording.proofs.lists.fill.Tie as tie
 
 abbrev Inv-loop : tie.InvT-loop
-Inv-loop list₀ input at runs next₀ len₀ i₀ list next len i = (i ≤ runs) × (length list ≡ length list₀)
+Inv-loop list₀ input at runs next₀ len₀ left₀ list next len left = (length list ≡ length list₀) × (withRuns left input next (filling list len) ≡ withRuns runs input at (filling list₀ 0)) × (afterRuns left input next ≡ afterRuns runs input at)
 
 abbrev μ-loop : tie.MeasureT-loop
-μ-loop list₀ input at runs next₀ len₀ i₀ list next len i = runs - i
+μ-loop list₀ input at runs next₀ len₀ left₀ list next len left = left
 
 loop-holds : tie.Need-loop-holds Inv-loop μ-loop
-loop-holds c = search needs
+loop-holds c = (refl, refl, refl)
 
 number-requires : tie.Need-number-requires Inv-loop μ-loop
 number-requires c κs = search needs
@@ -24,20 +28,27 @@ number-requires-2 c κs = search needs
 put-run-requires : tie.Need-put-run-requires Inv-loop μ-loop
 put-run-requires c κs = search needs
 
-add-i : tie.Need-add-i Inv-loop μ-loop
-add-i c = search needs
+sub-left : tie.Need-sub-left Inv-loop μ-loop
+sub-left c = search needs
 
 loop-less : tie.Need-loop-less Inv-loop μ-loop
 loop-less c = search needs
 
 loop-again : tie.Need-loop-again Inv-loop μ-loop
-loop-again c = search needs
+loop-again c =
+    let h = c .before .before .before .before .before .before .before .loop in
+    let a = c .before .before .before .before .before .before .before .before .before .before .args in
+    let p = c .before .before .put-run in
+    (p .kept .0 ∙ h .inv .0, runs-step (a .input .now) (h .next) (c .before .before .before .before .before .number .result) (c .before .before .before .before .number2 .result) (c .before .before .before .before .before .number .ensures) (c .before .before .before .before .number2 .ensures) (h .left) (filling (h .list) (h .len)) (filling (p .last .0) (p .result)) (omega arith) (p .ensures) ∙ h .inv .1, after-runs-step (a .input .now) (h .next) (c .before .before .before .before .before .number .result) (c .before .before .before .before .number2 .result) (c .before .before .before .before .before .number .ensures) (c .before .before .before .before .number2 .ensures) (h .left) (omega arith) ∙ h .inv .2)
 
 same-length : tie.Need-same-length Inv-loop μ-loop
-same-length c = search needs
+same-length c = c .before .loop .inv .0
 
 returns : tie.Need-returns Inv-loop μ-loop
-returns c = search needs
+returns c =
+    let h = c .before .loop in
+    let s : List ℕ = c .before .before .before .before .args .input .now in
+    (no-runs (h .left) s (h .next) (filling (h .list) (h .len)) (omega arith) ∙ h .inv .1, after-none (h .left) s (h .next) (omega arith) ∙ h .inv .2)
 
 pub fill-spec : {M : Type 1} → statement M
 fill-spec =
@@ -49,7 +60,7 @@ fill-spec =
     number-requires
     number-requires-2
     put-run-requires
-    add-i
+    sub-left
     loop-less
     loop-again
     same-length

@@ -5,6 +5,7 @@
 //! callgrind counts (valgrind must be at hand); of families of rows, or of rows whose name has that
 //! text in it; of all if none is named. Callgrind's files stay in the folder of --keep.
 
+mod builds;
 mod instructions;
 mod protections;
 mod queries;
@@ -24,7 +25,7 @@ pub struct Family {
     rows: fn() -> Vec<Row>,
 }
 
-const FAMILIES: [Family; 8] = [
+const FAMILIES: [Family; 9] = [
     Family {
         name: "visibility",
         heading: "4 GiB, tracked",
@@ -34,6 +35,11 @@ const FAMILIES: [Family; 8] = [
         name: "held",
         heading: "SNP, 4 GiB, tracked, more held",
         rows: visibility::held,
+    },
+    Family {
+        name: "builds",
+        heading: "SNP, tracked",
+        rows: builds::rows,
     },
     Family {
         name: "protections",

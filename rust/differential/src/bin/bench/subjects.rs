@@ -233,6 +233,40 @@ impl Subject for Original {
     }
 }
 
+/// What VTL0 has besides, at the end of memory.
+#[derive(Clone, Copy)]
+pub struct Held {
+    pub overlays: u64,
+    pub lists: u64,
+    /// How many pages each locked list has.
+    pub list: u64,
+}
+
+impl Held {
+    pub const NOTHING: Held = Held {
+        overlays: 0,
+        lists: 0,
+        list: 0,
+    };
+
+    /// As much as the tables take.
+    pub const FULL: Held = Held {
+        overlays: 128,
+        lists: 64,
+        list: 16,
+    };
+}
+
+/// Overlays of the last pages, and locked lists of pages before them; whether all went well.
+pub fn hold(subject: &mut dyn Subject, end: u64, held: Held) -> bool {
+    let end = end / 4096;
+    let mut overlays = end - held.overlays..end;
+    let first = end - 2000;
+    let mut lists = (0..held.lists).map(|i| first + i * held.list);
+    overlays.all(|gpn| subject.register(gpn))
+        && lists.all(|first| subject.lock(&Vec::from_iter(first..first + held.list)))
+}
+
 /// A protector of one entry of RAM, permissions tracked.
 pub fn subject(kind: Kind, isolation: IsolationType, end: u64) -> Box<dyn Subject> {
     match kind {

@@ -5,7 +5,9 @@
 //! and one batch makes the call once on each.
 
 use crate::row::Row;
+use crate::subjects::Held;
 use crate::subjects::Subject;
+use crate::subjects::hold;
 use crate::subjects::subject;
 use std::hint::black_box;
 use underhill_mem_port::IsolationType::Snp;
@@ -24,7 +26,7 @@ struct Pair {
     /// Of each its name, of both together, and what is held.
     names: [&'static str; 3],
     held: &'static str,
-    /// Makes one more be held, of that number.
+    /// Makes that many be held.
     hold: Call,
     calls: [Call; 2],
 }
@@ -36,7 +38,7 @@ const OVERLAYS: Pair = Pair {
         "register and unregister an overlay, both",
     ],
     held: "overlays",
-    hold: |subject, gpn| subject.register(gpn),
+    hold: |subject, held| (0..held).all(|gpn| subject.register(gpn)),
     calls: [
         |subject, held| subject.register(black_box(held + 5)),
         |subject, held| subject.unregister(black_box(held + 5)),
@@ -50,11 +52,24 @@ const LOCKS: Pair = Pair {
         "lock and unlock 2 pages, both",
     ],
     held: "lists",
-    hold: |subject, page| subject.lock(&[page]),
+    hold: |subject, held| (0..held).all(|page| subject.lock(&[page])),
     calls: [
         |subject, held| subject.lock(black_box(&[held, held + 1])),
         |subject, held| subject.unlock(black_box(&[held, held + 1])),
     ],
+};
+
+/// With all the overlays that there may be, and longer lists.
+const FULL_LOCKS: Pair = Pair {
+    held: "lists of 16 pages, 128 overlays",
+    hold: |subject, lists| {
+        let held = Held {
+            lists,
+            ..Held::FULL
+        };
+        hold(subject, END, held)
+    },
+    ..LOCKS
 };
 
 pub fn overlays() -> Vec<Row> {
@@ -65,7 +80,11 @@ pub fn overlays() -> Vec<Row> {
 }
 
 pub fn locks() -> Vec<Row> {
-    [0, 63].iter().flat_map(|&held| rows(LOCKS, held)).collect()
+    // Beside 64 lists the port refuses what the original takes.
+    [(LOCKS, 0), (LOCKS, 63), (FULL_LOCKS, 63)]
+        .iter()
+        .flat_map(|&(pair, held)| rows(pair, held))
+        .collect()
 }
 
 fn rows(pair: Pair, held: u64) -> [Row; 2] {
@@ -104,6 +123,6 @@ fn rows(pair: Pair, held: u64) -> [Row; 2] {
 }
 
 fn holding(mut subject: Box<dyn Subject>, pair: Pair, held: u64) -> Box<dyn Subject> {
-    assert!((0..held).all(|number| (pair.hold)(&mut *subject, number)));
+    assert!((pair.hold)(&mut *subject, held));
     subject
 }

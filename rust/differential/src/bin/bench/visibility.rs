@@ -1,7 +1,8 @@
 //! The rows of visibility changes: pages are shared and returned, list after list.
 
 use crate::row::Row;
-use crate::subjects::Subject;
+use crate::subjects::Held;
+use crate::subjects::hold;
 use crate::subjects::subject;
 use std::hint::black_box;
 use underhill_mem_port::IsolationType;
@@ -15,6 +16,9 @@ struct Shape {
     pages: u64,
     /// From one page to the next: 1 for one run, 2 for as many runs as pages.
     step: u64,
+    /// From one page of the list to the next in the order of pages, modulo their number: 1 where
+    /// they ascend.
+    turn: u64,
     /// How many lists, one after the other, are shared and then returned in a round: so few that
     /// seldom another process comes between.
     lists: u32,
@@ -26,6 +30,7 @@ const SHAPES: [Shape; 5] = [
         name: "1 page",
         pages: 1,
         step: 1,
+        turn: 1,
         lists: 200,
         rounds: 401,
     },
@@ -33,6 +38,7 @@ const SHAPES: [Shape; 5] = [
         name: "16 pages, one run",
         pages: 16,
         step: 1,
+        turn: 1,
         lists: 100,
         rounds: 301,
     },
@@ -40,6 +46,7 @@ const SHAPES: [Shape; 5] = [
         name: "16 pages, 16 runs",
         pages: 16,
         step: 2,
+        turn: 1,
         lists: 40,
         rounds: 201,
     },
@@ -47,6 +54,7 @@ const SHAPES: [Shape; 5] = [
         name: "512 pages, one run",
         pages: 512,
         step: 1,
+        turn: 1,
         lists: 10,
         rounds: 201,
     },
@@ -54,34 +62,40 @@ const SHAPES: [Shape; 5] = [
         name: "512 pages, 512 runs",
         pages: 512,
         step: 2,
+        turn: 1,
         lists: 2,
         rounds: 101,
     },
 ];
 
-/// What the caller's VTL has besides, away from the lists.
-#[derive(Clone, Copy)]
-struct Held {
-    overlays: u64,
-    locked: u64,
-}
+/// Neither ascending nor descending, and no page twice: 201 is odd.
+const NO_ORDER: Shape = Shape {
+    name: "512 pages, in no order",
+    pages: 512,
+    step: 1,
+    turn: 201,
+    lists: 2,
+    rounds: 101,
+};
 
-/// Nothing held, on each isolation.
+/// Nothing held, on each isolation; a list in no order on SNP.
 pub fn plain() -> Vec<Row> {
     let isolations = [
         (IsolationType::Snp, "SNP"),
         (IsolationType::Tdx, "TDX"),
         (IsolationType::Cca, "CCA"),
     ];
-    let none = Held {
-        overlays: 0,
-        locked: 0,
+    let plain = |shape, isolation, name| {
+        row(shape, isolation, Held::NOTHING, |what| {
+            format!("{name}, {what}")
+        })
     };
     let rows = isolations.iter().flat_map(|&(isolation, name)| {
         let rows = SHAPES.iter();
-        rows.map(move |shape| row(shape, isolation, none, |what| format!("{name}, {what}")))
+        rows.map(move |shape| plain(shape, isolation, name))
     });
-    rows.collect()
+    let no_order = plain(&NO_ORDER, IsolationType::Snp, "SNP");
+    rows.chain([no_order]).collect()
 }
 
 /// Overlays and locked pages, on SNP.
@@ -89,7 +103,11 @@ pub fn held() -> Vec<Row> {
     let held = [(10, 0), (127, 0), (0, 1000), (10, 1000), (127, 1000)];
     let rows = held.iter().flat_map(|&(overlays, locked)| {
         let rows = SHAPES.iter();
-        let held = Held { overlays, locked };
+        let held = Held {
+            overlays,
+            lists: locked / 500,
+            list: 500,
+        };
         let name = move |what: String| format!("{what}; {overlays} overlays, {locked} locked");
         rows.map(move |shape| row(shape, IsolationType::Snp, held, name))
     });
@@ -111,7 +129,7 @@ fn row(
         rounds: shape.rounds,
         make: Box::new(move |kind| {
             let mut subject = subject(kind, isolation, END);
-            hold(&mut *subject, held);
+            assert!(hold(&mut *subject, END, held));
             let lists = lists(shape);
             Box::new(move |part| {
                 let mut lists = lists.iter();
@@ -124,19 +142,7 @@ fn row(
 /// Lists of pages that lie apart.
 fn lists(shape: &Shape) -> Vec<Vec<u64>> {
     let span = shape.pages * shape.step + 3;
-    let list = |i: u64| (0..shape.pages).map(move |p| i * span + p * shape.step);
+    let page = |p: u64| p * shape.turn % shape.pages * shape.step;
+    let list = |i: u64| (0..shape.pages).map(move |p| i * span + page(p));
     (0..shape.lists.into()).map(|i| list(i).collect()).collect()
-}
-
-/// Overlays of the last pages, and two locked lists of pages before them.
-fn hold(subject: &mut dyn Subject, held: Held) {
-    let end = END / 4096;
-    for gpn in end - held.overlays..end {
-        assert!(subject.register(gpn));
-    }
-    let first = end - 2000;
-    let pages: Vec<u64> = (first..first + held.locked).collect();
-    for list in pages.chunks(500) {
-        assert!(subject.lock(list));
-    }
 }

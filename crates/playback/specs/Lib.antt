@@ -1,0 +1,5 @@
+pub mod Answers
+pub mod Calls
+pub mod Left
+pub mod Registry
+pub mod World

@@ -1,0 +1,335 @@
+// The entries, lent a world by value. Of each permission map the first n bytes are lent: all where permissions are tracked, else none.
+ghost use mathlib.Core.Path.{_≡_};
+ghost use Prim.Native.Nat.{_≤_};
+ghost use Rattle.protector.specs.Calls.{buildOf, visibilityOf, answerDone, answerFailed};
+ghost use Rattle.protection_entries.specs.Calls.{defaultOf, protectionOf};
+ghost use Rattle.overlay_entries.specs.Calls.{unregisterOf, registerOf};
+ghost use Rattle.playback.specs.World.{lentOf, after, codeOf};
+use crate::world::Call;
+use crate::world::World;
+
+fn code_of(code: u64) -> u16
+    ensures { λ r. ⌜ r ≡ codeOf code ⌝ }
+{
+    (code % 65536) as u16
+}
+
+// The world after a build that is lent it.
+pub fn build(w: World, n: usize, c: Call, ram: &[u64]) -> World
+    requires { ⌜ n ≤ 64 ⌝ }
+    ensures { λ r. ⌜ r ≡ after n w (buildOf (lentOf n w) (now (ram .entry)) (c .a) (c .b) (c .c)) ⌝ }
+{
+    let mut private = w.private;
+    let mut shared = w.shared;
+    let mut read = w.read;
+    let mut write = w.write;
+    let mut kernel = w.kernel;
+    let mut user = w.user;
+    let mut state = w.state;
+    let mut pages = w.pages;
+    let mut tables = w.tables;
+    let r = underhill_mem::protector_build(
+        ram,
+        c.a,
+        c.b,
+        c.c,
+        &mut private,
+        &mut shared,
+        &mut read[..n],
+        &mut write[..n],
+        &mut kernel[..n],
+        &mut user[..n],
+        &mut state,
+        &mut pages,
+        &mut tables,
+    );
+    let mut v = w;
+    v.private = private;
+    v.shared = shared;
+    v.read = read;
+    v.write = write;
+    v.kernel = kernel;
+    v.user = user;
+    v.state = state;
+    v.pages = pages;
+    v.tables = tables;
+    v.reply = r;
+    v
+}
+
+// The world after a visibility change.
+pub fn visibility(w: World, n: usize, c: Call, list: &[u8]) -> World
+    requires { ⌜ n ≤ 64 ⌝ }
+    ensures { λ r. ⌜ r ≡ after n w (visibilityOf (lentOf n w) (c .a) (c .b) (now (list .entry))) ⌝ }
+{
+    let mut private = w.private;
+    let mut shared = w.shared;
+    let mut read = w.read;
+    let mut write = w.write;
+    let mut kernel = w.kernel;
+    let mut user = w.user;
+    let mut state = w.state;
+    let mut pages = w.pages;
+    let tables = w.tables;
+    let r = underhill_mem::protector_change_host_visibility(
+        &mut private,
+        &mut shared,
+        &mut read[..n],
+        &mut write[..n],
+        &mut kernel[..n],
+        &mut user[..n],
+        &mut state,
+        &mut pages,
+        &tables,
+        c.a,
+        c.b,
+        list,
+    );
+    let mut v = w;
+    v.private = private;
+    v.shared = shared;
+    v.read = read;
+    v.write = write;
+    v.kernel = kernel;
+    v.user = user;
+    v.state = state;
+    v.pages = pages;
+    v.reply = r;
+    v
+}
+
+// The world after a protection change.
+pub fn protections(w: World, n: usize, c: Call, list: &[u8]) -> World
+    requires { ⌜ n ≤ 64 ⌝ }
+    ensures { λ r. ⌜ r ≡ after n w (protectionOf (lentOf n w) (c .a) (c .b) (now (list .entry))) ⌝ }
+{
+    let private = w.private;
+    let shared = w.shared;
+    let mut read = w.read;
+    let mut write = w.write;
+    let mut kernel = w.kernel;
+    let mut user = w.user;
+    let mut state = w.state;
+    let mut pages = w.pages;
+    let tables = w.tables;
+    let r = protection_entries::protector_change_vtl_protections(
+        &private,
+        &shared,
+        &mut read[..n],
+        &mut write[..n],
+        &mut kernel[..n],
+        &mut user[..n],
+        &mut state,
+        &mut pages,
+        &tables,
+        c.a,
+        c.b,
+        list,
+    );
+    let mut v = w;
+    v.read = read;
+    v.write = write;
+    v.kernel = kernel;
+    v.user = user;
+    v.state = state;
+    v.pages = pages;
+    v.reply = r;
+    v
+}
+
+// The world after a default change.
+pub fn default(w: World, n: usize, c: Call) -> World
+    requires { ⌜ n ≤ 64 ⌝ }
+    ensures { λ r. ⌜ r ≡ after n w (defaultOf (lentOf n w) (c .a) (c .b)) ⌝ }
+{
+    let private = w.private;
+    let shared = w.shared;
+    let mut read = w.read;
+    let mut write = w.write;
+    let mut kernel = w.kernel;
+    let mut user = w.user;
+    let mut state = w.state;
+    let pages = w.pages;
+    let mut tables = w.tables;
+    let r = protection_entries::protector_change_default_vtl_protections(
+        &private,
+        &shared,
+        &mut read[..n],
+        &mut write[..n],
+        &mut kernel[..n],
+        &mut user[..n],
+        &mut state,
+        &pages,
+        &mut tables,
+        c.a,
+        c.b,
+    );
+    let mut v = w;
+    v.read = read;
+    v.write = write;
+    v.kernel = kernel;
+    v.user = user;
+    v.state = state;
+    v.tables = tables;
+    v.reply = r;
+    v
+}
+
+// The world after an overlay page is registered.
+pub fn register(w: World, n: usize, c: Call) -> World
+    requires { ⌜ n ≤ 64 ⌝ }
+    ensures { λ r. ⌜ r ≡ after n w (registerOf (lentOf n w) (c .a) (c .b) (c .c) (c .d) (c .e)) ⌝ }
+{
+    let private = w.private;
+    let shared = w.shared;
+    let mut read = w.read;
+    let mut write = w.write;
+    let mut kernel = w.kernel;
+    let mut user = w.user;
+    let mut state = w.state;
+    let pages = w.pages;
+    let mut tables = w.tables;
+    let r = overlay_entries::protector_register_overlay_page(
+        &private,
+        &shared,
+        &mut read[..n],
+        &mut write[..n],
+        &mut kernel[..n],
+        &mut user[..n],
+        &mut state,
+        &pages,
+        &mut tables,
+        c.a,
+        c.b,
+        c.c,
+        c.d,
+        c.e,
+    );
+    let mut v = w;
+    v.read = read;
+    v.write = write;
+    v.kernel = kernel;
+    v.user = user;
+    v.state = state;
+    v.tables = tables;
+    v.reply = r;
+    v
+}
+
+// The world after an overlay page is unregistered.
+pub fn unregister(w: World, n: usize, c: Call) -> World
+    requires { ⌜ n ≤ 64 ⌝ }
+    ensures { λ r. ⌜ r ≡ after n w (unregisterOf (lentOf n w) (c .a) (c .b)) ⌝ }
+{
+    let private = w.private;
+    let shared = w.shared;
+    let mut read = w.read;
+    let mut write = w.write;
+    let mut kernel = w.kernel;
+    let mut user = w.user;
+    let mut state = w.state;
+    let pages = w.pages;
+    let mut tables = w.tables;
+    let r = overlay_entries::protector_unregister_overlay_page(
+        &private,
+        &shared,
+        &mut read[..n],
+        &mut write[..n],
+        &mut kernel[..n],
+        &mut user[..n],
+        &mut state,
+        &pages,
+        &mut tables,
+        c.a,
+        c.b,
+    );
+    let mut v = w;
+    v.read = read;
+    v.write = write;
+    v.kernel = kernel;
+    v.user = user;
+    v.state = state;
+    v.tables = tables;
+    v.reply = r;
+    v
+}
+
+// The world after the answer that the operation asked for is done.
+pub fn done(w: World, n: usize) -> World
+    requires { ⌜ n ≤ 64 ⌝ }
+    ensures { λ r. ⌜ r ≡ after n w (answerDone (lentOf n w)) ⌝ }
+{
+    let mut private = w.private;
+    let mut shared = w.shared;
+    let mut read = w.read;
+    let mut write = w.write;
+    let mut kernel = w.kernel;
+    let mut user = w.user;
+    let mut state = w.state;
+    let mut pages = w.pages;
+    let mut tables = w.tables;
+    let r = underhill_mem::protector_answer_done(
+        &mut private,
+        &mut shared,
+        &mut read[..n],
+        &mut write[..n],
+        &mut kernel[..n],
+        &mut user[..n],
+        &mut state,
+        &mut pages,
+        &mut tables,
+    );
+    let mut v = w;
+    v.private = private;
+    v.shared = shared;
+    v.read = read;
+    v.write = write;
+    v.kernel = kernel;
+    v.user = user;
+    v.state = state;
+    v.pages = pages;
+    v.tables = tables;
+    v.reply = r;
+    v
+}
+
+// The world after the answer that it failed, with the code and the pages processed that the call names.
+pub fn failed(w: World, n: usize, c: Call) -> World
+    requires { ⌜ n ≤ 64 ⌝ }
+    ensures { λ r. ⌜ r ≡ after n w (answerFailed (lentOf n w) (codeOf (c .code)) (c .processed)) ⌝ }
+{
+    let mut private = w.private;
+    let mut shared = w.shared;
+    let mut read = w.read;
+    let mut write = w.write;
+    let mut kernel = w.kernel;
+    let mut user = w.user;
+    let mut state = w.state;
+    let mut pages = w.pages;
+    let mut tables = w.tables;
+    let r = underhill_mem::protector_answer_failed(
+        &mut private,
+        &mut shared,
+        &mut read[..n],
+        &mut write[..n],
+        &mut kernel[..n],
+        &mut user[..n],
+        &mut state,
+        &mut pages,
+        &mut tables,
+        code_of(c.code),
+        c.processed,
+    );
+    let mut v = w;
+    v.private = private;
+    v.shared = shared;
+    v.read = read;
+    v.write = write;
+    v.kernel = kernel;
+    v.user = user;
+    v.state = state;
+    v.pages = pages;
+    v.tables = tables;
+    v.reply = r;
+    v
+}
