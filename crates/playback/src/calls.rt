@@ -142,7 +142,7 @@ fn query(w: World, c: Call, list: &[u8]) -> World
     ensures { λ r. ⌜ r ≡ queriedOf w (queryOf (w .state) (w .shared) (now (list .entry)) (outOf c)) ⌝ }
 {
     let mut out = [0xa5u8; 520];
-    let n = numbers::least(c.a, 520) as usize;
+    let n = numbers::min(c.a, 520) as usize;
     query_in(w, list, &mut out[..n])
 }
 

@@ -10,14 +10,14 @@ use borrow.Author.Needs.{needs}
 use Rattle.playback.proofs.calls.query.Statement.{statement}
 use Rattle.playback.proofs.calls.query.Tie as tie
 
-least-requires : tie.Need-least-requires
-least-requires c κs = search needs
+min-requires : tie.Need-min-requires
+min-requires c κs = search needs
 
 array-borrow-prefix-out : tie.Need-array-borrow-prefix-out
 array-borrow-prefix-out c = search needs
 
 slice-aggregate-query-in : tie.Need-slice-aggregate-query-in
-slice-aggregate-query-in c = let k : ℕ = c .before .least .result in let d = length-replicate {A = ℕ} 520 165 in let e = c .before .least .ensures in sym (length-take-le k (replicate 520 165) (omega arith))
+slice-aggregate-query-in c = let k : ℕ = c .before .min .result in let d = length-replicate {A = ℕ} 520 165 in let e = c .before .min .ensures in sym (length-take-le k (replicate 520 165) (omega arith))
 
 query-in-requires : tie.Need-query-in-requires
 query-in-requires c κs = search needs
@@ -26,13 +26,13 @@ returns : tie.Need-returns
 returns c =
     let a = c .before .before .before .before .before .args in
     c .before .query-in .ensures
-    ∙ ap (λ (k : ℕ). queriedOf (a .w) (queryOf (a .w .state) (a .w .shared) (a .list .now) (take k (replicate 520 165)))) (c .before .before .before .least .ensures)
+    ∙ ap (λ (k : ℕ). queriedOf (a .w) (queryOf (a .w .state) (a .w .shared) (a .list .now) (take k (replicate 520 165)))) (c .before .before .before .min .ensures)
 
 pub query-spec : {M : Type 1} → statement M
 query-spec =
     tie.close
     (tie.spec
-    least-requires
+    min-requires
     array-borrow-prefix-out
     slice-aggregate-query-in
     query-in-requires
