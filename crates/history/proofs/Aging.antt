@@ -177,8 +177,7 @@ module _ (es : List MemoryRangeWithNode) (w : World) (o : Seen) (k : Stands es w
       let same = aged-same P′ (x .phase) (x .request) (w .pages) (aged p q (w .pages) g (o .age)) (ageAfter g o) (seen-age p g o q (w .pages) (k .names) (k .table)) made in
       let s′ : List ℕ = withRequest (x .phase) (x .request) (w .state) in
       record {
-        not4 = f .tells .not4;
-        not21 = f .tells .not21;
+        taken = f .tells .taken;
         stands = record {
           snp = ap isSnp (request-snp (x .phase) (x .request) (w .state)) ∙ a .snp;
           ages = subst (λ (y : Phase). Aged P′ y (requestOf s′) (w .pages) (ageAfter g o)) (sym (phase-read (x .phase)))
@@ -201,7 +200,7 @@ module _ (es : List MemoryRangeWithNode) (w : World) (o : Seen) (k : Stands es w
   changed g c x t =
       let r : Reply = flatOf (s .isolation) (x .answer) in
       let still : isQuiet (o .op) ≡ true = quiet-names p q (w .pages) (o .op) (changing-shut (w .state) c) (k .names) in
-      record { not4 = t .not4; not21 = t .not21; stands = change-aged (w .state) (w .tables) (w .pages) x (seesTaken g r (w .pages) o) refl (quiet-age g o still) }
+      record { taken = t .taken; stands = change-aged (w .state) (w .tables) (w .pages) x (seesTaken g r (w .pages) o) refl (quiet-age g o still) }
 
   few-here : q .n ≤ 512
   few-here = omega arith

@@ -2,14 +2,13 @@
 use Prim.Native.Nat.{ℕ, _≤_, _<_}
 use mathlib.Core.Path.{_≡_, refl, sym, ap, _∙_, subst}
 use mathlib.Core.List.{List, []}
-use mathlib.Core.Bool.{Bool, true, false, not, cond}
+use mathlib.Core.Bool.{Bool, true, false, cond}
 use native.Mathlib.Omega.{arith}
 use lib.ListN.{length, getD, take, set, length-take}
 use lib.Seq.{getD-take, getD-set-other, drop-set-lt}
 use lib.Dec.{eqb, ltb}
 use borrow.Author.Tests.{eqb-true, ltb-false}
 use Rattle.abi.specs.Refusals as refusal
-use Rattle.laws.specs.Bools.{false≢true}
 use Rattle.laws.specs.Refusal.{passed, when-passed}
 use Rattle.call_refusals.proofs.Laws.{is-ready}
 use Rattle.layout.specs.declared.MemoryRangeWithNode.{MemoryRangeWithNode}
@@ -17,6 +16,7 @@ use Rattle.layout.specs.Layout.{isRam}
 use Rattle.permissions.specs.declared.GuestVtl.{GuestVtl}
 use Rattle.permissions.specs.Flags.{fitVtl, vtlOf, fitBool, boolOf}
 use Rattle.page_list.specs.Pages.{pagesOf, isLong, isRagged, among, repeats}
+use Rattle.page_list.proofs.Laws.{among-at}
 use Rattle.request_pages.specs.Request.{wanted}
 use Rattle.request_pages.proofs.Table.{length-pick, pages-few}
 use Rattle.visibility_steps.specs.declared.Phase.the-variants as at
@@ -32,17 +32,13 @@ use Rattle.protector.specs.Writes.{applied}
 use Rattle.protector.specs.Calls.{refusedBy, decided, carriedOut, carriedChange, stopOf, askedFor, tableFor, visibilityTaken, visibilityOf}
 use Rattle.call_refusals.specs.Refusals.{pageRefusal, firstRefusal, visibilityRefusal}
 use Rattle.visibility_claims.proofs.Calls.{modify-pages}
+use Rattle.change_claims.proofs.Made.{among-take, among-pick}
 use Rattle.history.specs.Seen.{Seen, asks, seesCall}
 use Rattle.history.proofs.Took.{sharedIn}
-use Rattle.history.proofs.Bits.{among-own}
 use Rattle.history.proofs.Right.{opened, Right}
-use Rattle.history.proofs.Start.{among-take, repeats-take, among-pick, repeats-pick, holds, places-apart, first-all, ram-page, start-right}
+use Rattle.history.proofs.Start.{repeats-take, repeats-pick, holds, places-apart, first-all, ram-page, start-right}
 use Rattle.history.proofs.World.{Stands, settled, stops, quiet-names, idle-shut, stands-step, stands-change}
 use Rattle.history.proofs.Answers.{Told}
-
-pub not-true : (b : Bool) → not b ≡ true → b ≡ false
-not-true true h = false≢true h
-not-true false h = refl
 
 -- a call: refused it changes nothing, and asks for nothing
 pub called : (K : World → Seen → Type 0) (w : World) (o : Seen) → K w o → (ps : List ℕ) (n : ℕ) (T : Outcome) → (n ≡ 0 → K (T .world) (seesCall ps (T .reply) (T .world .pages) o))
@@ -160,7 +156,7 @@ module _ (es : List MemoryRangeWithNode) (w : World) (o : Seen) (k : Stands es w
   page j h = sym (getD-take (length Q) t j 0 h) ∙ ap (λ (m : List ℕ). getD m j 0) (modify-pages w v b l)
 
   named : (j : ℕ) → j < length Q → among (pagesOf l) (getD t j 0) ≡ true
-  named j h = ap (among (pagesOf l)) (page j h) ∙ among-take (stopOf w v b l) (pagesOf l) (getD Q j 0) (among-pick P ps (getD Q j 0) (among-own Q j h))
+  named j h = ap (among (pagesOf l)) (page j h) ∙ among-take (stopOf w v b l) (pagesOf l) (getD Q j 0) (among-pick P ps (getD Q j 0) (among-at Q j h))
 
   pub in-ram : (j : ℕ) → j < length Q → isRam es (getD t j 0) ≡ true
   in-ram j h =

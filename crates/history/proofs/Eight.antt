@@ -76,17 +76,13 @@ pub share8-asks : asks (asking8 .reply) ≡ true
 unfolding visibilityOf ready visibilityRefusal buildOf buildRefusal refusalOf entriesOf ordered aligned buildTaken word writtenFrom ramByte numberOf numberAt numbersFrom among repeats pick tableOf stopAt put placeFrom listsFrom held ask operationOf cleared startOf firstPhases phaseOf askedOf flatOf applied carriedOut firstRefusal visibilityTaken
 share8-asks = refl
 
--- ---- and while it waits a build with isolation 9, lent what stands, is refused (3): a step of the list
+-- ---- and while it waits a build with isolation 9, lent what stands, is refused: a step of the list
 
 abbrev seen8 : Seen
 seen8 = sees sharing8 (asking8 .reply) (asking8 .world .pages) unseen
 
 pub refused8 : History built8 unseen (asking8 .world) seen8
 refused8 = refusedBuild (call none sharing8 (asking8 .reply) share8) ram8 9 1 0 (buildOf (asking8 .world) ram8 9 1 0 .reply) (any-call (asking8 .world) .built ram8 9 1 0) (any-call (asking8 .world) .refused ram8 9 1 0 refl)
-
-pub refused8-number : buildOf (asking8 .world) ram8 9 1 0 .reply .number ≡ 3
-unfolding buildOf buildRefusal refusalOf entriesOf ordered aligned
-refused8-number = refl
 
 -- ---- so do the other calls that may ask: a protection change, a default change, and an overlay page registered and, with that over, unregistered
 

@@ -5,6 +5,8 @@ use mathlib.Core.Path.{_≡_, refl, sym, ap, ap₂, _∙_, subst}
 use mathlib.Core.List.{List, [], _∷_, _++_, map, append-nil, append-assoc}
 use mathlib.Core.Bool.{Bool, true, false, cond, not, _||_}
 use lib.ListN.{length, replicate, length-replicate}
+use borrow.Author.Tests.{not-true}
+use Rattle.laws.specs.Bools.{not-of}
 use Rattle.layout.specs.declared.MemoryRangeWithNode.{MemoryRangeWithNode}
 use Rattle.layout.specs.Layout.{entriesOf}
 use Rattle.protector_state.specs.declared.Reply.{Reply}
@@ -115,11 +117,7 @@ further {w = w} h m (g ∷ gs) =
 -- done after each that isn't taken
 insisting-over : (w : World) → Whole w → (gs : List Given) → (underWay w ≡ true → leftIn w ≤ length gs) → underWay (afterAll w (insisting w gs)) ≡ false
 unfolding afterAll insisting
-insisting-over w k [] f = none (underWay w) refl
-  where
-    none : (b : Bool) → underWay w ≡ b → b ≡ false
-    none false e = refl
-    none true e = sym (sym (idle-at-none w (f e)) ∙ e)
+insisting-over w k [] f = not-true (underWay w) (not-of (underWay w) (λ e. clash (underWay w) e (idle-at-none w (f e))))
 insisting-over w k (g ∷ gs) f = go (takenBy g w) refl (λ (h : Given) e. insisting-over (answerOf h w .world) (answer-long w k h) gs e)
   where
     less : (a b n : ℕ) → a < b → b ≤ suc n → a ≤ n

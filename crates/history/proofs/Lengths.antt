@@ -1,22 +1,17 @@
 -- What is lent keeps its lengths, whatever a call writes into it. Assumes nothing.
 use native.Mathlib.Omega.{arith}
-use Prim.Native.Nat.{ℕ, zero, suc, _+_, _-_, _*_, _<_}
+use Prim.Native.Nat.{ℕ, _+_, _-_, _*_, _<_}
 use mathlib.Core.Path.{_≡_, refl, sym, ap, _∙_}
 use mathlib.Core.List.{List, _∷_, _++_}
 use mathlib.Core.Bool.{Bool, true, false, cond}
-use lib.Dec.{ltb}
 use lib.ListN.{length, take, drop, set, getD, length-set, length-append, length-drop, take-append-drop}
 use lib.Seq.{sets, length-sets, drop-drop, getD-drop, getD-set-other}
 use Rattle.words.specs.Words.{closedTo, swapped}
 use Rattle.words.proofs.Padded.{length-closed}
 use Rattle.bitmap.proofs.Map.{length-written}
-use Rattle.layout.specs.declared.MemoryRangeWithNode.{MemoryRangeWithNode}
 use Rattle.permissions.specs.Flags.{vtlNumber, boolOf}
-use Rattle.overlay_table.specs.declared.OverlayPage.{OverlayPage}
-use Rattle.overlay_table.specs.Overlays.{isOverlay, used, placeOf, wordsOf, entry, addWords}
+use Rattle.overlay_table.specs.Overlays.{used, entry, addWords}
 use Rattle.lock_table.specs.Locks as locks
-use Rattle.default_change.specs.Pieces.{privateRam}
-use Rattle.default_change.specs.Renewed.{renewedAt, renewedFrom}
 use Rattle.request_pages.specs.Request.{put}
 use Rattle.visibility_steps.specs.declared.Phase.{Phase}
 use Rattle.visibility_steps.specs.declared.Request.{Request}
@@ -31,7 +26,9 @@ use Rattle.protector_state.specs.Changing.{changeWords, withChange}
 use Rattle.call_refusals.specs.World.{World, world, overlaysOf}
 use Rattle.protector.specs.Writes.{applied, withoutPage, entered}
 use Rattle.protector.specs.Calls.{carriedOut, carriedChange}
-use Rattle.history.proofs.World.{request-entries, change-entries}
+use Rattle.visibility_claims.proofs.Ends.{change-entries}
+use Rattle.change_claims.proofs.Tables.{add-long, without-long}
+use Rattle.history.proofs.World.{request-entries}
 use Rattle.history.proofs.Calls.{set-entries}
 use Rattle.history.proofs.Passed.{Whole}
 
@@ -50,23 +47,6 @@ swapped-long t a n m =
 either-long : (b : Bool) (n : ℕ) (x y : List ℕ) → length x ≡ n → length y ≡ n → length (cond b x y) ≡ n
 either-long true n x y e f = e
 either-long false n x y e f = f
-
-add-long : (t : List ℕ) (e : OverlayPage) → length (addWords t e) ≡ length t
-add-long t e =
-    let r : List ℕ = sets t (1 + 5 * used t) (wordsOf e) in
-    either-long (ltb (used t) 128) (length t) (set r 0 (used t + 1)) t (length-set r 0 (used t + 1) ∙ length-sets t (1 + 5 * used t) (wordsOf e)) refl
-
-without-long : (t : List ℕ) (p : ℕ) → length (withoutPage t p) ≡ length t
-without-long t p =
-    let r : List ℕ = closedTo t (placeOf t p) 5 (1 + 5 * used t) in
-    either-long (isOverlay t p) (length t) (set r 0 (used t - 1)) t (length-set r 0 (used t - 1) ∙ length-closed t (placeOf t p) 5 (1 + 5 * used t)) refl
-
-pub renewed-long : (m : List ℕ) (es : List MemoryRangeWithNode) (bits : ℕ) (t : List ℕ) (k o : ℕ) → length (renewedFrom m es bits t k o) ≡ length t
-unfolding renewedFrom
-renewed-long m es bits t zero o = refl
-renewed-long m es bits t (suc k) o =
-    renewed-long m es bits (renewedAt m es bits t o) k (o + 5)
-    ∙ either-long (privateRam m es (getD t o 0)) (length t) (set t (o + 1) bits) t (length-set t (o + 1) bits) refl
 
 pub lock-long : (t l : List ℕ) → length (locks.lockWords t l) ≡ length t
 lock-long t l =

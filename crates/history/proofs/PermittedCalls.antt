@@ -23,6 +23,7 @@ use Rattle.permissions.specs.Flags.{fitVtl, vtlOf, fitFlags, flagsOf, bitsOf, b
 use Rattle.page_list.specs.declared.PageRun.{PageRun}
 use Rattle.page_list.specs.Pages.{pagesOf, among, isLong, isRagged}
 use Rattle.page_list.specs.Runs.{part}
+use Rattle.page_list.proofs.Laws.{among-at}
 use Rattle.request_pages.specs.Request.{put}
 use Rattle.request_pages.proofs.Table.{in-use, length-table, pages-few, pick-each}
 use Rattle.overlay_table.specs.declared.OverlayPage.{OverlayPage}
@@ -54,7 +55,6 @@ use Rattle.history.specs.Call.{Writer, Visibility, Protection, Default, 
 use Rattle.history.specs.Tables.{TablesFit}
 use Rattle.history.specs.Permitted.{Inside, OnRam, isPages, isListing, Permitted}
 use Rattle.call_refusals.proofs.Laws.{fits-pages}
-use Rattle.history.proofs.Bits.{among-own}
 use Rattle.history.proofs.Start.{first-all, ram-page}
 use Rattle.history.proofs.Calls.{taken, in-ram}
 use Rattle.history.proofs.Passed.{passed-in, whole}
@@ -190,7 +190,7 @@ module _ (es : List MemoryRangeWithNode) where
         let own : getD t j 0 ≡ getD ps j 0 = sym (getD-take (length ps) t j 0 h) ∙ ap (λ (m : List ℕ). getD m j 0) first in
         ap (λ (y : List MemoryRangeWithNode). isRam y (getD t j 0)) (sym layout)
         ∙ ram-page (entriesIn (w .state)) (overlaysOf (w .tables) (vtlOf vtl)) (locksOf (w .tables) (vtlOf vtl)) true (getD t j 0)
-        (first-all _ ps (getD t j 0) (listed-each .1) (ap (among ps) own ∙ among-own ps j h))
+        (first-all _ ps (getD t j 0) (listed-each .1) (ap (among ps) own ∙ among-at ps j h))
 
   -- ---- the calls
 

@@ -8,7 +8,6 @@ use Rattle.layout.proofs.Laws.{fit}
 use Rattle.protector_state.specs.declared.Reply.{Reply}
 use Rattle.protector_state.specs.State.{ramOf, entriesIn}
 use Rattle.call_refusals.specs.World.{World}
-use Rattle.visibility_claims.specs.Whole.{Given}
 use Rattle.visibility_claims.specs.Table.{page}
 use Rattle.history.specs.Seen.{Seen, unseen, asks, isWaiting}
 use Rattle.history.specs.Marks.{readOff, Settled}
@@ -72,9 +71,3 @@ begun-parts (refusedBuild {u} {x} {y} {o} h ram i t k r m f) = either-parts _ (i
 pub share8-begun : begunIn {a = unseen} (call none sharing8 (asking8 .reply) share8) ≡ since none (Visibility 0 1 (page 3 [])) (asking8 .reply) share8 none
 unfolding begunIn
 share8-begun = ap (λ (b : Bool). cond b (since none (Visibility 0 1 (page 3 [])) (asking8 .reply) share8 none) nothing) share8-asks
-
--- every answer, the one that ends it too, leaves the request found
-pub answered-begun : {w u v : World} {a o : Seen} (h : History w a u o) (g : Given) (r : Reply) (m : Made (Answer g) u v r)
-    → begunIn (call h (Answer g) r m) ≡ thenCall (begunIn h) (Answer g) r m
-unfolding begunIn
-answered-begun h g r m = refl

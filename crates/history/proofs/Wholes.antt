@@ -28,10 +28,11 @@ use Rattle.lock_entries.specs.Calls.{ended, lockRefusal, lockTaken, lockOf, unl
 use Rattle.visibility_claims.specs.Whole.{Given, Succeeds, Fails}
 use Rattle.visibility_claims.specs.Calls.{answerOf}
 use Rattle.call_refusals.proofs.Laws.{fits-pages}
+use Rattle.change_claims.proofs.Tables.{renewed-long}
 use Rattle.history.proofs.Calls.{taken}
 use Rattle.history.proofs.Deciding.{decides, either}
 use Rattle.history.proofs.Passed.{Whole}
-use Rattle.history.proofs.Lengths.{step-whole, change-whole, tables-whole, set-whole, replaced-long, renewed-long, lock-long, unlock-long}
+use Rattle.history.proofs.Lengths.{step-whole, change-whole, tables-whole, set-whole, replaced-long, lock-long, unlock-long}
 
 module _ (w : World) (k : Whole w) where
   pub visibility-long : (vtl share : ℕ) (l : List ℕ) → Whole (visibilityOf w vtl share l .world)
@@ -84,7 +85,7 @@ started-long : (w : World) (v : GuestVtl) (flags : ℕ) → Whole w → Whole (d
 unfolding defaultTaken defaultStarted
 started-long w v flags k =
     let o : List ℕ = overlaysOf (w .tables) v in
-    let r = tables-whole w _ (replaced-long (641 * vtlNumber v) 641 (w .tables) (renewed (w .maps .private) (entriesIn (w .state)) flags o) (renewed-long (w .maps .private) (entriesIn (w .state)) flags o (used o) 1)) k in
+    let r = tables-whole w _ (replaced-long (641 * vtlNumber v) 641 (w .tables) (renewed (w .maps .private) (entriesIn (w .state)) flags o) (renewed-long (w .maps .private) (entriesIn (w .state)) flags (used o) o 1)) k in
     either Whole (barred (w .maps .private) (w .state) (w .tables) v) (refusedBy w 10) (defaultStarted (renewedIn w v flags) v flags) k (change-whole (renewedIn w v flags) (w .pages) _ refl r)
 
 pub default-long : (w : World) → Whole w → (vtl flags : ℕ) → Whole (defaultOf w vtl flags .world)

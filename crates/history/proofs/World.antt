@@ -28,6 +28,7 @@ use Rattle.protector_state.specs.Changing.{stageNumber, isChanging, withChange}
 use Rattle.call_refusals.specs.World.{World, world, statusOf, statusIn, takes}
 use Rattle.visibility_claims.specs.Whole.{Given}
 use Rattle.visibility_claims.proofs.Calls.{phase-read, request-read, no-change}
+use Rattle.visibility_claims.proofs.Ends.{change-entries}
 use Rattle.history.specs.Seen.{Seen, tookAs, isWaiting, isModify, processed, lastAfter}
 use Rattle.history.proofs.Took.{isShared, sharedIn, shared-either}
 use Rattle.history.proofs.Bits.{clash}
@@ -123,9 +124,6 @@ seen-last at.ProtectDefault1 g o q t n d z = quiet-last g o n z
 
 pub request-entries : (p : Phase) (q : Request) (s : List ℕ) → entriesIn (withRequest p q s) ≡ entriesIn s
 request-entries p q s = rw (getD-drop 10 s 21 0, drop-drop 22 10 s)
-
-pub change-entries : (g : Stage) (q : Change) (s : List ℕ) → entriesIn (withChange g q s) ≡ entriesIn s
-change-entries g q s = rw (getD-drop 14 s 17 0, drop-drop 18 14 s)
 
 pub request-status : (p : Phase) (q : Request) (s : List ℕ) → statusIn (withRequest p q s) ≡ statusOf p
 request-status p q s = rw (no-change p, phase-read p)
