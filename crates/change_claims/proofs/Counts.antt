@@ -16,7 +16,7 @@ use Rattle.page_list.specs.Runs.{run}
 use Rattle.page_list.specs.Runs as runs
 use Rattle.default_change.specs.Pieces.{nextOf}
 use Rattle.default_change.specs.Visit.{piecesFrom}
-use Rattle.visibility_claims.specs.Whole.{Operation, Protect, Given, FailedAt, Whole, stands, inTurn, perRun, protecting}
+use Rattle.visibility_claims.specs.Whole.{Operation, Protect, BackendAnswer, FailedAt, Whole, stands, inTurn, perRun, protecting}
 use Rattle.visibility_claims.specs.Runs.{told, after, whole}
 use Rattle.visibility_claims.specs.Calls.{Told}
 use Rattle.visibility_claims.proofs.Counts as counts
@@ -25,7 +25,7 @@ use Rattle.change_claims.specs.Calls.{Agrees}
 
 -- ---- no more operations than a list has
 
-few : (before : Operation → Maps → Maps) (os : List Operation) (m : Maps) (gs : List Given) → length (inTurn before os m gs ended .asked) ≤ length os
+few : (before : Operation → Maps → Maps) (os : List Operation) (m : Maps) (gs : List BackendAnswer) → length (inTurn before os m gs ended .asked) ≤ length os
 few before os m gs = omega (arith, counts.few before os m gs ended 0 (λ m gs. omega arith))
 
 -- ---- a Protect for each run, and three more
@@ -45,15 +45,15 @@ few-pieces P es (suc n) a = go (eqb (nextOf P es a .count) 0) (few-pieces P es n
     go true h = omega arith
     go false h = omega arith
 
-pub few-asked : (tracked : Bool) (v : GuestVtl) (f : HvMapGpaFlags) (rs : List PageRun) (m : Maps) (gs : List Given) → length (wholeRuns tracked v f rs m gs .asked) ≤ length rs + 3
+pub few-asked : (tracked : Bool) (v : GuestVtl) (f : HvMapGpaFlags) (rs : List PageRun) (m : Maps) (gs : List BackendAnswer) → length (wholeRuns tracked v f rs m gs .asked) ≤ length rs + 3
 unfolding wholeRuns
 few-asked tracked v f rs m gs = omega (arith, run-operations v f rs, few (protecting tracked) (runOperations v f rs) m gs)
 
-pub few-entry : (tracked : Bool) (v : GuestVtl) (m : Maps) (gs : List Given) → length (wholeEntry tracked v m gs .asked) ≤ 3
+pub few-entry : (tracked : Bool) (v : GuestVtl) (m : Maps) (gs : List BackendAnswer) → length (wholeEntry tracked v m gs .asked) ≤ 3
 unfolding wholeEntry
 few-entry tracked v m gs = few (protecting tracked) (closing v v) m gs
 
-pub few-overlay : (tracked guest : Bool) (v : GuestVtl) (f : HvMapGpaFlags) (p : ℕ) (m : Maps) (gs : List Given) → length (wholeOverlay tracked guest v f p m gs .asked) ≤ 4
+pub few-overlay : (tracked guest : Bool) (v : GuestVtl) (f : HvMapGpaFlags) (p : ℕ) (m : Maps) (gs : List BackendAnswer) → length (wholeOverlay tracked guest v f p m gs .asked) ≤ 4
 unfolding wholeOverlay
 few-overlay tracked guest v f p m gs =
     let m′ : Maps = protectingPage tracked guest v f p m in
@@ -63,4 +63,4 @@ few-overlay tracked guest v f p m gs =
 pub as-whole : (rest t : List ℕ) (i : IsolationType) (w : Whole) (T : List ℕ) (x : Told) → length (w .asked) < 2 ^ 64 → Agrees rest t i (after 0 w) T x → Agrees rest t i (whole w) T x
 as-whole rest t i w T x h k =
     let d : (0 + length (w .asked)) % 2 ^ 64 ≡ length (w .asked) = omega arith in
-    subst (λ (n : ℕ). Agrees rest t i (record { asked = w .asked; maps = w .maps; last = told n (w .stand) }) T x) d k
+    subst (λ (n : ℕ). Agrees rest t i (record { asked = w .asked; maps = w .maps; last = told n (w .status) }) T x) d k

@@ -44,17 +44,17 @@ counts n = with (1 ∷ 5 ∷ 15 ∷ 15 ∷ n ∷ 0 ∷ [])
 pub record Changes : Type 0 where
   pub default-asked : defaultTwo .whole .asked
       ≡ Protect Vtl0 (flagsOf 3) (run 0 5) ∷ Protect Vtl0 (flagsOf 3) (run 6 5) ∷ Protect Vtl0 (flagsOf 3) (run 12 4) ∷ Protect Vtl0 (flagsOf 3) (run 32 8) ∷ Wait ∷ Flush Vtl0 ∷ TlbWait Vtl0 ∷ []
-  pub default-ok : defaultTwo .whole .stand ≡ Ok
+  pub default-ok : defaultTwo .whole .status ≡ Ok
   pub default-kernel : defaultTwo .whole .maps .permissions .kernel ≡ 0x20 ∷ 0x08 ∷ 0x00 ∷ 0x00 ∷ 0x00 ∷ []
   pub default-renewed : overlaysOf (defaultTwo .tables) Vtl0 ≡ 2 ∷ 5 ∷ 3 ∷ 1 ∷ 1 ∷ 0 ∷ 11 ∷ 3 ∷ 1 ∷ 1 ∷ 0 ∷ replicate 630 0
   pub repeated-asked : repeated .whole .asked ≡ Protect Vtl1 (flagsOf 3) (run 3 2) ∷ Protect Vtl1 (flagsOf 3) (run 3 1) ∷ Wait ∷ Flush Vtl0 ∷ TlbWait Vtl1 ∷ []
-  pub repeated-ok : repeated .whole .stand ≡ Ok
+  pub repeated-ok : repeated .whole .status ≡ Ok
   pub halted-asked : halted .whole .asked ≡ Protect Vtl0 (flagsOf 0) (run 3 2) ∷ Protect Vtl0 (flagsOf 0) (run 8 1) ∷ []
   pub halted-read : halted .whole .maps .permissions .read ≡ 0xe7 ∷ 0xfe ∷ 0x00 ∷ 0x00 ∷ 0xff ∷ []
-  pub halted-stands : halted .whole .stand ≡ Halts
+  pub halted-stands : halted .whole .status ≡ Halts
   pub new-asked : registerWhole fresh Vtl0 5 0 1 (dones 4) .whole .asked ≡ Protect Vtl0 (flagsOf 1) (run 5 1) ∷ Wait ∷ Flush Vtl0 ∷ TlbWait Vtl0 ∷ []
   pub new-entered : overlaysOf (registerWhole fresh Vtl0 5 0 1 (dones 4) .tables) Vtl0 ≡ 1 ∷ 5 ∷ 15 ∷ 1 ∷ 1 ∷ 0 ∷ replicate 635 0
-  pub new-failed : registerWhole fresh Vtl0 5 0 1 (Fails 77 0 ∷ []) .whole .stand ≡ FailedAt 8 0
+  pub new-failed : registerWhole fresh Vtl0 5 0 1 (Fails 77 0 ∷ []) .whole .status ≡ FailedAt 8 0
   pub old-asked : unregisterWhole two Vtl0 5 (dones 4) .whole .asked ≡ Protect Vtl0 (flagsOf 15) (run 5 1) ∷ Wait ∷ Flush Vtl0 ∷ TlbWait Vtl0 ∷ []
   pub old-gone : overlaysOf (unregisterWhole two Vtl0 5 (dones 4) .tables) Vtl0 ≡ 1 ∷ 11 ∷ 15 ∷ 1 ∷ 1 ∷ 0 ∷ replicate 635 0
 

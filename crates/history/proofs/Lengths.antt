@@ -30,7 +30,7 @@ use Rattle.visibility_claims.proofs.Ends.{change-entries}
 use Rattle.change_claims.proofs.Tables.{add-long, without-long}
 use Rattle.history.proofs.World.{request-entries}
 use Rattle.history.proofs.Calls.{set-entries}
-use Rattle.history.proofs.Passed.{Whole}
+use Rattle.history.proofs.Passed.{Fitting}
 
 -- ---- runs of words
 
@@ -91,8 +91,8 @@ pub record Same (w v : World) : Type 0 where
   pub pages : length (v .pages) ≡ length (w .pages)
   pub tables : length (v .tables) ≡ length (w .tables)
 
-pub same-whole : (w v : World) → Same w v → Whole w → Whole v
-same-whole w v s k =
+pub same-fitting : (w v : World) → Same w v → Fitting w → Fitting v
+same-fitting w v s k =
     record { long = s .state ∙ k .long; fit = rw (s .entries, s .tracked, s .private, s .shared, s .read, s .write, s .kernel, s .user, s .pages, s .tables) (k .fit) }
 
 -- ---- a step carried out
@@ -103,10 +103,10 @@ request-long p q s e = length-append (requestWords p q) (drop 10 s) ∙ omega (a
 change-long : (g : Stage) (q : Change) (s : List ℕ) → length s ≡ stateLen → length (withChange g q s) ≡ length s
 change-long g q s e = length-append (changeWords g q) (drop 14 s) ∙ omega (arith, length-drop 14 s, e)
 
-pub step-whole : (w : World) (t : List ℕ) (x : Step) → length t ≡ length (w .pages) → Whole w → Whole (carriedOut w t x .world)
+pub step-fitting : (w : World) (t : List ℕ) (x : Step) → length t ≡ length (w .pages) → Fitting w → Fitting (carriedOut w t x .world)
 unfolding carriedOut applied put
-step-whole w t x e k =
-    same-whole w _
+step-fitting w t x e k =
+    same-fitting w _
     (record {
       state = request-long (x .phase) (x .request) (w .state) (k .long);
       entries = request-entries (x .phase) (x .request) (w .state);
@@ -121,10 +121,10 @@ step-whole w t x e k =
       tables = refl;
     }) k
 
-pub change-whole : (w : World) (t : List ℕ) (x : ChangeStep) → length t ≡ length (w .pages) → Whole w → Whole (carriedChange w t x .world)
+pub change-fitting : (w : World) (t : List ℕ) (x : ChangeStep) → length t ≡ length (w .pages) → Fitting w → Fitting (carriedChange w t x .world)
 unfolding carriedChange
-change-whole w t x e k =
-    same-whole w _
+change-fitting w t x e k =
+    same-fitting w _
     (record {
       state = change-long (x .stage) (x .change) (w .state) (k .long);
       entries = change-entries (x .stage) (x .change) (w .state);
@@ -141,13 +141,13 @@ change-whole w t x e k =
 
 -- ---- other tables, and another word of the state block
 
-pub tables-whole : (w : World) (t : List ℕ) → length t ≡ length (w .tables) → Whole w → Whole (world (w .maps) (w .state) (w .pages) t)
-tables-whole w t e k =
-    same-whole w _ (record { state = refl; entries = refl; tracked = refl; private = refl; shared = refl; read = refl; write = refl; kernel = refl; user = refl; pages = refl; tables = e }) k
+pub tables-fitting : (w : World) (t : List ℕ) → length t ≡ length (w .tables) → Fitting w → Fitting (world (w .maps) (w .state) (w .pages) t)
+tables-fitting w t e k =
+    same-fitting w _ (record { state = refl; entries = refl; tracked = refl; private = refl; shared = refl; read = refl; write = refl; kernel = refl; user = refl; pages = refl; tables = e }) k
 
-pub set-whole : (w : World) (i x : ℕ) → 17 < i → i < 31 → Whole w → Whole (world (w .maps) (set (w .state) i x) (w .pages) (w .tables))
-set-whole w i x low high k =
-    same-whole w _
+pub set-fitting : (w : World) (i x : ℕ) → 17 < i → i < 31 → Fitting w → Fitting (world (w .maps) (set (w .state) i x) (w .pages) (w .tables))
+set-fitting w i x low high k =
+    same-fitting w _
     (record {
       state = length-set (w .state) i x;
       entries = set-entries (w .state) i x (omega (arith, low)) high;

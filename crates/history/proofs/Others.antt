@@ -22,7 +22,7 @@ use Rattle.protector.specs.Calls.{refusedBy, carriedChange}
 use Rattle.protection_entries.specs.Calls.{defaultRefusal, storedDefault, stored, barred, renewedTables, renewedIn, defaultStep, defaultStarted, defaultTaken, defaultOf, protectionRefusal, allListed, protectionStep, protectionTaken, protectionOf}
 use Rattle.overlay_refusals.specs.Refusals.{unregisterRefusal, registerRefusal}
 use Rattle.overlay_entries.specs.Calls.{entryIn, counting, unregisterTaken, unregisterOf, currentIn, registerTaken, registerOf}
-use Rattle.history.specs.Seen.{Seen, seesCall}
+use Rattle.history.specs.Observed.{Observed, seesCall}
 use Rattle.history.specs.Call.{Protection, Default, Register, Unregister}
 use Rattle.history.proofs.Passed.{passed-in}
 use Rattle.history.proofs.World.{Stands, stops}
@@ -53,7 +53,7 @@ old-goes tracked v p previous source = refl
 
 -- ---- nothing is under way where a call is taken
 
-module _ (es : List MemoryRangeWithNode) (w : World) (o : Seen) (k : Stands es w o) where
+module _ (es : List MemoryRangeWithNode) (w : World) (o : Observed) (k : Stands es w o) where
   abbrev StandsAt : Outcome → Type 0
   StandsAt X = Stands es (X .world) (seesCall [] (X .reply) (X .world .pages) o)
 

@@ -24,7 +24,7 @@ use Rattle.protector_state.specs.declared.Reply.{Reply}
 use Rattle.protector_state.specs.Reply.{modifies, onRun, flatOf}
 use Rattle.call_refusals.specs.World.{statusOf}
 use Rattle.protector.specs.Writes.{putPlaces}
-use Rattle.history.specs.Seen.{asks, goesOn}
+use Rattle.history.specs.Observed.{asks, goesOn}
 use Rattle.history.proofs.Bits.{Has, clash, of-part, inside, set-cases, set-has, set-keeps}
 
 -- the pages under way bear neither mark while one of these operations is outstanding

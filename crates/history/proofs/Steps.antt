@@ -26,8 +26,8 @@ use Rattle.visibility_steps.specs.declared.Step.{Step}
 use Rattle.visibility_steps.specs.Steps.{isSnp, isCca, releases, noWrites, setShared, setPrivate, setPermissions, operationOf, ask, step, noRequest, end, halt, shareRun, defaultRun, returnRun, afterFlush, afterWait, afterModify, afterAccept, afterDefault0, cutAt, failedModify, doneOf, failedOf}
 use Rattle.protector_state.specs.Reply.{askedOf, flatOf}
 use Rattle.call_refusals.specs.World.{statusOf, takes}
-use Rattle.visibility_claims.specs.Whole.{Given, Succeeds, Fails}
-use Rattle.history.specs.Seen.{processed}
+use Rattle.visibility_claims.specs.Whole.{BackendAnswer, Succeeds, Fails}
+use Rattle.history.specs.Observed.{processed}
 use Rattle.history.proofs.Bits.{clash, of-part, in-part, less-among}
 use Rattle.history.proofs.Right.{opened, dir, Tells, Wrote, Fits, StaysBut, Moves}
 
@@ -318,10 +318,10 @@ module _ (s : Settings) (t : List ℕ) (last : ℕ → Bool) where
   }
 
 -- what an answer lets the hypervisor have taken: by Modify, all of its pages, or where it failed the first k
-abbrev pub modified : Request → List ℕ → Given → (ℕ → Bool) → ℕ → Bool
+abbrev pub modified : Request → List ℕ → BackendAnswer → (ℕ → Bool) → ℕ → Bool
 modified q t g last z = cond (among (part t (processed g (q .n)) 0) z) (q .share) (last z)
 
-abbrev pub after : Phase → Request → List ℕ → Given → (ℕ → Bool) → ℕ → Bool
+abbrev pub after : Phase → Request → List ℕ → BackendAnswer → (ℕ → Bool) → ℕ → Bool
 after at.Idle q t g last z = last z
 after at.Halted q t g last z = last z
 after at.Wait q t g last z = last z
@@ -337,7 +337,7 @@ after at.ProtectDefault0 q t g last z = last z
 after at.ProtectDefault1 q t g last z = last z
 
 module _ (s : Settings) (t : List ℕ) (last : ℕ → Bool) (q : Request) (tw : (j : ℕ) → j < q .n → j < length t → last (getD t j 0) ≡ not (q .share)) where
-  others : (g : Given) → processed g (q .n) ≤ q .n → StaysBut t (q .n) last (modified q t g last)
+  others : (g : BackendAnswer) → processed g (q .n) ≤ q .n → StaysBut t (q .n) last (modified q t g last)
   others g h z e = ap (λ (c : Bool). cond c (q .share) (last z)) (less-among (processed g (q .n)) (q .n) t z h e)
 
   modify-done : Moves at.Modify q t last (modified q t Succeeds last) (afterModify s q t)

@@ -39,7 +39,7 @@ use Rattle.protector_state.specs.Changing.{stageNumber, stageOf, stageIn, isCha
 use Rattle.call_refusals.specs.World.{World, overlaysOf, fits, statusOf, takes, takesAt}
 use Rattle.protector.specs.Calls.{carriedOut, carriedChange, pieceAfter, nextIn, afterDone, afterFailed, visibilityDone, visibilityFailed, changeDone, changeFailed, answerDone, answerFailed}
 use Rattle.call_refusals.specs.Refusals.{answerRefusal}
-use Rattle.visibility_claims.specs.Whole.{Given, Succeeds, Fails}
+use Rattle.visibility_claims.specs.Whole.{BackendAnswer, Succeeds, Fails}
 use Rattle.visibility_claims.specs.Calls.{answerOf, takenBy}
 use Rattle.visibility_claims.specs.Ends.{left, leftAt, pageEnd, leftIn, underWay, afterAll, takenOf, unrefused, TakenLowers, UntakenKeeps, TakenEnd, EveryRequestEnds, DoneTaken}
 use Rattle.visibility_claims.proofs.Calls.{few-done, few-failed, no-change, phase-read, request-read}
@@ -439,7 +439,7 @@ unfolding answerDone answerFailed
 untaken-keeps w Succeeds e = rw e
 untaken-keeps w (Fails code k) e = rw e
 
-all-lower : (w : World) (gs : List Given) → leftIn (afterAll w gs) + takenOf w gs ≤ leftIn w
+all-lower : (w : World) (gs : List BackendAnswer) → leftIn (afterAll w gs) + takenOf w gs ≤ leftIn w
 unfolding afterAll takenOf
 all-lower w [] = omega arith
 all-lower w (g ∷ gs) = go (takenBy g w) refl (all-lower (answerOf g w .world) gs)

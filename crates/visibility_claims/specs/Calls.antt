@@ -19,7 +19,7 @@ use Rattle.protector_state.specs.Reply.{askedOf, flatOf}
 use Rattle.call_refusals.specs.World.{World, Outcome, fits}
 use Rattle.protector.specs.Calls.{refusedBy, visibilityOf, answerDone, answerFailed}
 use Rattle.call_refusals.specs.Refusals.{ready, answerRefusal}
-use Rattle.visibility_claims.specs.Whole.{Operation, Wait, FlushAll, Protect, Invalidate, Release, Modify, Accept, Zero, Flush, TlbWait, Given, Succeeds, Fails, Denied, Whole, stands, wholeShare, wholeReturn}
+use Rattle.visibility_claims.specs.Whole.{Operation, Wait, FlushAll, Protect, Invalidate, Release, Modify, Accept, Zero, Flush, TlbWait, BackendAnswer, Succeeds, Fails, Denied, Whole, stands, wholeShare, wholeReturn}
 use Rattle.visibility_claims.specs.Requested.{denial, Requested, requestedOf, pagesIn, placesIn, storedIn}
 use Rattle.visibility_claims.specs.Runs.{Last, Outstanding, Gives, Ran, whole}
 
@@ -35,12 +35,12 @@ inputRefusal w vtl visibility l =
     0)))
 
 -- none of its pages refused: to shared or to private, of those that it asks for
-abbrev pub wholeOn : World → GuestVtl → Bool → Requested → List Given → Whole
+abbrev pub wholeOn : World → GuestVtl → Bool → Requested → List BackendAnswer → Whole
 wholeOn w v true x gs = wholeShare (settingsOf (w .state)) v (pagesIn (x .listed)) (x .end) (w .maps) gs
 wholeOn w v false x gs = wholeReturn (settingsOf (w .state)) (pagesIn (x .listed)) (placesIn (x .listed)) (w .maps) gs
 
 -- a page that is refused (7, 10, 11) ends it: nothing is asked for and nothing changes
-abbrev pub wholeOf : World → GuestVtl → Bool → List ℕ → List Given → Whole
+abbrev pub wholeOf : World → GuestVtl → Bool → List ℕ → List BackendAnswer → Whole
 wholeOf w v share l gs =
     cond (eqb (denial w v share (pagesOf l)) 0) (wholeOn w v share (requestedOf w v share l) gs)
     (stands (w .maps) (Denied (denial w v share (pagesOf l))))
@@ -51,11 +51,11 @@ pagesFor w v share l = cond (eqb (denial w v share (pagesOf l)) 0) (storedIn (re
 
 -- ---- the calls, each answer given in turn
 
-abbrev pub answerOf : Given → World → Outcome
+abbrev pub answerOf : BackendAnswer → World → Outcome
 answerOf Succeeds w = answerDone w
 answerOf (Fails code k) w = answerFailed w code k
 
-abbrev pub takenBy : Given → World → Bool
+abbrev pub takenBy : BackendAnswer → World → Bool
 takenBy Succeeds w = eqb (answerRefusal (w .state) (fits w) false) 0
 takenBy (Fails code k) w = eqb (answerRefusal (w .state) (fits w) true) 0
 
@@ -68,7 +68,7 @@ pub record Told : Type 0 where
   pub asked : List Reply
   pub last : Outcome
 
-unfoldable pub follow : Outcome → List Given → Told
+unfoldable pub follow : Outcome → List BackendAnswer → Told
 follow o [] = record { asked = asksIn (o .reply); last = o }
 follow o (g ∷ gs) =
     let r = follow (answerOf g (o .world)) gs in
@@ -131,7 +131,7 @@ pub record Match (tables rest t : List ℕ) (i : IsolationType) (r : Ran) (x : T
 
 abbrev pub VisibilityIsWhole : Type 0
 VisibilityIsWhole =
-    (w : World) (vtl visibility : ℕ) (l : List ℕ) (gs : List Given) → inputRefusal w vtl visibility l ≡ 0
+    (w : World) (vtl visibility : ℕ) (l : List ℕ) (gs : List BackendAnswer) → inputRefusal w vtl visibility l ≡ 0
     → Match (w .tables) (drop 10 (w .state)) (pagesFor w (vtlOf vtl) (boolOf visibility) l) (settingsOf (w .state) .isolation)
     (whole (wholeOf w (vtlOf vtl) (boolOf visibility) l gs)) (follow (visibilityOf w vtl visibility l) gs)
 

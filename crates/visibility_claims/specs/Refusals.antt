@@ -12,13 +12,13 @@ use Rattle.call_refusals.specs.World.{World, Outcome, fits, lengthsIn}
 use Rattle.call_refusals.specs.Refusals.{buildFits, buildRefusal, visibilityRefusal, answerRefusal}
 use Rattle.protector.specs.Calls.{buildOf, visibilityOf}
 use Rattle.queries.specs.Queries.{queryRefusal, ramBefore, queryOf}
-use Rattle.visibility_claims.specs.Whole.{Given, Succeeds, Fails}
+use Rattle.visibility_claims.specs.Whole.{BackendAnswer, Succeeds, Fails}
 use Rattle.visibility_claims.specs.Calls.{answerOf}
 
 pub data Call : Type 0 where
   Build : List ℕ → ℕ → ℕ → ℕ → Call
   ChangeVisibility : ℕ → ℕ → List ℕ → Call
-  AnswerWith : Given → Call
+  AnswerWith : BackendAnswer → Call
   QueryVisibility : List ℕ → Call
 
 -- what is lent: the protector's own, and the output of a query

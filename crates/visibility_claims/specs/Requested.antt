@@ -15,7 +15,7 @@ use Rattle.lock_table.specs.Locks.{listsOf, held}
 use Rattle.request_pages.specs.Request.{over}
 use Rattle.protector_state.specs.State.{settingsOf, entriesIn}
 use Rattle.call_refusals.specs.World.{World, overlaysOf, locksOf}
-use Rattle.visibility_claims.specs.Whole.{Stand, Ok, StoppedAt}
+use Rattle.visibility_claims.specs.Whole.{Status, Ok, StoppedAt}
 
 -- ---- before anything is changed each page is looked at, in list order: 7 where it is no RAM, 10 where it is locked, 11 where an overlay is to be shared. Overlays
 -- and locks are those of the calling VTL
@@ -58,9 +58,9 @@ pub record Listed : Type 0 where
 -- the pages asked for, in list order, and how the call ends once they are done: Ok, or 15 at the place where the list stopped
 pub record Requested : Type 0 where
   pub listed : List Listed
-  pub end : Stand
+  pub end : Status
 
-abbrev pub noMore : Stand → Requested
+abbrev pub noMore : Status → Requested
 noMore end = record { listed = []; end = end }
 
 abbrev pub withPage : ℕ → ℕ → Requested → Requested
