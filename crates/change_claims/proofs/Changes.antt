@@ -9,6 +9,7 @@ use native.Mathlib.Decide.{decLt}
 use lib.Dec.{eqb}
 use lib.ListN.{length}
 use borrow.Author.Tests.{eq-eqb, eqb-false, lt-ltb, le-ltb}
+use Rattle.abi.specs.Codes.{operationDenied}
 use Rattle.laws.specs.Bools.{false≢true, lt-or-le}
 use Rattle.bitmap.proofs.Map.{length-written}
 use Rattle.permissions.specs.declared.GuestVtl.{GuestVtl}
@@ -42,7 +43,7 @@ use Rattle.visibility_claims.proofs.Steps.{once}
 use Rattle.visibility_claims.specs.Whole.{Operation, Wait, Protect, Flush, TlbWait, BackendAnswer, Ok, FailedAt, Halts, Whole, stands, one, inTurn, perRun, protecting}
 use Rattle.visibility_claims.specs.Calls.{Told, follow, crossing, replies}
 use Rattle.visibility_claims.specs.Ends.{pageEnd}
-use Rattle.change_claims.specs.Whole.{closing, ended, protects, wholeEntry, protectingPage, denied, wholeOverlay, onceDone}
+use Rattle.change_claims.specs.Whole.{closing, ended, protects, wholeEntry, protectingPage, wholeOverlay, onceDone}
 use Rattle.change_claims.proofs.Steps as at
 
 -- ---- what a Protect writes
@@ -321,7 +322,7 @@ module _ (tail t : List ℕ) (long : length tail ≡ 114) where
   ovl v p fl previous source x = record { vtl = v; flush = v; n = 0; at = p; flags = fl; previous = previous; source = source; count = x }
 
   module _ (g : Stage) (e : Entry) (a0 : takesAt g false ≡ true) (a1 : takesAt g true ≡ true) (goes : (q : Change) (r : PageRun) → changes.doneOf tr g q t r ≡ changes.wait q e)
-      (fails : (q : Change) → changes.failedOf g q ≡ changes.finish (Failed denied 0 (q .count))) where
+      (fails : (q : Change) → changes.failedOf g q ≡ changes.finish (Failed operationDenied 0 (q .count))) where
     pub overlay-law : (v : GuestVtl) (p fl previous source : ℕ) (m : Maps) (T T′ : List ℕ) → entered e (ovl v p fl previous source 2) T ≡ T′ → fit m T ≡ true → fit m T′ ≡ true → (gs : List BackendAnswer)
         → Same 0 (wholeOverlay tr (eqb source 0) v (flagsOf fl) p m gs) (onceDone gs T T′) (follow (left m T (changes.protect tr g (ovl v p fl previous source 0) p (run p 1))) gs)
     unfolding wholeOverlay wholeEntry
@@ -330,13 +331,13 @@ module _ (tail t : List ℕ) (long : length tail ≡ 114) where
         let m′ : Maps = protectingPage tr (eqb source 0) v f p m in
         let q′ : Change = ovl v p fl previous source 1 in
         let next : List BackendAnswer → Whole = λ gs. inTurn (protecting tr) (closing v v) m′ gs ended in
-        subst (λ (o : Outcome). Same 0 (one (Protect v f (run p 1)) m′ gs next (λ code k gs. stands m′ (FailedAt denied 0))) (onceDone gs T T′) (follow o gs))
+        subst (λ (o : Outcome). Same 0 (one (Protect v f (run p 1)) m′ gs next (λ code k gs. stands m′ (FailedAt operationDenied 0))) (onceDone gs T T′) (follow o gs))
         (sym (protect-left g (ovl v p fl previous source 0) p (run p 1) m T))
-        (at.asks tail t long 0 g q′ (Protect v f (run p 1)) m′ T next (λ code k gs. stands m′ (FailedAt denied 0)) (λ gs. onceDone gs T T′) a0 a1 (omega arith) (fit-protected v f (run p 1) (eqb source 0) m T k) refl
+        (at.asks tail t long 0 g q′ (Protect v f (run p 1)) m′ T next (λ code k gs. stands m′ (FailedAt operationDenied 0)) (λ gs. onceDone gs T T′) a0 a1 (omega arith) (fit-protected v f (run p 1) (eqb source 0) m T k) refl
         (λ gs. subst (λ (y : ChangeStep). Same 1 (next gs) T′ (follow (left m′ T y) gs)) (sym (goes q′ (at.next tail t g q′ m′ T)))
         (waits 1 q′ e m′ T T′ (omega arith) refl z (fit-protected v f (run p 1) (eqb source 0) m T′ k′) gs))
-        (λ code k′ gs _. subst (λ (y : ChangeStep). Same 1 (stands m′ (FailedAt denied 0)) T (follow (left m′ T y) gs)) (sym (fails q′))
-        (failed-over 1 1 denied 0 m′ T (fit-protected v f (run p 1) (eqb source 0) m T k) refl gs))
+        (λ code k′ gs _. subst (λ (y : ChangeStep). Same 1 (stands m′ (FailedAt operationDenied 0)) T (follow (left m′ T y) gs)) (sym (fails q′))
+        (failed-over 1 1 operationDenied 0 m′ T (fit-protected v f (run p 1) (eqb source 0) m T k) refl gs))
         (λ code k gs z. false≢true (sym z)) gs)
 
   -- without new flags

@@ -6,6 +6,7 @@ use mathlib.Core.List.{List, [], _∷_}
 use Prim.Native.Nat.{ℕ, zero, suc, _+_, _%_, _^_, _≤_, _<_}
 use lib.Dec.{eqb}
 use lib.ListN.{length}
+use Rattle.abi.specs.Codes.{operationDenied}
 use Rattle.layout.specs.declared.MemoryRangeWithNode.{MemoryRangeWithNode}
 use Rattle.permissions.specs.declared.GuestVtl.{GuestVtl}
 use Rattle.permissions.specs.declared.IsolationType.{IsolationType}
@@ -20,7 +21,7 @@ use Rattle.visibility_claims.specs.Whole.{Operation, Protect, BackendAnswer, Fa
 use Rattle.visibility_claims.specs.Runs.{told, after, whole}
 use Rattle.visibility_claims.specs.Calls.{Told}
 use Rattle.visibility_claims.proofs.Counts as counts
-use Rattle.change_claims.specs.Whole.{closing, ended, runOperations, wholeRuns, wholeEntry, protectingPage, denied, wholeOverlay}
+use Rattle.change_claims.specs.Whole.{closing, ended, runOperations, wholeRuns, wholeEntry, protectingPage, wholeOverlay}
 use Rattle.change_claims.specs.Calls.{Agrees}
 
 -- ---- no more operations than a list has
@@ -57,7 +58,7 @@ pub few-overlay : (tracked guest : Bool) (v : GuestVtl) (f : HvMapGpaFlags) (p :
 unfolding wholeOverlay
 few-overlay tracked guest v f p m gs =
     let m′ : Maps = protectingPage tracked guest v f p m in
-    counts.few-one (Protect v f (run p 1)) m′ gs (λ gs. wholeEntry tracked v m′ gs) (λ code k gs. stands m′ (FailedAt denied 0)) 3 (λ gs. few-entry tracked v m′ gs) (λ code k gs. omega arith)
+    counts.few-one (Protect v f (run p 1)) m′ gs (λ gs. wholeEntry tracked v m′ gs) (λ code k gs. stands m′ (FailedAt operationDenied 0)) 3 (λ gs. few-entry tracked v m′ gs) (λ code k gs. omega arith)
 
 -- a count of 64 bits is the number itself
 pub as-whole : (rest t : List ℕ) (i : IsolationType) (w : Whole) (T : List ℕ) (x : Told) → length (w .asked) < 2 ^ 64 → Agrees rest t i (after 0 w) T x → Agrees rest t i (whole w) T x

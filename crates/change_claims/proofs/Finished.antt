@@ -5,6 +5,7 @@ use mathlib.Core.List.{List, [], _∷_, append-nil}
 use Prim.Native.Nat.{ℕ, _+_, _-_}
 use lib.Dec.{eqb, ltb}
 use lib.ListN.{length}
+use Rattle.abi.specs.Codes.{operationDenied}
 use Rattle.bitmap.specs.Pages as bits
 use Rattle.permissions.specs.declared.GuestVtl.{GuestVtl}
 use Rattle.permissions.specs.declared.IsolationType.{IsolationType}
@@ -22,7 +23,7 @@ use Rattle.overlay_entries.specs.Calls.{entryIn}
 use Rattle.visibility_claims.specs.Whole.{Protect, BackendAnswer, Fails, Status, Ok, FailedAt, Whole, stands, one, protecting}
 use Rattle.visibility_claims.specs.Runs.{told, whole}
 use Rattle.visibility_claims.specs.Calls.{Told, Says}
-use Rattle.change_claims.specs.Whole.{Change, change, closing, ended, runOperations, ramRuns, wholeRuns, wholeEntry, protectingPage, denied, wholeOverlay}
+use Rattle.change_claims.specs.Whole.{Change, change, closing, ended, runOperations, ramRuns, wholeRuns, wholeEntry, protectingPage, wholeOverlay}
 use Rattle.change_claims.specs.Calls.{trackedIn, overlayIn, protectionWhole, defaultWhole, countWhole, newWhole, registerWhole, oldWhole, unregisterWhole, Agrees}
 use Rattle.change_claims.specs.Pages.{within, Leaves}
 use Rattle.change_claims.specs.Claims.{protectionCall, storedIn, defaultCall, TakesRegister, registerCall, TakesUnregister, unregisterCall, AgreesIn, Counts, OverlayFails, Failures}
@@ -48,12 +49,12 @@ overlay-asked : (tracked guest : Bool) (v : GuestVtl) (f : HvMapGpaFlags) (p : �
 unfolding wholeOverlay wholeEntry
 overlay-asked tracked guest v f p m gs e =
     let m′ : Maps = protectingPage tracked guest v f p m in
-    through-one isOk refl (Protect v f (run p 1)) (closing v v) m′ (begun (protecting tracked) (closing v v) m′) ended (λ gs. wholeEntry tracked v m′ gs) (λ code k gs. stands m′ (FailedAt denied 0))
+    through-one isOk refl (Protect v f (run p 1)) (closing v v) m′ (begun (protecting tracked) (closing v v) m′) ended (λ gs. wholeEntry tracked v m′ gs) (λ code k gs. stands m′ (FailedAt operationDenied 0))
     (λ gs e. through isOk refl refl (protecting tracked) (closing v v) m′ gs ended e) (λ code k gs. refl) gs (ap isOk e) .asked
 
 -- a failed Protect ends an overlay call: one operation, the maps written, the tables as they were
 overlay-failed : (tracked guest : Bool) (v : GuestVtl) (f : HvMapGpaFlags) (p : ℕ) (m : Maps) (code k : ℕ) (gs : List BackendAnswer)
-    → wholeOverlay tracked guest v f p m (Fails code k ∷ gs) ≡ record { asked = Protect v f (run p 1) ∷ []; maps = protectingPage tracked guest v f p m; status = FailedAt denied 0 }
+    → wholeOverlay tracked guest v f p m (Fails code k ∷ gs) ≡ record { asked = Protect v f (run p 1) ∷ []; maps = protectingPage tracked guest v f p m; status = FailedAt operationDenied 0 }
 unfolding wholeOverlay one
 overlay-failed tracked guest v f p m code k gs = refl
 
@@ -120,9 +121,9 @@ module _ (w : World) (vtl p : ℕ) (gs : List BackendAnswer) (z : TakesUnregiste
 
 -- ---- a failed Protect of either: 16, one operation, the maps written and the tables as they were
 
-told-failed : (rest t : List ℕ) (i : IsolationType) (w : Whole) (T : List ℕ) (x : Told) → Agrees rest t i (whole w) T x → w .status ≡ FailedAt denied 0 → length (w .asked) ≡ 1 → x .last .reply ≡ finished 16 8 0 1
+told-failed : (rest t : List ℕ) (i : IsolationType) (w : Whole) (T : List ℕ) (x : Told) → Agrees rest t i (whole w) T x → w .status ≡ FailedAt operationDenied 0 → length (w .asked) ≡ 1 → x .last .reply ≡ finished 16 8 0 1
 unfolding flatOf
-told-failed rest t i w T x k e d = told-at rest t i w T x (FailedAt denied 0) 1 k e d
+told-failed rest t i w T x k e d = told-at rest t i w T x (FailedAt operationDenied 0) 1 k e d
 
 fails-so : (w : World) (v : GuestVtl) (f : HvMapGpaFlags) (p source code k : ℕ) (gs : List BackendAnswer) (x : Told)
     → AgreesIn w (w .pages) (change (wholeOverlay (trackedIn w) (eqb source 0) v f p (w .maps) (Fails code k ∷ gs)) (w .tables)) x → OverlayFails w v f p source x

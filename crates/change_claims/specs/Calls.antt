@@ -5,6 +5,8 @@ use mathlib.Core.List.{List}
 use Prim.Native.Nat.{ℕ, _+_, _-_}
 use lib.Dec.{eqb, ltb}
 use lib.ListN.{drop}
+use Rattle.abi.specs.Flags.{flagsEnd}
+use Rattle.abi.specs.Places as place
 use Rattle.permissions.specs.declared.GuestVtl.{GuestVtl}
 use Rattle.permissions.specs.declared.IsolationType.{IsolationType}
 use Rattle.permissions.specs.Flags.{flagsOf, bitsOf}
@@ -67,7 +69,7 @@ newWhole w v p source new gs false =
 abbrev pub registerWhole : World → GuestVtl → ℕ → ℕ → ℕ → List BackendAnswer → Change
 registerWhole w v p source new gs =
     cond (isOverlay (overlaysOf (w .tables) v) p) (countWhole w v p (entryIn (w .tables) v p .«ref_count» + 1))
-    (newWhole w v p source new gs (ltb new 16))
+    (newWhole w v p source new gs (ltb new flagsEnd))
 
 abbrev pub oldWhole : World → GuestVtl → ℕ → OverlayPage → List BackendAnswer → Change
 oldWhole w v p e gs =
@@ -87,4 +89,4 @@ pub record Agrees (rest t : List ℕ) (i : IsolationType) (r : Ran) (tables : Li
   pub same-reply : Says i (r .last) (x .last .reply)
   pub same-pages : x .last .world .pages ≡ t
   pub same-tables : x .last .world .tables ≡ tables
-  pub same-rest : drop 14 (x .last .world .state) ≡ rest
+  pub same-rest : drop place.afterChange (x .last .world .state) ≡ rest

@@ -6,6 +6,10 @@ use mathlib.Core.List.{List, _∷_}
 use Prim.Native.Nat.{ℕ, _+_, _<_}
 use lib.Dec.{eqb, ltb}
 use lib.ListN.{length, getD, take, drop}
+use Rattle.abi.specs.Codes.{operationDenied}
+use Rattle.abi.specs.Flags.{flagsEnd}
+use Rattle.abi.specs.Places as place
+use Rattle.abi.specs.Refusals as refusal
 use Rattle.bitmap.specs.Pages as bits
 use Rattle.layout.specs.declared.MemoryRangeWithNode.{MemoryRangeWithNode}
 use Rattle.layout.specs.Layout.{isRam, ordered, refusalOf}
@@ -93,7 +97,7 @@ InOrder w = ordered 0 (entriesIn (w .state)) ≡ true
 -- ---- a call is its whole call: operations, answer with its count, maps and tables; the request's pages are t, settings and layout stand
 
 abbrev pub AgreesIn : World → List ℕ → Change → Told → Type 0
-AgreesIn w t c x = Agrees (drop 14 (w .state)) t (settingsOf (w .state) .isolation) (whole (c .whole)) (c .tables) x
+AgreesIn w t c x = Agrees (drop place.afterChange (w .state)) t (settingsOf (w .state) .isolation) (whole (c .whole)) (c .tables) x
 
 pub record WholeCalls : Type 0 where
   pub protection : (w : World) (vtl flags : ℕ) (l : List ℕ) (gs : List BackendAnswer) → TakesProtection w vtl flags l
@@ -109,8 +113,8 @@ pub record WholeCalls : Type 0 where
 
 pub record Refusals : Type 0 where
   pub protection : (w : World) (vtl flags : ℕ) (l : List ℕ) → (protectionOf w vtl flags l .reply .number ≡ 0 → ⊥) → protectionOf w vtl flags l .world ≡ w
-  pub default : (w : World) (vtl flags : ℕ) → (defaultOf w vtl flags .reply .number ≡ 0 → ⊥) → (defaultOf w vtl flags .reply .number ≡ 10 → ⊥) → defaultOf w vtl flags .world ≡ w
-  pub default-10 : (w : World) (vtl flags : ℕ) → defaultOf w vtl flags .reply .number ≡ 10 → defaultOf w vtl flags .world ≡ storedIn w vtl flags
+  pub default : (w : World) (vtl flags : ℕ) → (defaultOf w vtl flags .reply .number ≡ 0 → ⊥) → (defaultOf w vtl flags .reply .number ≡ refusal.locked → ⊥) → defaultOf w vtl flags .world ≡ w
+  pub default-10 : (w : World) (vtl flags : ℕ) → defaultOf w vtl flags .reply .number ≡ refusal.locked → defaultOf w vtl flags .world ≡ storedIn w vtl flags
   pub register : (w : World) (vtl p source checked new : ℕ) → (registerOf w vtl p source checked new .reply .number ≡ 0 → ⊥) → registerOf w vtl p source checked new .world ≡ w
   pub unregister : (w : World) (vtl p : ℕ) → (unregisterOf w vtl p .reply .number ≡ 0 → ⊥) → unregisterOf w vtl p .world ≡ w
   pub lock : (s t : List ℕ) (vtl : ℕ) (l : List ℕ) → (lockOf s t vtl l .reply .number ≡ 0 → ⊥) → lockOf s t vtl l .tables ≡ t
@@ -132,10 +136,10 @@ pub record Counts : Type 0 where
   pub register-known : (w : World) (vtl p source checked new : ℕ) (gs : List BackendAnswer) → TakesRegister w vtl p source checked new
       → overlayIn (w .tables) (vtlOf vtl) p ≡ true → registerCall w vtl p source checked new gs .last .reply ≡ ok 0
   pub register-flags : (w : World) (vtl p source checked new : ℕ) (gs : List BackendAnswer) → TakesRegister w vtl p source checked new
-      → overlayIn (w .tables) (vtlOf vtl) p ≡ false → ltb new 16 ≡ true → newWhole w (vtlOf vtl) p source new gs true .whole .status ≡ Ok
+      → overlayIn (w .tables) (vtlOf vtl) p ≡ false → ltb new flagsEnd ≡ true → newWhole w (vtlOf vtl) p source new gs true .whole .status ≡ Ok
       → registerCall w vtl p source checked new gs .last .reply ≡ ok 4
   pub register-none : (w : World) (vtl p source checked new : ℕ) (gs : List BackendAnswer) → TakesRegister w vtl p source checked new
-      → overlayIn (w .tables) (vtlOf vtl) p ≡ false → ltb new 16 ≡ false → newWhole w (vtlOf vtl) p source new gs false .whole .status ≡ Ok
+      → overlayIn (w .tables) (vtlOf vtl) p ≡ false → ltb new flagsEnd ≡ false → newWhole w (vtlOf vtl) p source new gs false .whole .status ≡ Ok
       → registerCall w vtl p source checked new gs .last .reply ≡ ok 3
   -- a lowered count none, a removed entry four
   pub unregister-lowered : (w : World) (vtl p : ℕ) (gs : List BackendAnswer) → TakesUnregister w vtl p
@@ -207,13 +211,13 @@ pub record PermissionsLeft : Type 0 where
 -- page being in none
 
 pub record OverlayFails (w : World) (v : GuestVtl) (f : HvMapGpaFlags) (p source : ℕ) (x : Told) : Type 0 where
-  pub reply : x .last .reply ≡ finished 16 8 0 1
+  pub reply : x .last .reply ≡ finished refusal.backendFailed operationDenied 0 1
   pub tables : x .last .world .tables ≡ w .tables
   pub maps : Leaves (trackedIn w && eqb source 0) v (within (bits.one p)) f (w .maps) (x .last .world .maps)
 
 pub record Failures : Type 0 where
   pub register : (w : World) (vtl p source checked new code k : ℕ) (gs : List BackendAnswer) → TakesRegister w vtl p source checked new
-      → overlayIn (w .tables) (vtlOf vtl) p ≡ false → ltb new 16 ≡ true
+      → overlayIn (w .tables) (vtlOf vtl) p ≡ false → ltb new flagsEnd ≡ true
       → OverlayFails w (vtlOf vtl) (flagsOf new) p source (registerCall w vtl p source checked new (Fails code k ∷ gs))
   pub unregister : (w : World) (vtl p code k : ℕ) (gs : List BackendAnswer) → TakesUnregister w vtl p → ltb 1 (entryIn (w .tables) (vtlOf vtl) p .«ref_count») ≡ false
       → OverlayFails w (vtlOf vtl) (flagsOf (entryIn (w .tables) (vtlOf vtl) p .«previous_permissions»)) p (entryIn (w .tables) (vtlOf vtl) p .«gpn_source»)

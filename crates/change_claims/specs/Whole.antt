@@ -3,6 +3,7 @@
 use mathlib.Core.Bool.{Bool, not, cond, _&&_}
 use mathlib.Core.List.{List, [], _∷_, _++_}
 use Prim.Native.Nat.{ℕ, _-_}
+use Rattle.abi.specs.Codes.{operationDenied}
 use Rattle.bitmap.specs.Pages.{bitAt}
 use Rattle.permissions.specs.declared.GuestVtl.{GuestVtl}
 use Rattle.permissions.specs.declared.GuestVtl.the-variants.{Vtl0}
@@ -73,16 +74,12 @@ wholeEntry tracked v m gs = inTurn (protecting tracked) (closing v v) m gs ended
 abbrev pub protectingPage : Bool → Bool → GuestVtl → HvMapGpaFlags → ℕ → Maps → Maps
 protectingPage tracked guest v f p m = cond guest (protecting tracked (Protect v f (run p 1)) m) m
 
--- OperationDenied
-abbrev pub denied : ℕ
-denied = 8
-
 -- flags are Protected, and then the entry is written; a failed Protect ends the call (16)
 unfoldable pub wholeOverlay : Bool → Bool → GuestVtl → HvMapGpaFlags → ℕ → Maps → List BackendAnswer → Whole
 wholeOverlay tracked guest v f p m gs =
     one (Protect v f (run p 1)) (protectingPage tracked guest v f p m) gs
     (λ gs. wholeEntry tracked v (protectingPage tracked guest v f p m) gs)
-    (λ code k gs. stands (protectingPage tracked guest v f p m) (FailedAt denied 0))
+    (λ code k gs. stands (protectingPage tracked guest v f p m) (FailedAt operationDenied 0))
 
 -- the tables: as they were, until the Protect is done
 abbrev pub onceDone : List BackendAnswer → List ℕ → List ℕ → List ℕ

@@ -32,8 +32,8 @@ use Rattle.call_refusals.specs.World.{takes}
 use Rattle.protector.specs.Writes.{putPlaces}
 use Rattle.visibility_claims.specs.Whole.{BackendAnswer, Succeeds, Fails}
 use Rattle.history.specs.Observed.{ReturnState, Never, Returned, Validated, Zeroed, processed, accepted, zeroed, isDone}
-use Rattle.history.specs.Marks.{isSettled}
-use Rattle.history.proofs.Bits.{Has, clash, of-part, in-part, inside, set-cases}
+use Rattle.history.specs.Marks.{Has, isSettled}
+use Rattle.history.proofs.Bits.{clash, of-part, in-part, inside, set-cases}
 use Rattle.history.proofs.Right.{opened}
 
 -- ---- the pages of a run are those at its places

@@ -41,9 +41,9 @@ use Rattle.visibility_claims.specs.Whole.{BackendAnswer, Succeeds, Fails}
 use Rattle.visibility_claims.specs.Calls.{answerOf}
 use Rattle.visibility_claims.proofs.Calls.{phase-read, request-read, few-done, few-failed}
 use Rattle.history.specs.Observed.{Observed, ReturnState, asks, ageAfter, seesTaken, seesAnswer, seesCall}
-use Rattle.history.specs.Marks.{isSettled}
+use Rattle.history.specs.Marks.{Has, isSettled}
 use Rattle.call_refusals.proofs.Laws.{fits-pages}
-use Rattle.history.proofs.Bits.{Has, clash, clear-kept}
+use Rattle.history.proofs.Bits.{clash, clear-kept}
 use Rattle.history.proofs.Right.{opened, isQuiet, Names, Fits}
 use Rattle.history.proofs.Steps.{done-fits, failed-fits}
 use Rattle.history.proofs.World.{Stands, digit-read, quiet-names, changing-shut, change-shut}

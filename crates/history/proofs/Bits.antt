@@ -14,9 +14,7 @@ use Rattle.page_list.specs.Pages.{among}
 use Rattle.page_list.specs.Runs.{part}
 use Rattle.page_list.proofs.Laws.{among-at}
 use Rattle.request_pages.specs.Request.{wanted}
-
-abbrev pub Has : List ℕ → ℕ → Type 0
-Has m q = bitAt 8 m q ≡ true
+use Rattle.history.specs.Marks.{Has}
 
 pub clash : {X : Type 0} (b : Bool) → b ≡ true → b ≡ false → X
 clash b e f = let z : _≡_ {A = ℕ} 0 1 = cc in absurd (omega arith)

@@ -7,9 +7,9 @@ use Rattle.visibility_claims.specs.Calls.{replies}
 use Rattle.visibility_claims.proofs.Table.{visibility}
 use Rattle.history.specs.ObservedTable.{done, ObservedTable}
 
-pub seen-table : ObservedTable
+pub observed-table : ObservedTable
 unfolding among askedOf replies done
-seen-table =
+observed-table =
     record {
       sharing-asks = ap (replies Snp) (visibility .P2-asked);
       sharing-waits = refl;

@@ -25,7 +25,8 @@ use Rattle.protector_state.specs.Reply.{modifies, onRun, flatOf}
 use Rattle.call_refusals.specs.World.{statusOf}
 use Rattle.protector.specs.Writes.{putPlaces}
 use Rattle.history.specs.Observed.{asks, goesOn}
-use Rattle.history.proofs.Bits.{Has, clash, of-part, inside, set-cases, set-has, set-keeps}
+use Rattle.history.specs.Marks.{Has}
+use Rattle.history.proofs.Bits.{clash, of-part, inside, set-cases, set-has, set-keeps}
 
 -- the pages under way bear neither mark while one of these operations is outstanding
 abbrev pub opened : Phase → Bool

@@ -25,7 +25,8 @@ use Rattle.visibility_steps.specs.Steps.{asked, cleared}
 use Rattle.protector.specs.Writes.{putPlaces}
 use Rattle.call_refusals.specs.Refusals.{pageRefusal, firstRefusal}
 use Rattle.change_claims.proofs.Made.{among-take, among-pick}
-use Rattle.history.proofs.Bits.{Has, clash, in-part, clear-kept, clear-gone, clear-same, not-among, none-among, was-private, was-shared}
+use Rattle.history.specs.Marks.{Has}
+use Rattle.history.proofs.Bits.{clash, in-part, clear-kept, clear-gone, clear-same, not-among, none-among, was-private, was-shared}
 use Rattle.history.proofs.Right.{opened, Right}
 
 -- ---- a part of a list, and what is picked of it

@@ -12,10 +12,7 @@ use Rattle.page_list.specs.Pages.{among}
 use Rattle.protector_state.specs.declared.Reply.{Reply}
 use Rattle.protector_state.specs.Reply.{finished}
 use Rattle.visibility_claims.specs.Whole.{BackendAnswer, Succeeds, Fails}
-
--- in the place of an operation's number: none is asked for
-abbrev pub noOperation : ℕ
-noOperation = 0
+use Rattle.visibility_claims.specs.Calls.{noOperation}
 
 -- ---- what is seen
 

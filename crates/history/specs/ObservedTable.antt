@@ -22,10 +22,10 @@ use Rattle.history.specs.Marks.{isSettled}
 
 -- replies that ask: Wait, FlushAll, and of a run of a share Protect VTL0, Protect VTL1, Invalidate
 abbrev waits : Reply
-waits = plain 1
+waits = plain operation.wait
 
 abbrev flushes : Reply
-flushes = plain 2
+flushes = plain operation.flushAll
 
 abbrev none0 : PageRun → Reply
 none0 r = protects Snp Vtl0 noFlags r
@@ -34,7 +34,7 @@ abbrev none1 : PageRun → Reply
 none1 r = protects Snp Vtl1 noFlags r
 
 abbrev invalidates : PageRun → Reply
-invalidates r = onRun 4 r
+invalidates r = onRun operation.invalidate r
 
 -- each answered by done in turn; the pages run is t
 unfoldable pub done : List ℕ → List Reply → Observed → Observed
@@ -77,7 +77,7 @@ abbrev pub cleared : Observed
 cleared = seesAnswer Succeeds (protects Snp Vtl0 allFlags (run 9 1)) two validated
 
 abbrev pub ended : Observed
-ended = seesAnswer Succeeds (finished 16 77 1 6) two cleared
+ended = seesAnswer Succeeds (finished refusal.backendFailed 77 1 6) two cleared
 
 -- Zero asked for and done before Accept
 abbrev pub unordered : Observed

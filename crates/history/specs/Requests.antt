@@ -5,6 +5,7 @@ use mathlib.Core.Bool.{false, cond}
 use mathlib.Core.List.{List, [], _∷_, _++_}
 use Prim.Native.Nat.{ℕ}
 use lib.ListN.{drop}
+use Rattle.abi.specs.Places as place
 use Rattle.permissions.specs.Flags.{vtlOf, boolOf}
 use Rattle.protector_state.specs.declared.Reply.{Reply}
 use Rattle.protector_state.specs.State.{settingsOf}
@@ -13,8 +14,8 @@ use Rattle.protection_entries.specs.Calls.{stored, allListed}
 use Rattle.visibility_claims.specs.Whole.{BackendAnswer}
 use Rattle.visibility_claims.specs.Runs.{whole}
 use Rattle.visibility_claims.specs.Calls.{wholeOf, pagesFor, asksIn, Told, Match}
-use Rattle.change_claims.specs.Whole.{Change}
-use Rattle.change_claims.specs.Calls.{protectionWhole, defaultWhole, registerWhole, unregisterWhole, Agrees}
+use Rattle.change_claims.specs.Calls.{protectionWhole, defaultWhole, registerWhole, unregisterWhole}
+use Rattle.change_claims.specs.Claims.{AgreesIn}
 use Rattle.history.specs.Observed.{Observed, asks, isWaiting}
 use Rattle.history.specs.Call.{Writer, Visibility, Protection, Default, Register, Unregister, Lock, Unlock, Enable, Call, Write, Read, Answer, Result, seesWriter, sees}
 use Rattle.history.specs.Made.{Made, Built}
@@ -40,12 +41,9 @@ toldIn {w} {v} {a} {o} h = record { asked = askedIn h; last = given v (o .op) }
 -- ---- a call of the world u, once the answers gs were taken: the operations that it asked for, in turn, what was given last, and what it leaves, are those of the
 -- whole call as 01 writes it
 
-abbrev pub AgreesIn : World → List ℕ → Change → Told → Type 0
-AgreesIn w t c x = Agrees (drop 14 (w .state)) t (settingsOf (w .state) .isolation) (whole (c .whole)) (c .tables) x
-
 abbrev pub WholeOf : Writer → World → List BackendAnswer → Told → Type 0
 WholeOf (Visibility vtl share list) u gs x =
-    Match (u .tables) (drop 10 (u .state)) (pagesFor u (vtlOf vtl) (boolOf share) list) (settingsOf (u .state) .isolation)
+    Match (u .tables) (drop place.afterRequest (u .state)) (pagesFor u (vtlOf vtl) (boolOf share) list) (settingsOf (u .state) .isolation)
     (whole (wholeOf u (vtlOf vtl) (boolOf share) list gs)) x
 WholeOf (Protection vtl flags list) u gs x = AgreesIn u (allListed list (u .pages)) (protectionWhole u (vtlOf vtl) flags list gs) x
 WholeOf (Default vtl flags) u gs x = AgreesIn (stored u (vtlOf vtl) flags) (u .pages) (defaultWhole (stored u (vtlOf vtl) flags) (vtlOf vtl) flags gs) x

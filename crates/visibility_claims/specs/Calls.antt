@@ -5,6 +5,7 @@ use mathlib.Core.List.{List, [], _∷_, _++_}
 use Prim.Native.Nat.{ℕ}
 use lib.Dec.{eqb}
 use lib.ListN.{length, drop, take}
+use Rattle.abi.specs.Places as place
 use Rattle.abi.specs.Refusals as refusal
 use Rattle.laws.specs.Refusal.{unless, when}
 use Rattle.permissions.specs.declared.GuestVtl.{GuestVtl}
@@ -59,9 +60,13 @@ abbrev pub takenBy : BackendAnswer → World → Bool
 takenBy Succeeds w = eqb (answerRefusal (w .state) (fits w) false) 0
 takenBy (Fails code k) w = eqb (answerRefusal (w .state) (fits w) true) 0
 
+-- in the place of an operation's number: none is asked for
+abbrev pub noOperation : ℕ
+noOperation = 0
+
 -- a reply that asks for an operation
 abbrev pub asksIn : Reply → List Reply
-asksIn r = cond (eqb (r .operation) 0) [] (r ∷ [])
+asksIn r = cond (eqb (r .operation) noOperation) [] (r ∷ [])
 
 -- the replies that asked for one, in order, and what was given last by a call or a taken answer
 pub record Told : Type 0 where
@@ -112,7 +117,7 @@ NamesAll t [] = Unit {0}
 NamesAll t (o ∷ os) = Names t o × NamesAll t os
 
 abbrev pub Says : IsolationType → Last → Reply → Type 0
-Says i Outstanding r = eqb (r .operation) 0 ≡ false
+Says i Outstanding r = eqb (r .operation) noOperation ≡ false
 Says i (Gives a) r = r ≡ flatOf i a
 
 -- the same operations, maps and answer, and the run `pages` names the pages of Modify; this run stays t, overlays and locks as in `tables`, settings and layout
@@ -124,7 +129,7 @@ pub record Match (tables rest t : List ℕ) (i : IsolationType) (r : Ran) (x : T
   pub same-reply : Says i (r .last) (x .last .reply)
   pub same-pages : x .last .world .pages ≡ t
   pub same-tables : x .last .world .tables ≡ tables
-  pub same-rest : drop 10 (x .last .world .state) ≡ rest
+  pub same-rest : drop place.afterRequest (x .last .world .state) ≡ rest
 
 -- ---- THE CLAIMS: a visibility change that isn't refused before its pages are looked at, with its answers in turn, is the whole call; Modify being the last
 -- operation asked for, the run `pages` names its pages then
@@ -132,7 +137,7 @@ pub record Match (tables rest t : List ℕ) (i : IsolationType) (r : Ran) (x : T
 abbrev pub VisibilityIsWhole : Type 0
 VisibilityIsWhole =
     (w : World) (vtl visibility : ℕ) (l : List ℕ) (gs : List BackendAnswer) → inputRefusal w vtl visibility l ≡ 0
-    → Match (w .tables) (drop 10 (w .state)) (pagesFor w (vtlOf vtl) (boolOf visibility) l) (settingsOf (w .state) .isolation)
+    → Match (w .tables) (drop place.afterRequest (w .state)) (pagesFor w (vtlOf vtl) (boolOf visibility) l) (settingsOf (w .state) .isolation)
     (whole (wholeOf w (vtlOf vtl) (boolOf visibility) l gs)) (follow (visibilityOf w vtl visibility l) gs)
 
 -- one that is refused before gives that number, and changes nothing

@@ -5,6 +5,7 @@ use mathlib.Core.List.{List, [], _∷_}
 use Prim.Native.Nat.{ℕ, suc, _+_, _-_, _*_, _≤_, _<_, max}
 use lib.Dec.{eqb}
 use lib.ListN.{length}
+use Rattle.abi.specs.Refusals as refusal
 use Rattle.visibility_steps.specs.declared.Phase.{Phase}
 use Rattle.visibility_steps.specs.declared.Phase.the-variants.{Idle, Halted, Wait, FlushAll, ProtectNone0, ProtectNone1, Invalidate, Release, Modify, Accept, Zero, ProtectDefault0, ProtectDefault1}
 use Rattle.layout.specs.declared.MemoryRangeWithNode.{MemoryRangeWithNode}
@@ -57,7 +58,7 @@ leftIn w =
 
 -- an operation waits for its answer (19)
 abbrev pub underWay : World → Bool
-underWay w = eqb (statusIn (w .state)) 19
+underWay w = eqb (statusIn (w .state)) refusal.busy
 
 -- the world once answers were given in turn, and how many of them were taken
 unfoldable pub afterAll : World → List BackendAnswer → World

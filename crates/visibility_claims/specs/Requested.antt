@@ -5,6 +5,8 @@ use mathlib.Core.List.{List, [], _∷_, _++_}
 use mathlib.Core.Path.{_≡_}
 use Prim.Native.Nat.{ℕ, suc, _<_}
 use lib.ListN.{length, getD, take, drop}
+use Rattle.abi.specs.Lengths.{placesStart}
+use Rattle.abi.specs.Refusals as refusal
 use Rattle.bitmap.specs.Pages.{bitAt}
 use Rattle.layout.specs.Layout.{isRam}
 use Rattle.permissions.specs.declared.GuestVtl.{GuestVtl}
@@ -31,9 +33,9 @@ isLockedPage w v p = cond (isOverlayPage w v p) false (held (listsOf (locksOf (w
 unfoldable pub denial : World → GuestVtl → Bool → List ℕ → ℕ
 denial w v share [] = 0
 denial w v share (p ∷ ps) =
-    cond (not (isRam (entriesIn (w .state)) p)) 7
-    (cond (isLockedPage w v p) 10
-    (cond (share && isOverlayPage w v p) 11
+    cond (not (isRam (entriesIn (w .state)) p)) refusal.notRam
+    (cond (isLockedPage w v p) refusal.locked
+    (cond (share && isOverlayPage w v p) refusal.overlay
     (denial w v share ps)))
 
 -- ---- then the list is gone through from its first page on
@@ -87,7 +89,7 @@ placesIn (x ∷ xs) = x .place ∷ placesIn xs
 
 -- the lent run `pages` while the call is under way: the pages asked for from word 0 on, their places from word 512 on, every other word as it was
 abbrev pub storedIn : List Listed → List ℕ → List ℕ
-storedIn xs t = over (pagesIn xs) (take 512 t) ++ over (placesIn xs) (drop 512 t)
+storedIn xs t = over (pagesIn xs) (take placesStart t) ++ over (placesIn xs) (drop placesStart t)
 
 -- ---- THE CLAIM on places: each holds its page in the list as sent, and they ascend
 
