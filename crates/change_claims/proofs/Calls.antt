@@ -35,7 +35,7 @@ use Rattle.protection_entries.proofs.Laws.{protection-passed, table-fits}
 use Rattle.overlay_refusals.specs.Refusals.{unregisterRefusal, registerRefusal}
 use Rattle.overlay_entries.specs.Calls.{counting, entryIn, currentIn, registerTaken, registerOf, unregisterTaken, unregisterOf}
 use Rattle.overlay_refusals.proofs.Laws.{call-passed}
-use Rattle.visibility_claims.specs.Whole.{Given, Succeeds, Fails, Whole}
+use Rattle.visibility_claims.specs.Whole.{BackendAnswer, Succeeds, Fails, Whole}
 use Rattle.visibility_claims.specs.Runs.{after, whole}
 use Rattle.visibility_claims.specs.Calls.{asksIn, follow, replies}
 use Rattle.change_claims.specs.Whole.{Change, change, wholeRuns, wholePages, wholeEntry, wholeOverlay, onceDone}
@@ -68,7 +68,7 @@ given w t x s =
       reply = flatOf (s .isolation) (x s .answer);
     }
 
-pub from-call : (w : World) (t T : List ℕ) (x : Settings → ChangeStep) (W : Settings → Whole) (gs : List Given)
+pub from-call : (w : World) (t T : List ℕ) (x : Settings → ChangeStep) (W : Settings → Whole) (gs : List BackendAnswer)
     → (let s : Settings = at.settings (drop 14 (w .state)) t in at.Same (drop 14 (w .state)) t 0 (W s) T (follow (at.left (drop 14 (w .state)) t (w .maps) (w .tables) (x s)) gs))
     → Agrees (drop 14 (w .state)) t (settingsOf (w .state) .isolation) (after 0 (W (settingsOf (w .state)))) T (follow (carriedChange w t (x (settingsOf (w .state)))) gs)
 unfolding carriedChange
@@ -80,7 +80,7 @@ from-call w t T x W gs h =
 listed : (l t : List ℕ) → part (allListed l t) (length (pagesOf l)) 0 ≡ pagesOf l
 listed l t = subst (λ (ps : List ℕ). part (allListed l t) (length ps) 0 ≡ ps) (pick-each (pagesOf l)) (in-use (λ p. true) (pagesOf l) t)
 
-module _ (w : World) (vtl flags : ℕ) (l : List ℕ) (z : protectionRefusal (w .state) (fits w) (w .maps .shared) (w .tables) vtl flags l ≡ 0) (gs : List Given) where
+module _ (w : World) (vtl flags : ℕ) (l : List ℕ) (z : protectionRefusal (w .state) (fits w) (w .maps .shared) (w .tables) vtl flags l ≡ 0) (gs : List BackendAnswer) where
   abbrev protecting : Change
   protecting = protectionWhole w (vtlOf vtl) flags l gs
 
@@ -113,13 +113,13 @@ module _ (w : World) (vtl flags : ℕ) (l : List ℕ) (z : protectionRefusal (w 
 idle-refuses : (s : List ℕ) (f b : Bool) → eqb (statusIn s) 0 ≡ true → eqb (answerRefusal s f b) 0 ≡ false
 idle-refuses s f b e = untaken-refused s f b (idle-takes s b (eqb-true (statusIn s) 0 e))
 
-pub idle-follows : (w : World) (r : Reply) → eqb (statusIn (w .state)) 0 ≡ true → (gs : List Given) → follow (record { world = w; reply = r }) gs ≡ record { asked = asksIn r; last = record { world = w; reply = r } }
+pub idle-follows : (w : World) (r : Reply) → eqb (statusIn (w .state)) 0 ≡ true → (gs : List BackendAnswer) → follow (record { world = w; reply = r }) gs ≡ record { asked = asksIn r; last = record { world = w; reply = r } }
 unfolding follow
 idle-follows w r e [] = refl
 idle-follows w r e (Succeeds ∷ gs) = rw (idle-refuses (w .state) (fits w) false e) (idle-follows w r e gs)
 idle-follows w r e (Fails code k ∷ gs) = rw (idle-refuses (w .state) (fits w) true e) (idle-follows w r e gs)
 
-counted : (w : World) (v : GuestVtl) (p n : ℕ) → eqb (statusIn (w .state)) 0 ≡ true → (gs : List Given)
+counted : (w : World) (v : GuestVtl) (p n : ℕ) → eqb (statusIn (w .state)) 0 ≡ true → (gs : List BackendAnswer)
     → Agrees (drop 14 (w .state)) (w .pages) (settingsOf (w .state) .isolation) (whole (countWhole w v p n .whole)) (countWhole w v p n .tables) (follow (counting w v p n) gs)
 unfolding replies flatOf
 counted w v p n e gs =
@@ -129,7 +129,7 @@ counted w v p n e gs =
 
 -- ---- register_overlay_page and unregister_overlay_page
 
-module _ (w : World) (v : GuestVtl) (p : ℕ) (long : length (w .state) ≡ 128) (idle : eqb (statusIn (w .state)) 0 ≡ true) (fit : fits w ≡ true) (gs : List Given) where
+module _ (w : World) (v : GuestVtl) (p : ℕ) (long : length (w .state) ≡ 128) (idle : eqb (statusIn (w .state)) 0 ≡ true) (fit : fits w ≡ true) (gs : List BackendAnswer) where
   abbrev tail : List ℕ
   tail = drop 14 (w .state)
 
@@ -213,7 +213,7 @@ module _ (w : World) (v : GuestVtl) (p : ℕ) (long : length (w .state) ≡ 128)
 
 -- THE CLAIM: an overlay call that is taken, and its answers in turn
 pub register-is-whole : (w : World) (vtl p source checked new : ℕ)
-    → registerRefusal (w .state) (fits w) (w .maps .shared) (w .tables) (currentIn w (vtlOf vtl) p source) vtl p source checked new ≡ 0 → (gs : List Given)
+    → registerRefusal (w .state) (fits w) (w .maps .shared) (w .tables) (currentIn w (vtlOf vtl) p source) vtl p source checked new ≡ 0 → (gs : List BackendAnswer)
     → Agrees (drop 14 (w .state)) (w .pages) (settingsOf (w .state) .isolation) (whole (registerWhole w (vtlOf vtl) p source new gs .whole)) (registerWhole w (vtlOf vtl) p source new gs .tables)
     (follow (registerOf w vtl p source checked new) gs)
 unfolding registerOf registerRefusal
@@ -221,7 +221,7 @@ register-is-whole w vtl p source checked new z gs =
     let k = call-passed (w .state) (fits w) vtl _ z in
     rw (eq-eqb _ 0 z) (register-taken w (vtlOf vtl) p (k .0) (eq-eqb _ _ (k .1)) (k .2) gs source new)
 
-pub unregister-is-whole : (w : World) (vtl p : ℕ) → unregisterRefusal (w .state) (fits w) (w .tables) vtl p ≡ 0 → (gs : List Given)
+pub unregister-is-whole : (w : World) (vtl p : ℕ) → unregisterRefusal (w .state) (fits w) (w .tables) vtl p ≡ 0 → (gs : List BackendAnswer)
     → Agrees (drop 14 (w .state)) (w .pages) (settingsOf (w .state) .isolation) (whole (unregisterWhole w (vtlOf vtl) p gs .whole)) (unregisterWhole w (vtlOf vtl) p gs .tables)
     (follow (unregisterOf w vtl p) gs)
 unfolding unregisterOf unregisterRefusal

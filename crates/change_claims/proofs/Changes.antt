@@ -9,6 +9,7 @@ use native.Mathlib.Decide.{decLt}
 use lib.Dec.{eqb}
 use lib.ListN.{length}
 use borrow.Author.Tests.{eq-eqb, eqb-false, lt-ltb, le-ltb}
+use Rattle.abi.specs.Codes.{operationDenied}
 use Rattle.laws.specs.Bools.{false≢true, lt-or-le}
 use Rattle.bitmap.proofs.Map.{length-written}
 use Rattle.permissions.specs.declared.GuestVtl.{GuestVtl}
@@ -39,10 +40,10 @@ use Rattle.call_refusals.specs.World.{Outcome, overlaysOf, takesAt}
 use Rattle.protector.specs.Writes.{entered}
 use Rattle.protector.specs.Calls.{withPermissions}
 use Rattle.visibility_claims.proofs.Steps.{once}
-use Rattle.visibility_claims.specs.Whole.{Operation, Wait, Protect, Flush, TlbWait, Given, Ok, FailedAt, Halts, Whole, stands, one, inTurn, perRun, protecting}
+use Rattle.visibility_claims.specs.Whole.{Operation, Wait, Protect, Flush, TlbWait, BackendAnswer, Ok, FailedAt, Halts, Whole, stands, one, inTurn, perRun, protecting}
 use Rattle.visibility_claims.specs.Calls.{Told, follow, crossing, replies}
 use Rattle.visibility_claims.specs.Ends.{pageEnd}
-use Rattle.change_claims.specs.Whole.{closing, ended, protects, wholeEntry, protectingPage, denied, wholeOverlay, onceDone}
+use Rattle.change_claims.specs.Whole.{closing, ended, protects, wholeEntry, protectingPage, wholeOverlay, onceDone}
 use Rattle.change_claims.proofs.Steps as at
 
 -- ---- what a Protect writes
@@ -119,7 +120,7 @@ module _ (tail t : List ℕ) (long : length tail ≡ 114) where
   unfolding changes.finish entered
   finish-left m T a = ap (λ (m : Maps). record { world = at.held tail t stage.Idle changes.noChange m T; reply = flatOf (at.settings tail t .isolation) a }) (at.none-written (flagsOf 0) m)
 
-  done-over : (c n : ℕ) (m : Maps) (T : List ℕ) → fit m T ≡ true → n ≡ c % 2 ^ 64 → (gs : List Given) → Same c (stands m Ok) T (follow (left m T (changes.finish (Done n))) gs)
+  done-over : (c n : ℕ) (m : Maps) (T : List ℕ) → fit m T ≡ true → n ≡ c % 2 ^ 64 → (gs : List BackendAnswer) → Same c (stands m Ok) T (follow (left m T (changes.finish (Done n))) gs)
   unfolding flatOf replies
   done-over c n m T f e gs =
       let d : n ≡ (c + 0) % 2 ^ 64 = omega arith in
@@ -133,7 +134,7 @@ module _ (tail t : List ℕ) (long : length tail ≡ 114) where
         same-rest = refl;
       })
 
-  failed-over : (c n code i : ℕ) (m : Maps) (T : List ℕ) → fit m T ≡ true → n ≡ c % 2 ^ 64 → (gs : List Given) → Same c (stands m (FailedAt code i)) T (follow (left m T (changes.finish (Failed code i n))) gs)
+  failed-over : (c n code i : ℕ) (m : Maps) (T : List ℕ) → fit m T ≡ true → n ≡ c % 2 ^ 64 → (gs : List BackendAnswer) → Same c (stands m (FailedAt code i)) T (follow (left m T (changes.finish (Failed code i n))) gs)
   unfolding flatOf replies
   failed-over c n code i m T f e gs =
       let d : n ≡ (c + 0) % 2 ^ 64 = omega arith in
@@ -151,7 +152,7 @@ module _ (tail t : List ℕ) (long : length tail ≡ 114) where
   unfolding changes.halt entered
   halt-left m T q = ap (λ (m : Maps). record { world = at.held tail t stage.Halted q m T; reply = flatOf (at.settings tail t .isolation) (Halted (q .count)) }) (at.none-written (flagsOf (q .flags)) m)
 
-  halts : (c : ℕ) (q : Change) (m : Maps) (T : List ℕ) → q .count ≡ c % 2 ^ 64 → (gs : List Given) → Same c (stands m Halts) T (follow (left m T (changes.halt q)) gs)
+  halts : (c : ℕ) (q : Change) (m : Maps) (T : List ℕ) → q .count ≡ c % 2 ^ 64 → (gs : List BackendAnswer) → Same c (stands m Halts) T (follow (left m T (changes.halt q)) gs)
   unfolding flatOf replies
   halts c q m T e gs =
       let d : q .count ≡ (c + 0) % 2 ^ 64 = omega arith in
@@ -176,7 +177,7 @@ module _ (tail t : List ℕ) (long : length tail ≡ 114) where
   keep-left g q o m T = ask-left g q o Keep m T
 
   module _ (m : Maps) (T : List ℕ) (f : fit m T ≡ true) where
-    last-one : (c : ℕ) (q : Change) → q .n ≤ 512 → q .count ≡ c % 2 ^ 64 → (gs : List Given)
+    last-one : (c : ℕ) (q : Change) → q .n ≤ 512 → q .count ≡ c % 2 ^ 64 → (gs : List BackendAnswer)
         → Same c (inTurn (protecting tr) (TlbWait (q .vtl) ∷ []) m gs ended) T (follow (left m T (changes.ask stage.TlbWait q (crossing (TlbWait (q .vtl))) Keep)) gs)
     unfolding inTurn changes.doneOf
     last-one c q h e gs =
@@ -184,7 +185,7 @@ module _ (tail t : List ℕ) (long : length tail ≡ 114) where
         (at.asks tail t long c stage.TlbWait (changes.counted q (q .at)) (TlbWait (q .vtl)) m T (λ gs. ended m gs) (λ code k gs. stands m Halts) (λ gs. T) refl refl h f refl
         (λ gs. done-over (c + 1) ((q .count + 1) % 2 ^ 64) m T f (once c (q .count) e) gs) (λ code k gs z. false≢true z) (λ code k gs z. refl) gs)
 
-    last-two : (c : ℕ) (q : Change) → q .n ≤ 512 → q .count ≡ c % 2 ^ 64 → (gs : List Given)
+    last-two : (c : ℕ) (q : Change) → q .n ≤ 512 → q .count ≡ c % 2 ^ 64 → (gs : List BackendAnswer)
         → Same c (inTurn (protecting tr) (Flush (q .flush) ∷ TlbWait (q .vtl) ∷ []) m gs ended) T (follow (left m T (changes.ask stage.Flush q (crossing (Flush (q .flush))) Keep)) gs)
     unfolding inTurn changes.doneOf
     last-two c q h e gs =
@@ -192,7 +193,7 @@ module _ (tail t : List ℕ) (long : length tail ≡ 114) where
         (at.asks tail t long c stage.Flush (changes.counted q (q .at)) (Flush (q .flush)) m T (λ gs. inTurn (protecting tr) (TlbWait (q .vtl) ∷ []) m gs ended) (λ code k gs. stands m Halts) (λ gs. T) refl refl h f refl
         (λ gs. last-one (c + 1) (changes.counted q (q .at)) h (once c (q .count) e) gs) (λ code k gs z. false≢true z) (λ code k gs z. refl) gs)
 
-    closes : (c : ℕ) (q : Change) → q .n ≤ 512 → q .count ≡ c % 2 ^ 64 → (gs : List Given)
+    closes : (c : ℕ) (q : Change) → q .n ≤ 512 → q .count ≡ c % 2 ^ 64 → (gs : List BackendAnswer)
         → Same c (inTurn (protecting tr) (closing (q .flush) (q .vtl)) m gs ended) T (follow (asked stage.Wait (changes.counted q (q .at)) m T Wait) gs)
     unfolding inTurn changes.doneOf
     closes c q h e gs =
@@ -200,7 +201,7 @@ module _ (tail t : List ℕ) (long : length tail ≡ 114) where
         (λ gs. last-two (c + 1) (changes.counted q (q .at)) h (once c (q .count) e) gs) (λ code k gs z. false≢true z) (λ code k gs z. refl) gs
 
   -- an entry is written before Wait
-  waits : (c : ℕ) (q : Change) (e : Entry) (m : Maps) (T T′ : List ℕ) → q .n ≤ 512 → q .count ≡ c % 2 ^ 64 → entered e (changes.counted q (q .at)) T ≡ T′ → fit m T′ ≡ true → (gs : List Given)
+  waits : (c : ℕ) (q : Change) (e : Entry) (m : Maps) (T T′ : List ℕ) → q .n ≤ 512 → q .count ≡ c % 2 ^ 64 → entered e (changes.counted q (q .at)) T ≡ T′ → fit m T′ ≡ true → (gs : List BackendAnswer)
       → Same c (inTurn (protecting tr) (closing (q .flush) (q .vtl)) m gs ended) T′ (follow (left m T (changes.wait q e)) gs)
   unfolding changes.wait
   waits c q e m T T′ h d z f gs =
@@ -226,14 +227,14 @@ module _ (tail t : List ℕ) (long : length tail ≡ 114) where
     abbrev f : HvMapGpaFlags
     f = flagsOf fl
 
-    abbrev runs : List PageRun → Maps → List Given → Whole
+    abbrev runs : List PageRun → Maps → List BackendAnswer → Whole
     runs rs m gs = inTurn (protecting tr) (perRun (protects v f) rs ++ closing Vtl0 v) m gs ended
 
     protects-run : (g : Stage) → takesAt g false ≡ true → takesAt g true ≡ true → ((q : Change) → changes.failedOf g q ≡ changes.halt q)
         → (c x a₀ a : ℕ) (r : PageRun) (rs : List PageRun) (m : Maps) → x ≡ c % 2 ^ 64 → fit m T ≡ true
         → (let m′ : Maps = protecting tr (Protect v f r) m in let q′ : Change = chg v fl n a ((x + 1) % 2 ^ 64) in
-        (gs : List Given) → Same (c + 1) (runs rs m′ gs) T (follow (left m′ T (changes.doneOf tr g q′ t (at.next tail t g q′ m′ T))) gs))
-        → (gs : List Given) → Same c (runs (r ∷ rs) m gs) T (follow (left m T (changes.protect tr g (chg v fl n a₀ x) a r)) gs)
+        (gs : List BackendAnswer) → Same (c + 1) (runs rs m′ gs) T (follow (left m′ T (changes.doneOf tr g q′ t (at.next tail t g q′ m′ T))) gs))
+        → (gs : List BackendAnswer) → Same c (runs (r ∷ rs) m gs) T (follow (left m T (changes.protect tr g (chg v fl n a₀ x) a r)) gs)
     unfolding inTurn perRun
     protects-run g a0 a1 fails c x a₀ a r rs m e k more gs =
         let m′ : Maps = protecting tr (Protect v f r) m in
@@ -244,28 +245,28 @@ module _ (tail t : List ℕ) (long : length tail ≡ 114) where
         (λ code k gs z. subst (λ (y : ChangeStep). Same (c + 1) (stands m′ Halts) T (follow (left m′ T y) gs)) (sym (fails q′)) (halts (c + 1) q′ m′ T (once c x e) gs))
         (λ code k gs z. false≢true (sym z)) gs)
 
-    no-runs : (c x a₀ : ℕ) (m : Maps) → x ≡ c % 2 ^ 64 → fit m T ≡ true → (gs : List Given) → Same c (runs [] m gs) T (follow (left m T (changes.wait (chg v fl n a₀ x) Keep)) gs)
+    no-runs : (c x a₀ : ℕ) (m : Maps) → x ≡ c % 2 ^ 64 → fit m T ≡ true → (gs : List BackendAnswer) → Same c (runs [] m gs) T (follow (left m T (changes.wait (chg v fl n a₀ x) Keep)) gs)
     unfolding perRun entered
     no-runs c x a₀ m e k gs = waits c (chg v fl n a₀ x) Keep m T T h e refl k gs
 
     -- ---- of listed pages, from the run at place a on
 
-    abbrev Pages : ℕ → ℕ → ℕ → ℕ → Maps → List Given → Type 0
+    abbrev Pages : ℕ → ℕ → ℕ → ℕ → Maps → List BackendAnswer → Type 0
     Pages c x a₀ a m gs = Same c (runs (runsOf (part t n a)) m gs) T (follow (left m T (changes.protectPages tr (chg v fl n a₀ x) t a)) gs)
 
-    pages-over : (c x a₀ a : ℕ) (m : Maps) → x ≡ c % 2 ^ 64 → fit m T ≡ true → n ≤ a → (gs : List Given) → Pages c x a₀ a m gs
+    pages-over : (c x a₀ a : ℕ) (m : Maps) → x ≡ c % 2 ^ 64 → fit m T ≡ true → n ≤ a → (gs : List BackendAnswer) → Pages c x a₀ a m gs
     unfolding changes.protectPages
     pages-over c x a₀ a m e k o gs = rw (le-ltb a n o, runs-end t n a (omega arith)) (no-runs c x a₀ m e k gs)
 
     pages-at : (c x a₀ a : ℕ) (m : Maps) → x ≡ c % 2 ^ 64 → fit m T ≡ true → a < n → n ≤ length t
-        → ((c x : ℕ) (m : Maps) (gs : List Given) → x ≡ c % 2 ^ 64 → fit m T ≡ true → Pages c x a (runEnd t n a) m gs) → (gs : List Given) → Pages c x a₀ a m gs
+        → ((c x : ℕ) (m : Maps) (gs : List BackendAnswer) → x ≡ c % 2 ^ 64 → fit m T ≡ true → Pages c x a (runEnd t n a) m gs) → (gs : List BackendAnswer) → Pages c x a₀ a m gs
     unfolding changes.protectPages changes.doneOf changes.failedOf runEnd
     pages-at c x a₀ a m e k o l more gs =
         rw (lt-ltb a n o, runs-at t n a o (omega arith))
         (protects-run stage.ProtectPages refl refl (λ q. refl) c x a₀ a (runAt t n a) (runsOf (part t n (a + runAt t n a .count))) m e k
         (λ gs. more (c + 1) ((x + 1) % 2 ^ 64) (protecting tr (Protect v f (runAt t n a)) m) gs (once c x e) (fit-protected v f (runAt t n a) true m T k)) gs)
 
-    pub pages-law : n ≤ length t → (j c x a₀ a : ℕ) (m : Maps) → x ≡ c % 2 ^ 64 → fit m T ≡ true → n ≤ a + j → (gs : List Given) → Pages c x a₀ a m gs
+    pub pages-law : n ≤ length t → (j c x a₀ a : ℕ) (m : Maps) → x ≡ c % 2 ^ 64 → fit m T ≡ true → n ≤ a + j → (gs : List BackendAnswer) → Pages c x a₀ a m gs
     pages-law l zero c x a₀ a m e k b gs = pages-over c x a₀ a m e k (omega arith) gs
     pages-law l (suc j) c x a₀ a m e k b gs =
         ⊎-elim (λ (o : a < n). pages-at c x a₀ a m e k o l (λ c x m gs e k. pages-law l j c x a (runEnd t n a) m e k (omega (arith, end-after t n a o)) gs) gs)
@@ -279,18 +280,18 @@ module _ (tail t : List ℕ) (long : length tail ≡ 114) where
     abbrev es : List MemoryRangeWithNode
     es = at.entries tail t
 
-    abbrev Ram : List ℕ → ℕ → ℕ → ℕ → ℕ → ℕ → Maps → List Given → Type 0
+    abbrev Ram : List ℕ → ℕ → ℕ → ℕ → ℕ → ℕ → Maps → List BackendAnswer → Type 0
     Ram private j c x a₀ a m gs = Same c (runs (piecesFrom (W private) es j a) m gs) T (follow (left m T (changes.protectRam tr (chg v fl n a₀ x) (nextOf (W private) es a))) gs)
 
-    ram-over : (p : List ℕ) (c x a₀ a : ℕ) (m : Maps) → x ≡ c % 2 ^ 64 → fit m T ≡ true → eqb (nextOf (W p) es a .count) 0 ≡ true → (gs : List Given)
+    ram-over : (p : List ℕ) (c x a₀ a : ℕ) (m : Maps) → x ≡ c % 2 ^ 64 → fit m T ≡ true → eqb (nextOf (W p) es a .count) 0 ≡ true → (gs : List BackendAnswer)
         → Same c (runs [] m gs) T (follow (left m T (changes.protectRam tr (chg v fl n a₀ x) (nextOf (W p) es a))) gs)
     unfolding changes.protectRam
     ram-over p c x a₀ a m e k o gs = rw o (no-runs c x a₀ m e k gs)
 
     ram-at : (p : List ℕ) (j c x a₀ a : ℕ) (m : Maps) → x ≡ c % 2 ^ 64 → fit m T ≡ true → m .private ≡ p → eqb (nextOf (W p) es a .count) 0 ≡ false
-        → ((c x : ℕ) (m : Maps) (gs : List Given) → x ≡ c % 2 ^ 64 → fit m T ≡ true → m .private ≡ p
+        → ((c x : ℕ) (m : Maps) (gs : List BackendAnswer) → x ≡ c % 2 ^ 64 → fit m T ≡ true → m .private ≡ p
         → Ram p j c x (nextOf (W p) es a .first + nextOf (W p) es a .count) (nextOf (W p) es a .first + nextOf (W p) es a .count) m gs)
-        → (gs : List Given) → Same c (runs (nextOf (W p) es a ∷ piecesFrom (W p) es j (nextOf (W p) es a .first + nextOf (W p) es a .count)) m gs) T
+        → (gs : List BackendAnswer) → Same c (runs (nextOf (W p) es a ∷ piecesFrom (W p) es j (nextOf (W p) es a .first + nextOf (W p) es a .count)) m gs) T
         (follow (left m T (changes.protectRam tr (chg v fl n a₀ x) (nextOf (W p) es a))) gs)
     unfolding changes.protectRam changes.doneOf changes.failedOf
     ram-at p j c x a₀ a m e k d o more gs =
@@ -302,14 +303,14 @@ module _ (tail t : List ℕ) (long : length tail ≡ 114) where
         (λ gs. subst (λ (y : List ℕ). Same (c + 1) (runs (piecesFrom (W p) es j (r .first + r .count)) m′ gs) T (follow (left m′ T (changes.protectRam tr (chg v fl n (r .first + r .count) ((x + 1) % 2 ^ 64)) (nextOf (W y) es (r .first + r .count)))) gs))
         (sym i) (more (c + 1) ((x + 1) % 2 ^ 64) m′ gs (once c x e) (fit-protected v f r true m T k) i)) gs)
 
-    pub ram-law : (p : List ℕ) (j c x a₀ a : ℕ) (m : Maps) → x ≡ c % 2 ^ 64 → fit m T ≡ true → m .private ≡ p → pageEnd es ≤ a + j → (gs : List Given) → Ram p j c x a₀ a m gs
+    pub ram-law : (p : List ℕ) (j c x a₀ a : ℕ) (m : Maps) → x ≡ c % 2 ^ 64 → fit m T ≡ true → m .private ≡ p → pageEnd es ≤ a + j → (gs : List BackendAnswer) → Ram p j c x a₀ a m gs
     unfolding piecesFrom
     ram-law p zero c x a₀ a m e k d b gs = ram-over p c x a₀ a m e k (eq-eqb (nextOf (W p) es a .count) 0 (none-past (W p) es a (omega arith))) gs
     ram-law p (suc j) c x a₀ a m e k d b gs =
         go (eqb (nextOf (W p) es a .count) 0) refl (λ to h c x m gs e k d. ram-law p j c x to to m e k d (omega (arith, b, h)) gs)
       where
         go : (y : Bool) → eqb (nextOf (W p) es a .count) 0 ≡ y
-            → ((to : ℕ) → a < to → (c x : ℕ) (m : Maps) (gs : List Given) → x ≡ c % 2 ^ 64 → fit m T ≡ true → m .private ≡ p → Ram p j c x to to m gs)
+            → ((to : ℕ) → a < to → (c x : ℕ) (m : Maps) (gs : List BackendAnswer) → x ≡ c % 2 ^ 64 → fit m T ≡ true → m .private ≡ p → Ram p j c x to to m gs)
             → Same c (runs (cond y [] (nextOf (W p) es a ∷ piecesFrom (W p) es j (nextOf (W p) es a .first + nextOf (W p) es a .count))) m gs) T
             (follow (left m T (changes.protectRam tr (chg v fl n a₀ x) (nextOf (W p) es a))) gs)
         go true o more = ram-over p c x a₀ a m e k o gs
@@ -321,26 +322,26 @@ module _ (tail t : List ℕ) (long : length tail ≡ 114) where
   ovl v p fl previous source x = record { vtl = v; flush = v; n = 0; at = p; flags = fl; previous = previous; source = source; count = x }
 
   module _ (g : Stage) (e : Entry) (a0 : takesAt g false ≡ true) (a1 : takesAt g true ≡ true) (goes : (q : Change) (r : PageRun) → changes.doneOf tr g q t r ≡ changes.wait q e)
-      (fails : (q : Change) → changes.failedOf g q ≡ changes.finish (Failed denied 0 (q .count))) where
-    pub overlay-law : (v : GuestVtl) (p fl previous source : ℕ) (m : Maps) (T T′ : List ℕ) → entered e (ovl v p fl previous source 2) T ≡ T′ → fit m T ≡ true → fit m T′ ≡ true → (gs : List Given)
+      (fails : (q : Change) → changes.failedOf g q ≡ changes.finish (Failed operationDenied 0 (q .count))) where
+    pub overlay-law : (v : GuestVtl) (p fl previous source : ℕ) (m : Maps) (T T′ : List ℕ) → entered e (ovl v p fl previous source 2) T ≡ T′ → fit m T ≡ true → fit m T′ ≡ true → (gs : List BackendAnswer)
         → Same 0 (wholeOverlay tr (eqb source 0) v (flagsOf fl) p m gs) (onceDone gs T T′) (follow (left m T (changes.protect tr g (ovl v p fl previous source 0) p (run p 1))) gs)
     unfolding wholeOverlay wholeEntry
     overlay-law v p fl previous source m T T′ z k k′ gs =
         let f : HvMapGpaFlags = flagsOf fl in
         let m′ : Maps = protectingPage tr (eqb source 0) v f p m in
         let q′ : Change = ovl v p fl previous source 1 in
-        let next : List Given → Whole = λ gs. inTurn (protecting tr) (closing v v) m′ gs ended in
-        subst (λ (o : Outcome). Same 0 (one (Protect v f (run p 1)) m′ gs next (λ code k gs. stands m′ (FailedAt denied 0))) (onceDone gs T T′) (follow o gs))
+        let next : List BackendAnswer → Whole = λ gs. inTurn (protecting tr) (closing v v) m′ gs ended in
+        subst (λ (o : Outcome). Same 0 (one (Protect v f (run p 1)) m′ gs next (λ code k gs. stands m′ (FailedAt operationDenied 0))) (onceDone gs T T′) (follow o gs))
         (sym (protect-left g (ovl v p fl previous source 0) p (run p 1) m T))
-        (at.asks tail t long 0 g q′ (Protect v f (run p 1)) m′ T next (λ code k gs. stands m′ (FailedAt denied 0)) (λ gs. onceDone gs T T′) a0 a1 (omega arith) (fit-protected v f (run p 1) (eqb source 0) m T k) refl
+        (at.asks tail t long 0 g q′ (Protect v f (run p 1)) m′ T next (λ code k gs. stands m′ (FailedAt operationDenied 0)) (λ gs. onceDone gs T T′) a0 a1 (omega arith) (fit-protected v f (run p 1) (eqb source 0) m T k) refl
         (λ gs. subst (λ (y : ChangeStep). Same 1 (next gs) T′ (follow (left m′ T y) gs)) (sym (goes q′ (at.next tail t g q′ m′ T)))
         (waits 1 q′ e m′ T T′ (omega arith) refl z (fit-protected v f (run p 1) (eqb source 0) m T′ k′) gs))
-        (λ code k′ gs _. subst (λ (y : ChangeStep). Same 1 (stands m′ (FailedAt denied 0)) T (follow (left m′ T y) gs)) (sym (fails q′))
-        (failed-over 1 1 denied 0 m′ T (fit-protected v f (run p 1) (eqb source 0) m T k) refl gs))
+        (λ code k′ gs _. subst (λ (y : ChangeStep). Same 1 (stands m′ (FailedAt operationDenied 0)) T (follow (left m′ T y) gs)) (sym (fails q′))
+        (failed-over 1 1 operationDenied 0 m′ T (fit-protected v f (run p 1) (eqb source 0) m T k) refl gs))
         (λ code k gs z. false≢true (sym z)) gs)
 
   -- without new flags
-  pub entry-law : (v : GuestVtl) (p fl previous source : ℕ) (e : Entry) (m : Maps) (T T′ : List ℕ) → entered e (ovl v p fl previous source 1) T ≡ T′ → fit m T′ ≡ true → (gs : List Given)
+  pub entry-law : (v : GuestVtl) (p fl previous source : ℕ) (e : Entry) (m : Maps) (T T′ : List ℕ) → entered e (ovl v p fl previous source 1) T ≡ T′ → fit m T′ ≡ true → (gs : List BackendAnswer)
       → Same 0 (wholeEntry tr v m gs) T′ (follow (left m T (changes.wait (ovl v p fl previous source 0) e)) gs)
   unfolding wholeEntry
   entry-law v p fl previous source e m T T′ z k gs = waits 0 (ovl v p fl previous source 0) e m T T′ (omega arith) refl z k gs

@@ -6,6 +6,7 @@ use mathlib.Core.List.{List, [], _∷_}
 use Prim.Native.Nat.{ℕ, zero, suc, _+_, _%_, _^_, _≤_, _<_}
 use lib.Dec.{eqb}
 use lib.ListN.{length}
+use Rattle.abi.specs.Codes.{operationDenied}
 use Rattle.layout.specs.declared.MemoryRangeWithNode.{MemoryRangeWithNode}
 use Rattle.permissions.specs.declared.GuestVtl.{GuestVtl}
 use Rattle.permissions.specs.declared.IsolationType.{IsolationType}
@@ -16,16 +17,16 @@ use Rattle.page_list.specs.Runs.{run}
 use Rattle.page_list.specs.Runs as runs
 use Rattle.default_change.specs.Pieces.{nextOf}
 use Rattle.default_change.specs.Visit.{piecesFrom}
-use Rattle.visibility_claims.specs.Whole.{Operation, Protect, Given, FailedAt, Whole, stands, inTurn, perRun, protecting}
+use Rattle.visibility_claims.specs.Whole.{Operation, Protect, BackendAnswer, FailedAt, Whole, stands, inTurn, perRun, protecting}
 use Rattle.visibility_claims.specs.Runs.{told, after, whole}
 use Rattle.visibility_claims.specs.Calls.{Told}
 use Rattle.visibility_claims.proofs.Counts as counts
-use Rattle.change_claims.specs.Whole.{closing, ended, runOperations, wholeRuns, wholeEntry, protectingPage, denied, wholeOverlay}
+use Rattle.change_claims.specs.Whole.{closing, ended, runOperations, wholeRuns, wholeEntry, protectingPage, wholeOverlay}
 use Rattle.change_claims.specs.Calls.{Agrees}
 
 -- ---- no more operations than a list has
 
-few : (before : Operation → Maps → Maps) (os : List Operation) (m : Maps) (gs : List Given) → length (inTurn before os m gs ended .asked) ≤ length os
+few : (before : Operation → Maps → Maps) (os : List Operation) (m : Maps) (gs : List BackendAnswer) → length (inTurn before os m gs ended .asked) ≤ length os
 few before os m gs = omega (arith, counts.few before os m gs ended 0 (λ m gs. omega arith))
 
 -- ---- a Protect for each run, and three more
@@ -45,22 +46,22 @@ few-pieces P es (suc n) a = go (eqb (nextOf P es a .count) 0) (few-pieces P es n
     go true h = omega arith
     go false h = omega arith
 
-pub few-asked : (tracked : Bool) (v : GuestVtl) (f : HvMapGpaFlags) (rs : List PageRun) (m : Maps) (gs : List Given) → length (wholeRuns tracked v f rs m gs .asked) ≤ length rs + 3
+pub few-asked : (tracked : Bool) (v : GuestVtl) (f : HvMapGpaFlags) (rs : List PageRun) (m : Maps) (gs : List BackendAnswer) → length (wholeRuns tracked v f rs m gs .asked) ≤ length rs + 3
 unfolding wholeRuns
 few-asked tracked v f rs m gs = omega (arith, run-operations v f rs, few (protecting tracked) (runOperations v f rs) m gs)
 
-pub few-entry : (tracked : Bool) (v : GuestVtl) (m : Maps) (gs : List Given) → length (wholeEntry tracked v m gs .asked) ≤ 3
+pub few-entry : (tracked : Bool) (v : GuestVtl) (m : Maps) (gs : List BackendAnswer) → length (wholeEntry tracked v m gs .asked) ≤ 3
 unfolding wholeEntry
 few-entry tracked v m gs = few (protecting tracked) (closing v v) m gs
 
-pub few-overlay : (tracked guest : Bool) (v : GuestVtl) (f : HvMapGpaFlags) (p : ℕ) (m : Maps) (gs : List Given) → length (wholeOverlay tracked guest v f p m gs .asked) ≤ 4
+pub few-overlay : (tracked guest : Bool) (v : GuestVtl) (f : HvMapGpaFlags) (p : ℕ) (m : Maps) (gs : List BackendAnswer) → length (wholeOverlay tracked guest v f p m gs .asked) ≤ 4
 unfolding wholeOverlay
 few-overlay tracked guest v f p m gs =
     let m′ : Maps = protectingPage tracked guest v f p m in
-    counts.few-one (Protect v f (run p 1)) m′ gs (λ gs. wholeEntry tracked v m′ gs) (λ code k gs. stands m′ (FailedAt denied 0)) 3 (λ gs. few-entry tracked v m′ gs) (λ code k gs. omega arith)
+    counts.few-one (Protect v f (run p 1)) m′ gs (λ gs. wholeEntry tracked v m′ gs) (λ code k gs. stands m′ (FailedAt operationDenied 0)) 3 (λ gs. few-entry tracked v m′ gs) (λ code k gs. omega arith)
 
 -- a count of 64 bits is the number itself
 pub as-whole : (rest t : List ℕ) (i : IsolationType) (w : Whole) (T : List ℕ) (x : Told) → length (w .asked) < 2 ^ 64 → Agrees rest t i (after 0 w) T x → Agrees rest t i (whole w) T x
 as-whole rest t i w T x h k =
     let d : (0 + length (w .asked)) % 2 ^ 64 ≡ length (w .asked) = omega arith in
-    subst (λ (n : ℕ). Agrees rest t i (record { asked = w .asked; maps = w .maps; last = told n (w .stand) }) T x) d k
+    subst (λ (n : ℕ). Agrees rest t i (record { asked = w .asked; maps = w .maps; last = told n (w .status) }) T x) d k

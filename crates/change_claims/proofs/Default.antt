@@ -26,7 +26,7 @@ use Rattle.protector_state.specs.State.{stateLen, settingsOf, entriesIn}
 use Rattle.call_refusals.specs.World.{World, tablesLen, overlaysOf, fits}
 use Rattle.protection_entries.specs.Calls.{defaultRefusal, stored, barred, renewedIn, defaultStarted, defaultTaken, defaultOf}
 use Rattle.protection_entries.proofs.Tables.{renewed-own}
-use Rattle.visibility_claims.specs.Whole.{Given}
+use Rattle.visibility_claims.specs.Whole.{BackendAnswer}
 use Rattle.visibility_claims.specs.Runs.{after, whole}
 use Rattle.visibility_claims.specs.Calls.{follow}
 use Rattle.visibility_claims.specs.Ends.{pageEnd}
@@ -80,7 +80,7 @@ renewed-overlays w v flags long p =
 
 -- ---- a change that starts
 
-module _ (w : World) (v : GuestVtl) (flags : ℕ) (long : length (w .state) ≡ 128) (fit : fits w ≡ true) (o : ordered 0 (entriesIn (w .state)) ≡ true) (gs : List Given) where
+module _ (w : World) (v : GuestVtl) (flags : ℕ) (long : length (w .state) ≡ 128) (fit : fits w ≡ true) (o : ordered 0 (entriesIn (w .state)) ≡ true) (gs : List BackendAnswer) where
   abbrev tail : List ℕ
   tail = drop 14 (w .state)
 
@@ -118,7 +118,7 @@ module _ (w : World) (v : GuestVtl) (flags : ℕ) (long : length (w .state) ≡ 
   few-runs : length (ramRuns es (overlayIn (w .tables) v) (w .maps)) ≤ pageEnd es
   few-runs = subst (λ (rs : List PageRun). length rs ≤ pageEnd es) pieces-whole (few-pieces (wanted (w .maps .private) (overlaysOf T v)) es (pageEnd es) 0)
 
-module _ (w : World) (vtl flags : ℕ) (gs : List Given) where
+module _ (w : World) (vtl flags : ℕ) (gs : List BackendAnswer) where
   -- the default is stored first
   abbrev w₁ : World
   w₁ = stored w (vtlOf vtl) flags

@@ -29,7 +29,8 @@ use Rattle.change_claims.specs.Table.{two, Limits}
 use Rattle.change_claims.specs.Claims.{TakesProtection, TakesDefault, TakesRegister, TakesUnregister, TakesVisibility, FitLayout}
 
 pub full : Limits
-unfolding word writtenFrom entriesOf ramByte placeFrom listsFrom held firstPhases phaseOf flatOf askedOf ask wait startNew entered carriedChange ready callRefusal within knownRefusal guestRefusal dmaRefusal pageRefusal registerRefusal currentOf registerTaken registerOf
+unfolding word writtenFrom entriesOf ramByte placeFrom listsFrom held firstPhases phaseOf flatOf askedOf ask wait startNew entered carriedChange ready
+    callRefusal within knownRefusal guestRefusal dmaRefusal pageRefusal registerRefusal currentOf registerTaken registerOf
 full =
     record {
       count-65535 = refl;
@@ -47,7 +48,11 @@ pub record Worked : Type 0 where
   pub unregistered : follow (unregisterOf two 0 5) (dones 4) .last .reply ≡ finished 0 0 0 4
 
 pub worked : Worked
-unfolding word writtenFrom entriesOf ramByte numberOf numberAt numbersFrom neighbours runAt pick pickPlaces tableOf runEnd placeFrom listsFrom held span nextOf anyOf anyIn renewedFrom protect ask wait finish halt protectPages protectRam doneOf failedOf startNew startOld firstPhases phaseOf flatOf askedOf stageOf entered carriedChange firstRefusal answerRefusal afterDone afterFailed answerDone answerFailed ready protectionRefusal protectionTaken protectionOf defaultRefusal defaultStarted defaultTaken defaultOf callRefusal within knownRefusal guestRefusal dmaRefusal pageRefusal registerRefusal currentOf registerTaken registerOf unregisterRefusal unregisterTaken unregisterOf follow closed closedTo
+unfolding word writtenFrom entriesOf ramByte numberOf numberAt numbersFrom neighbours runAt pick pickPlaces tableOf runEnd placeFrom listsFrom held span nextOf
+    anyOf anyIn renewedFrom protect ask wait finish halt protectPages protectRam doneOf failedOf startNew startOld firstPhases phaseOf flatOf askedOf stageOf
+    entered carriedChange firstRefusal answerRefusal afterDone afterFailed answerDone answerFailed ready protectionRefusal protectionTaken protectionOf
+    defaultRefusal defaultStarted defaultTaken defaultOf callRefusal within knownRefusal guestRefusal dmaRefusal pageRefusal registerRefusal currentOf
+    registerTaken registerOf unregisterRefusal unregisterTaken unregisterOf follow closed closedTo
 worked = record { default-two = refl; repeated = refl; registered = refl; unregistered = refl }
 
 -- what the claims ask is met: calls that are taken, in a layout that fits; with `default-ok` and `repeated-ok` of the table they end in Ok
@@ -60,5 +65,7 @@ pub record Taken : Type 0 where
   pub visibility : TakesVisibility fresh 0 1 (page 3 [])
 
 pub taken : Taken
-unfolding word writtenFrom entriesOf ordered aligned refusalOf ramByte numberOf numberAt numbersFrom among repeats placeFrom listsFrom held anyOf anyIn firstRefusal ready visibilityRefusal protectionRefusal defaultRefusal callRefusal within knownRefusal guestRefusal dmaRefusal pageRefusal registerRefusal currentOf unregisterRefusal phaseOf firstPhases
+unfolding word writtenFrom entriesOf ordered aligned refusalOf ramByte numberOf numberAt numbersFrom among repeats placeFrom listsFrom held anyOf anyIn
+    firstRefusal ready visibilityRefusal protectionRefusal defaultRefusal callRefusal within knownRefusal guestRefusal dmaRefusal pageRefusal registerRefusal
+    currentOf unregisterRefusal phaseOf firstPhases
 taken = record { layout = refl; default = (refl, refl); protection = refl; register = refl; unregister = refl; visibility = refl }

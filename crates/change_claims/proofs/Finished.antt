@@ -5,6 +5,7 @@ use mathlib.Core.List.{List, [], _∷_, append-nil}
 use Prim.Native.Nat.{ℕ, _+_, _-_}
 use lib.Dec.{eqb, ltb}
 use lib.ListN.{length}
+use Rattle.abi.specs.Codes.{operationDenied}
 use Rattle.bitmap.specs.Pages as bits
 use Rattle.permissions.specs.declared.GuestVtl.{GuestVtl}
 use Rattle.permissions.specs.declared.IsolationType.{IsolationType}
@@ -19,10 +20,10 @@ use Rattle.protector_state.specs.State.{entriesIn}
 use Rattle.protector_state.specs.Reply.{finished, flatOf}
 use Rattle.call_refusals.specs.World.{World}
 use Rattle.overlay_entries.specs.Calls.{entryIn}
-use Rattle.visibility_claims.specs.Whole.{Protect, Given, Fails, Stand, Ok, FailedAt, Whole, stands, one, protecting}
+use Rattle.visibility_claims.specs.Whole.{Protect, BackendAnswer, Fails, Status, Ok, FailedAt, Whole, stands, one, protecting}
 use Rattle.visibility_claims.specs.Runs.{told, whole}
 use Rattle.visibility_claims.specs.Calls.{Told, Says}
-use Rattle.change_claims.specs.Whole.{Change, change, closing, ended, runOperations, ramRuns, wholeRuns, wholeEntry, protectingPage, denied, wholeOverlay}
+use Rattle.change_claims.specs.Whole.{Change, change, closing, ended, runOperations, ramRuns, wholeRuns, wholeEntry, protectingPage, wholeOverlay}
 use Rattle.change_claims.specs.Calls.{trackedIn, overlayIn, protectionWhole, defaultWhole, countWhole, newWhole, registerWhole, oldWhole, unregisterWhole, Agrees}
 use Rattle.change_claims.specs.Pages.{within, Leaves}
 use Rattle.change_claims.specs.Claims.{protectionCall, storedIn, defaultCall, TakesRegister, registerCall, TakesUnregister, unregisterCall, AgreesIn, Counts, OverlayFails, Failures}
@@ -34,39 +35,39 @@ use Rattle.change_claims.proofs.Left.{page-leaves}
 
 -- ---- the operations of a whole call that is Ok: all of them
 
-pub runs-asked : (tracked : Bool) (v : GuestVtl) (f : HvMapGpaFlags) (rs : List PageRun) (m : Maps) (gs : List Given)
-    → wholeRuns tracked v f rs m gs .stand ≡ Ok → wholeRuns tracked v f rs m gs .asked ≡ runOperations v f rs
+pub runs-asked : (tracked : Bool) (v : GuestVtl) (f : HvMapGpaFlags) (rs : List PageRun) (m : Maps) (gs : List BackendAnswer)
+    → wholeRuns tracked v f rs m gs .status ≡ Ok → wholeRuns tracked v f rs m gs .asked ≡ runOperations v f rs
 unfolding wholeRuns
 runs-asked tracked v f rs m gs e = through isOk refl refl (protecting tracked) (runOperations v f rs) m gs ended (ap isOk e) .asked ∙ append-nil (runOperations v f rs)
 
-entry-asked : (tracked : Bool) (v : GuestVtl) (m : Maps) (gs : List Given) → wholeEntry tracked v m gs .stand ≡ Ok → wholeEntry tracked v m gs .asked ≡ closing v v
+entry-asked : (tracked : Bool) (v : GuestVtl) (m : Maps) (gs : List BackendAnswer) → wholeEntry tracked v m gs .status ≡ Ok → wholeEntry tracked v m gs .asked ≡ closing v v
 unfolding wholeEntry
 entry-asked tracked v m gs e = through isOk refl refl (protecting tracked) (closing v v) m gs ended (ap isOk e) .asked
 
-overlay-asked : (tracked guest : Bool) (v : GuestVtl) (f : HvMapGpaFlags) (p : ℕ) (m : Maps) (gs : List Given)
-    → wholeOverlay tracked guest v f p m gs .stand ≡ Ok → wholeOverlay tracked guest v f p m gs .asked ≡ Protect v f (run p 1) ∷ closing v v
+overlay-asked : (tracked guest : Bool) (v : GuestVtl) (f : HvMapGpaFlags) (p : ℕ) (m : Maps) (gs : List BackendAnswer)
+    → wholeOverlay tracked guest v f p m gs .status ≡ Ok → wholeOverlay tracked guest v f p m gs .asked ≡ Protect v f (run p 1) ∷ closing v v
 unfolding wholeOverlay wholeEntry
 overlay-asked tracked guest v f p m gs e =
     let m′ : Maps = protectingPage tracked guest v f p m in
-    through-one isOk refl (Protect v f (run p 1)) (closing v v) m′ (begun (protecting tracked) (closing v v) m′) ended (λ gs. wholeEntry tracked v m′ gs) (λ code k gs. stands m′ (FailedAt denied 0))
+    through-one isOk refl (Protect v f (run p 1)) (closing v v) m′ (begun (protecting tracked) (closing v v) m′) ended (λ gs. wholeEntry tracked v m′ gs) (λ code k gs. stands m′ (FailedAt operationDenied 0))
     (λ gs e. through isOk refl refl (protecting tracked) (closing v v) m′ gs ended e) (λ code k gs. refl) gs (ap isOk e) .asked
 
 -- a failed Protect ends an overlay call: one operation, the maps written, the tables as they were
-overlay-failed : (tracked guest : Bool) (v : GuestVtl) (f : HvMapGpaFlags) (p : ℕ) (m : Maps) (code k : ℕ) (gs : List Given)
-    → wholeOverlay tracked guest v f p m (Fails code k ∷ gs) ≡ record { asked = Protect v f (run p 1) ∷ []; maps = protectingPage tracked guest v f p m; stand = FailedAt denied 0 }
+overlay-failed : (tracked guest : Bool) (v : GuestVtl) (f : HvMapGpaFlags) (p : ℕ) (m : Maps) (code k : ℕ) (gs : List BackendAnswer)
+    → wholeOverlay tracked guest v f p m (Fails code k ∷ gs) ≡ record { asked = Protect v f (run p 1) ∷ []; maps = protectingPage tracked guest v f p m; status = FailedAt operationDenied 0 }
 unfolding wholeOverlay one
 overlay-failed tracked guest v f p m code k gs = refl
 
 -- ---- what the calls report
 
-told-at : (rest t : List ℕ) (i : IsolationType) (w : Whole) (T : List ℕ) (x : Told) (s : Stand) (n : ℕ) → Agrees rest t i (whole w) T x → w .stand ≡ s → length (w .asked) ≡ n → Says i (told n s) (x .last .reply)
-told-at rest t i w T x s n k e d = subst (λ (s : Stand). Says i (told n s) (x .last .reply)) e (subst (λ (n : ℕ). Says i (told n (w .stand)) (x .last .reply)) d (k .same-reply))
+told-at : (rest t : List ℕ) (i : IsolationType) (w : Whole) (T : List ℕ) (x : Told) (s : Status) (n : ℕ) → Agrees rest t i (whole w) T x → w .status ≡ s → length (w .asked) ≡ n → Says i (told n s) (x .last .reply)
+told-at rest t i w T x s n k e d = subst (λ (s : Status). Says i (told n s) (x .last .reply)) e (subst (λ (n : ℕ). Says i (told n (w .status)) (x .last .reply)) d (k .same-reply))
 
-told-ok : (rest t : List ℕ) (i : IsolationType) (w : Whole) (T : List ℕ) (x : Told) (n : ℕ) → Agrees rest t i (whole w) T x → w .stand ≡ Ok → length (w .asked) ≡ n → x .last .reply ≡ finished 0 0 0 n
+told-ok : (rest t : List ℕ) (i : IsolationType) (w : Whole) (T : List ℕ) (x : Told) (n : ℕ) → Agrees rest t i (whole w) T x → w .status ≡ Ok → length (w .asked) ≡ n → x .last .reply ≡ finished 0 0 0 n
 unfolding flatOf
 told-ok rest t i w T x n k e d = told-at rest t i w T x Ok n k e d
 
-module _ (w : World) (vtl p source checked new : ℕ) (gs : List Given) (z : TakesRegister w vtl p source checked new) where
+module _ (w : World) (vtl p source checked new : ℕ) (gs : List BackendAnswer) (z : TakesRegister w vtl p source checked new) where
   abbrev registered : Told
   registered = registerCall w vtl p source checked new gs
 
@@ -86,17 +87,17 @@ module _ (w : World) (vtl p source checked new : ℕ) (gs : List Given) (z : Tak
         ∙ ap (newWhole w (vtlOf vtl) p source new gs) e
 
     -- a new page: four with new flags, three without
-    register-flags : ltb new 16 ≡ true → newWhole w (vtlOf vtl) p source new gs true .whole .stand ≡ Ok → registered .last .reply ≡ finished 0 0 0 4
+    register-flags : ltb new 16 ≡ true → newWhole w (vtlOf vtl) p source new gs true .whole .status ≡ Ok → registered .last .reply ≡ finished 0 0 0 4
     register-flags f e =
         let c : Change = newWhole w (vtlOf vtl) p source new gs true in
         told-ok _ _ _ (c .whole) (c .tables) registered 4 (agrees-new c (is-new true f)) e (ap length (overlay-asked _ _ (vtlOf vtl) (flagsOf new) p (w .maps) gs e))
 
-    register-none : ltb new 16 ≡ false → newWhole w (vtlOf vtl) p source new gs false .whole .stand ≡ Ok → registered .last .reply ≡ finished 0 0 0 3
+    register-none : ltb new 16 ≡ false → newWhole w (vtlOf vtl) p source new gs false .whole .status ≡ Ok → registered .last .reply ≡ finished 0 0 0 3
     register-none f e =
         let c : Change = newWhole w (vtlOf vtl) p source new gs false in
         told-ok _ _ _ (c .whole) (c .tables) registered 3 (agrees-new c (is-new false f)) e (ap length (entry-asked _ (vtlOf vtl) (w .maps) gs e))
 
-module _ (w : World) (vtl p : ℕ) (gs : List Given) (z : TakesUnregister w vtl p) where
+module _ (w : World) (vtl p : ℕ) (gs : List BackendAnswer) (z : TakesUnregister w vtl p) where
   abbrev unregistered : Told
   unregistered = unregisterCall w vtl p gs
 
@@ -113,23 +114,23 @@ module _ (w : World) (vtl p : ℕ) (gs : List Given) (z : TakesUnregister w vtl 
   unregister-lowered : ltb 1 (entryIn (w .tables) (vtlOf vtl) p .«ref_count») ≡ true → unregistered .last .reply ≡ finished 0 0 0 0
   unregister-lowered k = told-ok _ _ _ (lowered .whole) (lowered .tables) unregistered 0 (agrees-old lowered (ap (λ (b : Bool). cond b lowered going) k)) refl refl
 
-  unregister-count : ltb 1 (entryIn (w .tables) (vtlOf vtl) p .«ref_count») ≡ false → going .whole .stand ≡ Ok → unregistered .last .reply ≡ finished 0 0 0 4
+  unregister-count : ltb 1 (entryIn (w .tables) (vtlOf vtl) p .«ref_count») ≡ false → going .whole .status ≡ Ok → unregistered .last .reply ≡ finished 0 0 0 4
   unregister-count k e =
       told-ok _ _ _ (going .whole) (going .tables) unregistered 4 (agrees-old going (ap (λ (b : Bool). cond b lowered going) k)) e
       (ap length (overlay-asked _ _ (vtlOf vtl) (flagsOf (entryIn (w .tables) (vtlOf vtl) p .«previous_permissions»)) p (w .maps) gs e))
 
 -- ---- a failed Protect of either: 16, one operation, the maps written and the tables as they were
 
-told-failed : (rest t : List ℕ) (i : IsolationType) (w : Whole) (T : List ℕ) (x : Told) → Agrees rest t i (whole w) T x → w .stand ≡ FailedAt denied 0 → length (w .asked) ≡ 1 → x .last .reply ≡ finished 16 8 0 1
+told-failed : (rest t : List ℕ) (i : IsolationType) (w : Whole) (T : List ℕ) (x : Told) → Agrees rest t i (whole w) T x → w .status ≡ FailedAt operationDenied 0 → length (w .asked) ≡ 1 → x .last .reply ≡ finished 16 8 0 1
 unfolding flatOf
-told-failed rest t i w T x k e d = told-at rest t i w T x (FailedAt denied 0) 1 k e d
+told-failed rest t i w T x k e d = told-at rest t i w T x (FailedAt operationDenied 0) 1 k e d
 
-fails-so : (w : World) (v : GuestVtl) (f : HvMapGpaFlags) (p source code k : ℕ) (gs : List Given) (x : Told)
+fails-so : (w : World) (v : GuestVtl) (f : HvMapGpaFlags) (p source code k : ℕ) (gs : List BackendAnswer) (x : Told)
     → AgreesIn w (w .pages) (change (wholeOverlay (trackedIn w) (eqb source 0) v f p (w .maps) (Fails code k ∷ gs)) (w .tables)) x → OverlayFails w v f p source x
 fails-so w v f p source code k gs x a =
     let d = overlay-failed (trackedIn w) (eqb source 0) v f p (w .maps) code k gs in
     record {
-      reply = told-failed _ _ _ (wholeOverlay (trackedIn w) (eqb source 0) v f p (w .maps) (Fails code k ∷ gs)) (w .tables) x a (ap (λ (w : Whole). w .stand) d) (ap (λ (w : Whole). length (w .asked)) d);
+      reply = told-failed _ _ _ (wholeOverlay (trackedIn w) (eqb source 0) v f p (w .maps) (Fails code k ∷ gs)) (w .tables) x a (ap (λ (w : Whole). w .status) d) (ap (λ (w : Whole). length (w .asked)) d);
       tables = a .same-tables;
       maps = subst (Leaves (trackedIn w && eqb source 0) v (within (bits.one p)) f (w .maps)) (sym (a .same-maps ∙ ap (λ (w : Whole). w .maps) d)) (page-leaves (trackedIn w) (eqb source 0) v f p (w .maps));
     }

@@ -19,7 +19,7 @@ use Rattle.page_list.specs.Pages.{among}
 use Rattle.page_list.specs.Runs.{run, runsOf}
 use Rattle.default_change.specs.Visit.{upTo, pagesIn}
 use Rattle.visibility_steps.specs.declared.Settings.{Settings}
-use Rattle.visibility_claims.specs.Whole.{Operation, Wait, Given, Succeeds, Fails, Stand, Denied, Waits, Ok, StoppedAt, FailedAt, Halts, Whole, stands, asking, fails, one, inTurn, perRun, flushes, accepts, defaults, shareOperations, withPrivate, withShared, forbidden, protecting, writingNone, clearedBy, wholeShare, returned, modified, wholeReturn}
+use Rattle.visibility_claims.specs.Whole.{Operation, Wait, BackendAnswer, Succeeds, Fails, Status, Denied, Waits, Ok, StoppedAt, FailedAt, Halts, Whole, stands, asking, fails, one, inTurn, perRun, flushes, accepts, defaults, shareOperations, withPrivate, withShared, forbidden, protecting, writingNone, clearedBy, wholeShare, returned, modified, wholeReturn}
 use Rattle.change_claims.specs.Whole.{ended, runOperations, wholeRuns, wholePages, wholeRam, protectingPage}
 use Rattle.change_claims.specs.Pages.{within, Permits, PermitsFor, Leaves}
 use Rattle.change_claims.specs.Claims.{DoneBefore, PermissionMaps}
@@ -39,7 +39,7 @@ left-by tracked v f rs m m′ e =
 
 -- ---- protection and default changes
 
-runs-leave : (tracked : Bool) (v : GuestVtl) (f : HvMapGpaFlags) (rs : List PageRun) (m : Maps) (gs : List Given) → wholeRuns tracked v f rs m gs .stand ≡ Ok
+runs-leave : (tracked : Bool) (v : GuestVtl) (f : HvMapGpaFlags) (rs : List PageRun) (m : Maps) (gs : List BackendAnswer) → wholeRuns tracked v f rs m gs .status ≡ Ok
     → Leaves tracked v (within (among (pagesIn rs))) f m (wholeRuns tracked v f rs m gs .maps)
 unfolding wholeRuns
 runs-leave tracked v f rs m gs e =
@@ -67,7 +67,7 @@ page-leaves tracked guest v f p m =
 
 module _ (x : Permissions) where
   -- operations that write none, and what follows keeps the permissions too
-  still-one : (o : Operation) (m : Maps) (gs : List Given) (next : List Given → Whole) → m .permissions ≡ x → ((gs : List Given) → next gs .maps .permissions ≡ x)
+  still-one : (o : Operation) (m : Maps) (gs : List BackendAnswer) (next : List BackendAnswer → Whole) → m .permissions ≡ x → ((gs : List BackendAnswer) → next gs .maps .permissions ≡ x)
       → one o m gs next (λ code k gs. stands m Halts) .maps .permissions ≡ x
   unfolding one
   still-one o m [] next e a = e
@@ -79,8 +79,8 @@ module _ (x : Permissions) where
       go true h = e
       go false h = h
 
-  still : (os : List Operation) (m : Maps) (gs : List Given) (next : Maps → List Given → Whole) → m .permissions ≡ x
-      → ((m : Maps) (gs : List Given) → m .permissions ≡ x → next m gs .maps .permissions ≡ x) → inTurn writingNone os m gs next .maps .permissions ≡ x
+  still : (os : List Operation) (m : Maps) (gs : List BackendAnswer) (next : Maps → List BackendAnswer → Whole) → m .permissions ≡ x
+      → ((m : Maps) (gs : List BackendAnswer) → m .permissions ≡ x → next m gs .maps .permissions ≡ x) → inTurn writingNone os m gs next .maps .permissions ≡ x
   unfolding inTurn
   still [] m gs next e a = a m gs e
   still (o ∷ os) m gs next e a = still-one o m gs (λ gs. inTurn writingNone os m gs next) e (λ gs. still os m gs next e a)
@@ -94,7 +94,7 @@ forbids ps m =
       user = λ p. page-law 8 (among ps) false (m .user) p (lit< tt);
     }
 
-share-leaves : (s : Settings) (v : GuestVtl) (ps : List ℕ) (end : Stand) (m : Maps) (gs : List Given)
+share-leaves : (s : Settings) (v : GuestVtl) (ps : List ℕ) (end : Status) (m : Maps) (gs : List BackendAnswer)
     → PermitsFor (s .tracked) v (within (among ps)) noFlags (m .permissions) (wholeShare s v ps end m gs .maps .permissions)
 unfolding wholeShare
 share-leaves s v ps end m gs =
@@ -119,33 +119,33 @@ abbrev Permitted : Settings → List ℕ → Permissions → Permissions → Typ
 Permitted s ps old new = PermitsFor (s .tracked) Vtl0 (within (among ps)) (s .defaults .vtl0) old new
 
 -- once Modify took ps: what it leaves, and how it stands
-record Returned (s : Settings) (ps : List ℕ) (m : Maps) (end : Stand) (w : Whole) : Type 0 where
+record Returned (s : Settings) (ps : List ℕ) (m : Maps) (end : Status) (w : Whole) : Type 0 where
   permits : Permitted s ps (m .permissions) (w .maps .permissions)
-  stand : w .stand ≡ end
+  status : w .status ≡ end
 
-module _ (E : Stand → Bool) (waits : E Waits ≡ false) (halts : E Halts ≡ false) where
-  returned-leaves : (s : Settings) (ps : List ℕ) (m : Maps) (gs : List Given) (end : Stand) → E (returned s ps m gs end .stand) ≡ true → Returned s ps m end (returned s ps m gs end)
+module _ (E : Status → Bool) (waits : E Waits ≡ false) (halts : E Halts ≡ false) where
+  returned-leaves : (s : Settings) (ps : List ℕ) (m : Maps) (gs : List BackendAnswer) (end : Status) → E (returned s ps m gs end .status) ≡ true → Returned s ps m end (returned s ps m gs end)
   unfolding returned
   returned-leaves s ps m gs end e =
       let rs : List PageRun = runsOf ps in
       let f : HvMapGpaFlags = s .defaults .vtl0 in
       let os : List Operation = perRun (defaults f (s .defaults .vtl1)) rs in
-      let next : Maps → List Given → Whole = λ m gs. inTurn (protecting (s .tracked)) os (withPrivate ps true m) gs (λ m gs. stands m end) in
+      let next : Maps → List BackendAnswer → Whole = λ m gs. inTurn (protecting (s .tracked)) os (withPrivate ps true m) gs (λ m gs. stands m end) in
       let a : Through (perRun (accepts (s .isolation)) rs) (begun writingNone (perRun (accepts (s .isolation)) rs) m) next (inTurn writingNone (perRun (accepts (s .isolation)) rs) m gs next)
       = through E waits halts writingNone (perRun (accepts (s .isolation)) rs) m gs next e in
       let m₁ : Maps = begun writingNone (perRun (accepts (s .isolation)) rs) m in
       let b : Through os (begun (protecting (s .tracked)) os (withPrivate ps true m₁)) (λ m gs. stands m end) (next m₁ (a .rest))
-      = through E waits halts (protecting (s .tracked)) os (withPrivate ps true m₁) (a .rest) (λ m gs. stands m end) (ap E (sym (a .stand)) ∙ e) in
+      = through E waits halts (protecting (s .tracked)) os (withPrivate ps true m₁) (a .rest) (λ m gs. stands m end) (ap E (sym (a .status)) ∙ e) in
       let all : inTurn writingNone (perRun (accepts (s .isolation)) rs) m gs next .maps ≡ protectedRuns (s .tracked) Vtl0 f rs (withPrivate ps true m)
       = a .maps ∙ b .maps ∙ return-begun (s .tracked) f (s .defaults .vtl1) rs (withPrivate ps true m₁) ∙ ap (λ (n : Maps). protectedRuns (s .tracked) Vtl0 f rs (withPrivate ps true n)) (none-begun (perRun (accepts (s .isolation)) rs) m) in
       record {
         permits = subst (λ (l : List ℕ). Permitted s l (m .permissions) (inTurn writingNone (perRun (accepts (s .isolation)) rs) m gs next .maps .permissions)) (run-pages ps)
             (left-by (s .tracked) Vtl0 f rs (withPrivate ps true m) _ all .permissions);
-        stand = a .stand ∙ b .stand;
+        status = a .status ∙ b .status;
       }
 
 -- Modify done, and failed
-modified-ok : (s : Settings) (ps places : List ℕ) (m : Maps) (gs : List Given) → isOk (modified s ps places m gs .stand) ≡ true → Permitted s ps (m .permissions) (modified s ps places m gs .maps .permissions)
+modified-ok : (s : Settings) (ps places : List ℕ) (m : Maps) (gs : List BackendAnswer) → isOk (modified s ps places m gs .status) ≡ true → Permitted s ps (m .permissions) (modified s ps places m gs .maps .permissions)
 unfolding modified one
 modified-ok s ps places m [] e = false≢true e
 modified-ok s ps places m (Succeeds ∷ gs) e = returned-leaves isOk refl refl s ps m gs Ok e .permits
@@ -154,11 +154,11 @@ modified-ok s ps places m (Fails code k ∷ gs) e = go (ltb k (length ps)) e
     failed : Whole
     failed = returned s (take k ps) (withShared (drop k ps) true m) gs (FailedAt code (getD places k 0))
 
-    go : (b : Bool) → isOk (cond b failed (stands m Halts) .stand) ≡ true → Permitted s ps (m .permissions) (cond b failed (stands m Halts) .maps .permissions)
-    go true e = false≢true (sym (ap isOk (returned-leaves isOk refl refl s (take k ps) (withShared (drop k ps) true m) gs (FailedAt code (getD places k 0)) e .stand)) ∙ e)
+    go : (b : Bool) → isOk (cond b failed (stands m Halts) .status) ≡ true → Permitted s ps (m .permissions) (cond b failed (stands m Halts) .maps .permissions)
+    go true e = false≢true (sym (ap isOk (returned-leaves isOk refl refl s (take k ps) (withShared (drop k ps) true m) gs (FailedAt code (getD places k 0)) e .status)) ∙ e)
     go false e = false≢true e
 
-abbrev placeIn : Stand → ℕ
+abbrev placeIn : Status → ℕ
 placeIn (Denied n) = 0
 placeIn Waits = 0
 placeIn Ok = 0
@@ -166,30 +166,30 @@ placeIn (StoppedAt i) = i
 placeIn (FailedAt code i) = i
 placeIn Halts = 0
 
-modified-16 : (s : Settings) (ps places : List ℕ) (m : Maps) (gs : List Given) (code i : ℕ) → modified s ps places m gs .stand ≡ FailedAt code i
+modified-16 : (s : Settings) (ps places : List ℕ) (m : Maps) (gs : List BackendAnswer) (code i : ℕ) → modified s ps places m gs .status ≡ FailedAt code i
     → DoneBefore ps places i (λ qs. Permitted s qs (m .permissions) (modified s ps places m gs .maps .permissions))
 unfolding modified one
 modified-16 s ps places m [] code i e = false≢true (ap isEnd e)
-modified-16 s ps places m (Succeeds ∷ gs) code i e = false≢true (sym (ap isOk e) ∙ ap isOk (returned-leaves isEnd refl refl s ps m gs Ok (ap isEnd e) .stand))
+modified-16 s ps places m (Succeeds ∷ gs) code i e = false≢true (sym (ap isOk e) ∙ ap isOk (returned-leaves isEnd refl refl s ps m gs Ok (ap isEnd e) .status))
 modified-16 s ps places m (Fails c k ∷ gs) code i e = go (ltb k (length ps)) refl e
   where
     failed : Whole
     failed = returned s (take k ps) (withShared (drop k ps) true m) gs (FailedAt c (getD places k 0))
 
-    go : (b : Bool) → ltb k (length ps) ≡ b → cond b failed (stands m Halts) .stand ≡ FailedAt code i
+    go : (b : Bool) → ltb k (length ps) ≡ b → cond b failed (stands m Halts) .status ≡ FailedAt code i
         → DoneBefore ps places i (λ qs. Permitted s qs (m .permissions) (cond b failed (stands m Halts) .maps .permissions))
     go true d e =
         let x = returned-leaves isEnd refl refl s (take k ps) (withShared (drop k ps) true m) gs (FailedAt c (getD places k 0)) (ap isEnd e) in
-        record { count = k; below = ltb-true k (length ps) d; place = ap placeIn (sym (x .stand) ∙ e); done = x .permits }
+        record { count = k; below = ltb-true k (length ps) d; place = ap placeIn (sym (x .status) ∙ e); done = x .permits }
     go false d e = false≢true (ap isEnd e)
 
 -- Wait and a flush come first
-modifies : (s : Settings) (ps places : List ℕ) (m : Maps) (gs : List Given) → isEnd (wholeReturn s ps places m gs .stand) ≡ true
+modifies : (s : Settings) (ps places : List ℕ) (m : Maps) (gs : List BackendAnswer) → isEnd (wholeReturn s ps places m gs .status) ≡ true
     → Through (Wait ∷ flushes (s .isolation)) (withShared ps false m) (λ m gs. modified s ps places m gs) (wholeReturn s ps places m gs)
 unfolding wholeReturn
 modifies s ps places m gs e =
     let os : List Operation = Wait ∷ flushes (s .isolation) in
-    let next : Maps → List Given → Whole = λ m gs. modified s ps places m gs in
+    let next : Maps → List BackendAnswer → Whole = λ m gs. modified s ps places m gs in
     subst (λ (n : Maps). Through os n next (inTurn writingNone os (withShared ps false m) gs next)) (none-begun os (withShared ps false m)) (through isEnd refl refl writingNone os (withShared ps false m) gs next e)
 
 -- THE CLAIMS
@@ -202,9 +202,9 @@ permission-maps =
           subst (λ (P : ℕ → Bool). Leaves tracked v (within P) f m (wholeRam tracked v f es overlay m gs .maps)) (fun-ext (ram-visits es overlay m)) (runs-leave tracked v f _ m gs e);
       return-ok = λ s ps places m gs e.
           let t = modifies s ps places m gs (ap isEnd e) in
-          subst (λ (x : Maps). Permitted s ps (m .permissions) (x .permissions)) (sym (t .maps)) (modified-ok s ps places (withShared ps false m) (t .rest) (ap isOk (sym (t .stand) ∙ e)));
+          subst (λ (x : Maps). Permitted s ps (m .permissions) (x .permissions)) (sym (t .maps)) (modified-ok s ps places (withShared ps false m) (t .rest) (ap isOk (sym (t .status) ∙ e)));
       return-16 = λ s ps places m gs code i e.
           let t = modifies s ps places m gs (ap isEnd e) in
-          subst (λ (x : Maps). DoneBefore ps places i (λ qs. Permitted s qs (m .permissions) (x .permissions))) (sym (t .maps)) (modified-16 s ps places (withShared ps false m) (t .rest) code i (sym (t .stand) ∙ e));
+          subst (λ (x : Maps). DoneBefore ps places i (λ qs. Permitted s qs (m .permissions) (x .permissions))) (sym (t .maps)) (modified-16 s ps places (withShared ps false m) (t .rest) code i (sym (t .status) ∙ e));
       share = share-leaves;
     }

@@ -27,7 +27,7 @@ use Rattle.call_refusals.proofs.Laws.{is-ready, maps-fit}
 use Rattle.call_refusals.specs.Refusals.{pageRefusal, firstRefusal, visibilityRefusal}
 use Rattle.protector.specs.Calls.{stopOf}
 use Rattle.protection_entries.specs.Calls.{protectionRefusal, eachRefusal}
-use Rattle.visibility_claims.specs.Whole.{Given, Denied, Whole, stands}
+use Rattle.visibility_claims.specs.Whole.{BackendAnswer, Denied, Whole, stands}
 use Rattle.visibility_claims.specs.Requested.{denial, requestedOf}
 use Rattle.visibility_claims.specs.Calls.{wholeOn, wholeOf}
 use Rattle.visibility_claims.proofs.Requested.{same-pages}
@@ -142,7 +142,7 @@ among-pick P (q ∷ ps) p h = go (P q) h (among-pick P ps p)
     go true h f = one-more p q (pick P ps) ps f h
     go false h f = or-right (eqb p q) (among ps p) (f h)
 
-module _ (w : World) (vtl visibility : ℕ) (l : List ℕ) (gs : List Given) (z : TakesVisibility w vtl visibility l) (h : FitLayout w) where
+module _ (w : World) (vtl visibility : ℕ) (l : List ℕ) (gs : List BackendAnswer) (z : TakesVisibility w vtl visibility l) (h : FitLayout w) where
   as-whole : (b : Bool) → boolOf visibility ≡ b → wholeOf w (vtlOf vtl) b l gs .maps .permissions ≡ visibilityCall w vtl visibility l gs .last .world .maps .permissions
   as-whole b e = sym (ap (λ (m : Maps). m .permissions) (visibility-is-whole w vtl visibility l gs (taken-input w vtl visibility l z) .same-maps) ∙ ap (λ (b : Bool). wholeOf w (vtlOf vtl) b l gs .maps .permissions) e)
 
@@ -189,11 +189,11 @@ permissions-left =
       return-ok = λ w vtl visibility l gs z h b e.
           let s : Settings = settingsOf (w .state) in
           let ps : List ℕ = requestedPages w (vtlOf vtl) false l in
-          part-left w vtl visibility l gs z h false b Vtl0 ps (s .defaults .vtl0) (λ p d. d) (permission-maps .return-ok s ps (requestedPlaces w (vtlOf vtl) false l) (w .maps) gs (sym (ap (λ (x : Whole). x .stand) (undenied w vtl visibility l gs z h false b)) ∙ e));
+          part-left w vtl visibility l gs z h false b Vtl0 ps (s .defaults .vtl0) (λ p d. d) (permission-maps .return-ok s ps (requestedPlaces w (vtlOf vtl) false l) (w .maps) gs (sym (ap (λ (x : Whole). x .status) (undenied w vtl visibility l gs z h false b)) ∙ e));
       return-16 = λ w vtl visibility l gs code i z h b e.
           let s : Settings = settingsOf (w .state) in
           let ps : List ℕ = requestedPages w (vtlOf vtl) false l in
-          let k = permission-maps .return-16 s ps (requestedPlaces w (vtlOf vtl) false l) (w .maps) gs code i (sym (ap (λ (x : Whole). x .stand) (undenied w vtl visibility l gs z h false b)) ∙ e) in
+          let k = permission-maps .return-16 s ps (requestedPlaces w (vtlOf vtl) false l) (w .maps) gs code i (sym (ap (λ (x : Whole). x .status) (undenied w vtl visibility l gs z h false b)) ∙ e) in
           record {
             count = k .count;
             below = k .below;

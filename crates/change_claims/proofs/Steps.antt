@@ -31,7 +31,7 @@ use Rattle.call_refusals.specs.World.{World, world, Outcome, overlaysOf, fits, 
 use Rattle.protector.specs.Writes.{permittedRun, entered}
 use Rattle.protector.specs.Calls.{withPermissions, carriedChange, pieceAfter, afterDone, afterFailed, answerDone, answerFailed}
 use Rattle.call_refusals.specs.Refusals.{answerRefusal}
-use Rattle.visibility_claims.specs.Whole.{Operation, Wait, FlushAll, Protect, Invalidate, Release, Modify, Accept, Zero, Flush, TlbWait, Given, Succeeds, Fails, Whole, fails, one}
+use Rattle.visibility_claims.specs.Whole.{Operation, Wait, FlushAll, Protect, Invalidate, Release, Modify, Accept, Zero, Flush, TlbWait, BackendAnswer, Succeeds, Fails, Whole, fails, one}
 use Rattle.visibility_claims.specs.Runs.{told, after}
 use Rattle.visibility_claims.proofs.Calls.{taken-21}
 use Rattle.visibility_claims.specs.Calls.{asksIn, Told, follow, crossing, replies, Says}
@@ -155,14 +155,14 @@ module _ (tail t : List ℕ) where
 
     -- one more of the whole call
     more : (c : ℕ) (o : Operation) (w : Whole) (T : List ℕ) (x : Told) → Same (c + 1) w T x
-        → Same c (record { asked = o ∷ w .asked; maps = w .maps; stand = w .stand }) T (record { asked = asksIn (askedOf (settings .isolation) (crossing o)) ++ x .asked; last = x .last })
+        → Same c (record { asked = o ∷ w .asked; maps = w .maps; status = w .status }) T (record { asked = asksIn (askedOf (settings .isolation) (crossing o)) ++ x .asked; last = x .last })
     unfolding replies
     more c o w T x k =
         let d : c + 1 + length (w .asked) ≡ c + suc (length (w .asked)) = omega arith in
         record {
           same-asked = ap₂ (λ (a b : List Reply). a ++ b) (asked-one (settings .isolation) o) (k .same-asked);
           same-maps = k .same-maps;
-          same-reply = subst (λ (n : ℕ). Says (settings .isolation) (told (n % 2 ^ 64) (w .stand)) (x .last .reply)) d (k .same-reply);
+          same-reply = subst (λ (n : ℕ). Says (settings .isolation) (told (n % 2 ^ 64) (w .status)) (x .last .reply)) d (k .same-reply);
           same-pages = k .same-pages;
           same-tables = k .same-tables;
           same-rest = k .same-rest;
@@ -172,7 +172,7 @@ module _ (tail t : List ℕ) where
     told-more o x = record { asked = asksIn (askedOf (settings .isolation) (crossing o)) ++ x .asked; last = x .last }
 
     abbrev whole-more : Operation → Whole → Whole
-    whole-more o w = record { asked = o ∷ w .asked; maps = w .maps; stand = w .stand }
+    whole-more o w = record { asked = o ∷ w .asked; maps = w .maps; status = w .status }
 
     chosen : (b c : Bool) (w w₀ : Whole) (n : ℕ) (T : List ℕ) (x x₀ : Told) → c ≡ b → (b ≡ true → Same n w T x) → (b ≡ false → Same n w₀ T x₀) → Same n (cond b w w₀) T (cond c x x₀)
     chosen true true w w₀ n T x x₀ e f g = f refl
@@ -181,12 +181,12 @@ module _ (tail t : List ℕ) where
     chosen false true w w₀ n T x x₀ e f g = false≢true (sym e)
 
     -- Tf: the tables under the answers that are given from here on
-    pub asks : (c : ℕ) (g : Stage) (q : Change) (o : Operation) (m : Maps) (T : List ℕ) (follows : List Given → Whole) (failed : ℕ → ℕ → List Given → Whole) (Tf : List Given → List ℕ)
+    pub asks : (c : ℕ) (g : Stage) (q : Change) (o : Operation) (m : Maps) (T : List ℕ) (follows : List BackendAnswer → Whole) (failed : ℕ → ℕ → List BackendAnswer → Whole) (Tf : List BackendAnswer → List ℕ)
         → takesAt g false ≡ true → takesAt g true ≡ fails o → q .n ≤ 512 → fit m T ≡ true → Tf [] ≡ T
-        → ((gs : List Given) → Same (c + 1) (follows gs) (Tf (Succeeds ∷ gs)) (follow (left m T (changes.doneOf (settings .tracked) g q t (next g q m T))) gs))
-        → ((code k : ℕ) (gs : List Given) → fails o ≡ true → Same (c + 1) (failed code k gs) (Tf (Fails code k ∷ gs)) (follow (left m T (changes.failedOf g q)) gs))
-        → ((code k : ℕ) (gs : List Given) → fails o ≡ false → Tf (Fails code k ∷ gs) ≡ Tf gs)
-        → (gs : List Given) → Same c (one o m gs follows failed) (Tf gs) (follow (record { world = held g q m T; reply = askedOf (settings .isolation) (crossing o) }) gs)
+        → ((gs : List BackendAnswer) → Same (c + 1) (follows gs) (Tf (Succeeds ∷ gs)) (follow (left m T (changes.doneOf (settings .tracked) g q t (next g q m T))) gs))
+        → ((code k : ℕ) (gs : List BackendAnswer) → fails o ≡ true → Same (c + 1) (failed code k gs) (Tf (Fails code k ∷ gs)) (follow (left m T (changes.failedOf g q)) gs))
+        → ((code k : ℕ) (gs : List BackendAnswer) → fails o ≡ false → Tf (Fails code k ∷ gs) ≡ Tf gs)
+        → (gs : List BackendAnswer) → Same c (one o m gs follows failed) (Tf gs) (follow (record { world = held g q m T; reply = askedOf (settings .isolation) (crossing o) }) gs)
     unfolding one follow replies
     asks c g q o m T follows failed Tf a b h f z done bad same [] =
         record {
@@ -215,14 +215,14 @@ module _ (tail t : List ℕ) where
 
     -- ---- the end: no answer is taken any more
 
-    pub over-idle : (q : Change) (m : Maps) (T : List ℕ) (r : Reply) → fit m T ≡ true → (gs : List Given)
+    pub over-idle : (q : Change) (m : Maps) (T : List ℕ) (r : Reply) → fit m T ≡ true → (gs : List BackendAnswer)
         → follow (record { world = held stage.Idle q m T; reply = r }) gs ≡ record { asked = asksIn r; last = record { world = held stage.Idle q m T; reply = r } }
     unfolding follow answerRefusal phaseOf firstPhases
     over-idle q m T r f [] = refl
     over-idle q m T r f (Succeeds ∷ gs) = rw (eq-eqb (length (changeWords stage.Idle q ++ tail)) 128 (omega arith), f) (over-idle q m T r f gs)
     over-idle q m T r f (Fails code k ∷ gs) = rw (eq-eqb (length (changeWords stage.Idle q ++ tail)) 128 (omega arith), f) (over-idle q m T r f gs)
 
-    pub over-halted : (q : Change) (m : Maps) (T : List ℕ) (r : Reply) (gs : List Given)
+    pub over-halted : (q : Change) (m : Maps) (T : List ℕ) (r : Reply) (gs : List BackendAnswer)
         → follow (record { world = held stage.Halted q m T; reply = r }) gs ≡ record { asked = asksIn r; last = record { world = held stage.Halted q m T; reply = r } }
     unfolding follow answerRefusal phaseOf firstPhases
     over-halted q m T r [] = refl

@@ -5,9 +5,9 @@ use mathlib.Core.List.{List, [], _∷_, _++_}
 use Prim.Native.Nat.{ℕ}
 use Rattle.laws.specs.Bools.{false≢true}
 use Rattle.mapping.specs.Maps.{Maps}
-use Rattle.visibility_claims.specs.Whole.{Operation, Given, Succeeds, Fails, Stand, Denied, Waits, Ok, StoppedAt, FailedAt, Halts, Whole, stands, asking, fails, one, inTurn}
+use Rattle.visibility_claims.specs.Whole.{Operation, BackendAnswer, Succeeds, Fails, Status, Denied, Waits, Ok, StoppedAt, FailedAt, Halts, Whole, stands, asking, fails, one, inTurn}
 
-abbrev pub isOk : Stand → Bool
+abbrev pub isOk : Status → Bool
 isOk (Denied n) = false
 isOk Waits = false
 isOk Ok = true
@@ -16,7 +16,7 @@ isOk (FailedAt code i) = false
 isOk Halts = false
 
 -- with Ok, 15 or 16
-abbrev pub isEnd : Stand → Bool
+abbrev pub isEnd : Status → Bool
 isEnd (Denied n) = false
 isEnd Waits = false
 isEnd Ok = true
@@ -30,33 +30,33 @@ begun before [] m = m
 begun before (o ∷ os) m = begun before os (before o m)
 
 -- w asked for the operations os and went on as `next` from the maps m, under the answers that were left
-pub record Through (os : List Operation) (m : Maps) (next : Maps → List Given → Whole) (w : Whole) : Type 0 where
-  pub rest : List Given
+pub record Through (os : List Operation) (m : Maps) (next : Maps → List BackendAnswer → Whole) (w : Whole) : Type 0 where
+  pub rest : List BackendAnswer
   pub asked : w .asked ≡ os ++ next m rest .asked
   pub maps : w .maps ≡ next m rest .maps
-  pub stand : w .stand ≡ next m rest .stand
+  pub status : w .status ≡ next m rest .status
 
 -- where it stands as E says, which neither a call that waits nor one that failed there does
-module _ (E : Stand → Bool) (waits : E Waits ≡ false) where
-  pub through-one : (o : Operation) (os : List Operation) (m m′ : Maps) (next : Maps → List Given → Whole) (more : List Given → Whole) (failed : ℕ → ℕ → List Given → Whole)
-      → ((gs : List Given) → E (more gs .stand) ≡ true → Through os m′ next (more gs)) → ((code k : ℕ) (gs : List Given) → E (failed code k gs .stand) ≡ false)
-      → (gs : List Given) → E (one o m gs more failed .stand) ≡ true → Through (o ∷ os) m′ next (one o m gs more failed)
+module _ (E : Status → Bool) (waits : E Waits ≡ false) where
+  pub through-one : (o : Operation) (os : List Operation) (m m′ : Maps) (next : Maps → List BackendAnswer → Whole) (more : List BackendAnswer → Whole) (failed : ℕ → ℕ → List BackendAnswer → Whole)
+      → ((gs : List BackendAnswer) → E (more gs .status) ≡ true → Through os m′ next (more gs)) → ((code k : ℕ) (gs : List BackendAnswer) → E (failed code k gs .status) ≡ false)
+      → (gs : List BackendAnswer) → E (one o m gs more failed .status) ≡ true → Through (o ∷ os) m′ next (one o m gs more failed)
   unfolding one
   through-one o os m m′ next more failed f g [] e = false≢true (sym waits ∙ e)
   through-one o os m m′ next more failed f g (Succeeds ∷ gs) e =
       let t = f gs e in
-      record { rest = t .rest; asked = ap (λ (l : List Operation). o ∷ l) (t .asked); maps = t .maps; stand = t .stand }
+      record { rest = t .rest; asked = ap (λ (l : List Operation). o ∷ l) (t .asked); maps = t .maps; status = t .status }
   through-one o os m m′ next more failed f g (Fails code k ∷ gs) e = go (fails o) (g code k gs) (through-one o os m m′ next more failed f g gs) e
     where
-      go : (y : Bool) → E (failed code k gs .stand) ≡ false → (E (one o m gs more failed .stand) ≡ true → Through (o ∷ os) m′ next (one o m gs more failed))
-          → E (cond y (asking o (failed code k gs)) (one o m gs more failed) .stand) ≡ true → Through (o ∷ os) m′ next (cond y (asking o (failed code k gs)) (one o m gs more failed))
+      go : (y : Bool) → E (failed code k gs .status) ≡ false → (E (one o m gs more failed .status) ≡ true → Through (o ∷ os) m′ next (one o m gs more failed))
+          → E (cond y (asking o (failed code k gs)) (one o m gs more failed) .status) ≡ true → Through (o ∷ os) m′ next (cond y (asking o (failed code k gs)) (one o m gs more failed))
       go true h r e = false≢true (sym h ∙ e)
       go false h r e = r e
 
-  pub through : E Halts ≡ false → (before : Operation → Maps → Maps) (os : List Operation) (m : Maps) (gs : List Given) (next : Maps → List Given → Whole)
-      → E (inTurn before os m gs next .stand) ≡ true → Through os (begun before os m) next (inTurn before os m gs next)
+  pub through : E Halts ≡ false → (before : Operation → Maps → Maps) (os : List Operation) (m : Maps) (gs : List BackendAnswer) (next : Maps → List BackendAnswer → Whole)
+      → E (inTurn before os m gs next .status) ≡ true → Through os (begun before os m) next (inTurn before os m gs next)
   unfolding inTurn begun
-  through halts before [] m gs next e = record { rest = gs; asked = refl; maps = refl; stand = refl }
+  through halts before [] m gs next e = record { rest = gs; asked = refl; maps = refl; status = refl }
   through halts before (o ∷ os) m gs next e =
       through-one o os (before o m) (begun before os (before o m)) next (λ gs. inTurn before os (before o m) gs next) (λ code k gs. stands (before o m) Halts)
       (λ gs e. through halts before os (before o m) gs next e) (λ code k gs. halts) gs e

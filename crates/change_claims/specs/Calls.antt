@@ -5,6 +5,8 @@ use mathlib.Core.List.{List}
 use Prim.Native.Nat.{ℕ, _+_, _-_}
 use lib.Dec.{eqb, ltb}
 use lib.ListN.{drop}
+use Rattle.abi.specs.Flags.{flagsEnd}
+use Rattle.abi.specs.Places as place
 use Rattle.permissions.specs.declared.GuestVtl.{GuestVtl}
 use Rattle.permissions.specs.declared.IsolationType.{IsolationType}
 use Rattle.permissions.specs.Flags.{flagsOf, bitsOf}
@@ -16,7 +18,7 @@ use Rattle.call_refusals.specs.World.{World, overlaysOf}
 use Rattle.protector.specs.Writes.{withOverlays, withoutPage}
 use Rattle.protection_entries.specs.Calls.{renewedTables}
 use Rattle.overlay_entries.specs.Calls.{entryIn, recounted, currentIn}
-use Rattle.visibility_claims.specs.Whole.{Given, Ok, stands}
+use Rattle.visibility_claims.specs.Whole.{BackendAnswer, Ok, stands}
 use Rattle.visibility_claims.specs.Runs.{Ran}
 use Rattle.visibility_claims.specs.Calls.{Told, replies, Says}
 use Rattle.change_claims.specs.Whole.{Change, change, wholePages, wholeRam, wholeEntry, wholeOverlay, onceDone}
@@ -26,7 +28,7 @@ trackedIn w = settingsOf (w .state) .tracked
 
 -- ---- change_vtl_protections
 
-abbrev pub protectionWhole : World → GuestVtl → ℕ → List ℕ → List Given → Change
+abbrev pub protectionWhole : World → GuestVtl → ℕ → List ℕ → List BackendAnswer → Change
 protectionWhole w v flags l gs = change (wholePages (trackedIn w) v (flagsOf flags) (pagesOf l) (w .maps) gs) (w .tables)
 
 -- ---- change_default_vtl_protections: the target VTL's overlays on private RAM pages have the new previous permissions at once
@@ -38,7 +40,7 @@ renewedFor w v flags = renewedTables (w .maps .private) (w .state) (w .tables) v
 abbrev pub overlayIn : List ℕ → GuestVtl → ℕ → Bool
 overlayIn tables v p = isOverlay (overlaysOf tables v) p
 
-abbrev pub defaultWhole : World → GuestVtl → ℕ → List Given → Change
+abbrev pub defaultWhole : World → GuestVtl → ℕ → List BackendAnswer → Change
 defaultWhole w v flags gs =
     change (wholeRam (trackedIn w) v (flagsOf flags) (entriesIn (w .state)) (overlayIn (w .tables) v) (w .maps) gs) (renewedFor w v flags)
 
@@ -56,7 +58,7 @@ abbrev pub countWhole : World → GuestVtl → ℕ → ℕ → Change
 countWhole w v p n = change (stands (w .maps) Ok) (recounted (w .tables) v p n)
 
 -- a new page: with new flags, and with none
-abbrev pub newWhole : World → GuestVtl → ℕ → ℕ → ℕ → List Given → Bool → Change
+abbrev pub newWhole : World → GuestVtl → ℕ → ℕ → ℕ → List BackendAnswer → Bool → Change
 newWhole w v p source new gs true =
     change (wholeOverlay (trackedIn w) (eqb source 0) v (flagsOf new) p (w .maps) gs)
     (onceDone gs (w .tables) (addedTo (w .tables) v (entry p (bitsOf (currentIn w v p source)) new 1 source)))
@@ -64,17 +66,17 @@ newWhole w v p source new gs false =
     change (wholeEntry (trackedIn w) v (w .maps) gs)
     (addedTo (w .tables) v (entry p (bitsOf (currentIn w v p source)) (bitsOf (currentIn w v p source)) 1 source))
 
-abbrev pub registerWhole : World → GuestVtl → ℕ → ℕ → ℕ → List Given → Change
+abbrev pub registerWhole : World → GuestVtl → ℕ → ℕ → ℕ → List BackendAnswer → Change
 registerWhole w v p source new gs =
     cond (isOverlay (overlaysOf (w .tables) v) p) (countWhole w v p (entryIn (w .tables) v p .«ref_count» + 1))
-    (newWhole w v p source new gs (ltb new 16))
+    (newWhole w v p source new gs (ltb new flagsEnd))
 
-abbrev pub oldWhole : World → GuestVtl → ℕ → OverlayPage → List Given → Change
+abbrev pub oldWhole : World → GuestVtl → ℕ → OverlayPage → List BackendAnswer → Change
 oldWhole w v p e gs =
     change (wholeOverlay (trackedIn w) (eqb (e .«gpn_source») 0) v (flagsOf (e .«previous_permissions»)) p (w .maps) gs)
     (onceDone gs (w .tables) (removedFrom (w .tables) v p))
 
-abbrev pub unregisterWhole : World → GuestVtl → ℕ → List Given → Change
+abbrev pub unregisterWhole : World → GuestVtl → ℕ → List BackendAnswer → Change
 unregisterWhole w v p gs =
     cond (ltb 1 (entryIn (w .tables) v p .«ref_count»)) (countWhole w v p (entryIn (w .tables) v p .«ref_count» - 1))
     (oldWhole w v p (entryIn (w .tables) v p) gs)
@@ -87,4 +89,4 @@ pub record Agrees (rest t : List ℕ) (i : IsolationType) (r : Ran) (tables : Li
   pub same-reply : Says i (r .last) (x .last .reply)
   pub same-pages : x .last .world .pages ≡ t
   pub same-tables : x .last .world .tables ≡ tables
-  pub same-rest : drop 14 (x .last .world .state) ≡ rest
+  pub same-rest : drop place.afterChange (x .last .world .state) ≡ rest

@@ -6,6 +6,10 @@ use mathlib.Core.List.{List, _∷_}
 use Prim.Native.Nat.{ℕ, _+_, _<_}
 use lib.Dec.{eqb, ltb}
 use lib.ListN.{length, getD, take, drop}
+use Rattle.abi.specs.Codes.{operationDenied}
+use Rattle.abi.specs.Flags.{flagsEnd}
+use Rattle.abi.specs.Places as place
+use Rattle.abi.specs.Refusals as refusal
 use Rattle.bitmap.specs.Pages as bits
 use Rattle.layout.specs.declared.MemoryRangeWithNode.{MemoryRangeWithNode}
 use Rattle.layout.specs.Layout.{isRam, ordered, refusalOf}
@@ -29,7 +33,7 @@ use Rattle.setting_entries.specs.Calls.{enableOf}
 use Rattle.protection_entries.specs.Calls.{protectionRefusal, allListed, protectionOf, defaultRefusal, stored, barred, defaultOf}
 use Rattle.overlay_refusals.specs.Refusals.{registerRefusal, unregisterRefusal}
 use Rattle.overlay_entries.specs.Calls.{entryIn, currentIn, registerOf, unregisterOf}
-use Rattle.visibility_claims.specs.Whole.{Given, Fails, Stand, Ok, FailedAt, wholeShare, wholeReturn}
+use Rattle.visibility_claims.specs.Whole.{BackendAnswer, Fails, Status, Ok, FailedAt, wholeShare, wholeReturn}
 use Rattle.visibility_claims.specs.Runs.{whole}
 use Rattle.visibility_claims.specs.Requested.{requestedOf, pagesIn, placesIn}
 use Rattle.visibility_claims.specs.Calls.{wholeOf, Told, follow}
@@ -43,7 +47,7 @@ use Rattle.change_claims.specs.Pages.{protectedIn, all, within, PermitsF
 abbrev pub TakesProtection : World → ℕ → ℕ → List ℕ → Type 0
 TakesProtection w vtl flags l = protectionRefusal (w .state) (fits w) (w .maps .shared) (w .tables) vtl flags l ≡ 0
 
-abbrev pub protectionCall : World → ℕ → ℕ → List ℕ → List Given → Told
+abbrev pub protectionCall : World → ℕ → ℕ → List ℕ → List BackendAnswer → Told
 protectionCall w vtl flags l gs = follow (protectionOf w vtl flags l) gs
 
 -- the default is stored first; no lock bars the change (10)
@@ -54,26 +58,26 @@ abbrev pub TakesDefault : World → ℕ → ℕ → Type 0
 TakesDefault w vtl flags =
     (defaultRefusal (w .state) (fits w) vtl flags ≡ 0) × (barred (w .maps .private) (storedIn w vtl flags .state) (w .tables) (vtlOf vtl) ≡ false)
 
-abbrev pub defaultCall : World → ℕ → ℕ → List Given → Told
+abbrev pub defaultCall : World → ℕ → ℕ → List BackendAnswer → Told
 defaultCall w vtl flags gs = follow (defaultOf w vtl flags) gs
 
 abbrev pub TakesRegister : World → ℕ → ℕ → ℕ → ℕ → ℕ → Type 0
 TakesRegister w vtl p source checked new =
     registerRefusal (w .state) (fits w) (w .maps .shared) (w .tables) (currentIn w (vtlOf vtl) p source) vtl p source checked new ≡ 0
 
-abbrev pub registerCall : World → ℕ → ℕ → ℕ → ℕ → ℕ → List Given → Told
+abbrev pub registerCall : World → ℕ → ℕ → ℕ → ℕ → ℕ → List BackendAnswer → Told
 registerCall w vtl p source checked new gs = follow (registerOf w vtl p source checked new) gs
 
 abbrev pub TakesUnregister : World → ℕ → ℕ → Type 0
 TakesUnregister w vtl p = unregisterRefusal (w .state) (fits w) (w .tables) vtl p ≡ 0
 
-abbrev pub unregisterCall : World → ℕ → ℕ → List Given → Told
+abbrev pub unregisterCall : World → ℕ → ℕ → List BackendAnswer → Told
 unregisterCall w vtl p gs = follow (unregisterOf w vtl p) gs
 
 abbrev pub TakesVisibility : World → ℕ → ℕ → List ℕ → Type 0
 TakesVisibility w vtl visibility l = visibilityRefusal (w .state) (fits w) (w .tables) vtl visibility l ≡ 0
 
-abbrev pub visibilityCall : World → ℕ → ℕ → List ℕ → List Given → Told
+abbrev pub visibilityCall : World → ℕ → ℕ → List ℕ → List BackendAnswer → Told
 visibilityCall w vtl visibility l gs = follow (visibilityOf w vtl visibility l) gs
 
 -- the pages that a visibility change asks for, and their places in the list as sent
@@ -93,24 +97,24 @@ InOrder w = ordered 0 (entriesIn (w .state)) ≡ true
 -- ---- a call is its whole call: operations, answer with its count, maps and tables; the request's pages are t, settings and layout stand
 
 abbrev pub AgreesIn : World → List ℕ → Change → Told → Type 0
-AgreesIn w t c x = Agrees (drop 14 (w .state)) t (settingsOf (w .state) .isolation) (whole (c .whole)) (c .tables) x
+AgreesIn w t c x = Agrees (drop place.afterChange (w .state)) t (settingsOf (w .state) .isolation) (whole (c .whole)) (c .tables) x
 
 pub record WholeCalls : Type 0 where
-  pub protection : (w : World) (vtl flags : ℕ) (l : List ℕ) (gs : List Given) → TakesProtection w vtl flags l
+  pub protection : (w : World) (vtl flags : ℕ) (l : List ℕ) (gs : List BackendAnswer) → TakesProtection w vtl flags l
       → AgreesIn w (allListed l (w .pages)) (protectionWhole w (vtlOf vtl) flags l gs) (protectionCall w vtl flags l gs)
-  pub default : (w : World) (vtl flags : ℕ) (gs : List Given) → TakesDefault w vtl flags → InOrder w
+  pub default : (w : World) (vtl flags : ℕ) (gs : List BackendAnswer) → TakesDefault w vtl flags → InOrder w
       → AgreesIn (storedIn w vtl flags) (w .pages) (defaultWhole (storedIn w vtl flags) (vtlOf vtl) flags gs) (defaultCall w vtl flags gs)
-  pub register : (w : World) (vtl p source checked new : ℕ) (gs : List Given) → TakesRegister w vtl p source checked new
+  pub register : (w : World) (vtl p source checked new : ℕ) (gs : List BackendAnswer) → TakesRegister w vtl p source checked new
       → AgreesIn w (w .pages) (registerWhole w (vtlOf vtl) p source new gs) (registerCall w vtl p source checked new gs)
-  pub unregister : (w : World) (vtl p : ℕ) (gs : List Given) → TakesUnregister w vtl p
+  pub unregister : (w : World) (vtl p : ℕ) (gs : List BackendAnswer) → TakesUnregister w vtl p
       → AgreesIn w (w .pages) (unregisterWhole w (vtlOf vtl) p gs) (unregisterCall w vtl p gs)
 
 -- ---- a call with a number other than 0 leaves all that is lent; a default change with 10 leaves the default stored
 
 pub record Refusals : Type 0 where
   pub protection : (w : World) (vtl flags : ℕ) (l : List ℕ) → (protectionOf w vtl flags l .reply .number ≡ 0 → ⊥) → protectionOf w vtl flags l .world ≡ w
-  pub default : (w : World) (vtl flags : ℕ) → (defaultOf w vtl flags .reply .number ≡ 0 → ⊥) → (defaultOf w vtl flags .reply .number ≡ 10 → ⊥) → defaultOf w vtl flags .world ≡ w
-  pub default-10 : (w : World) (vtl flags : ℕ) → defaultOf w vtl flags .reply .number ≡ 10 → defaultOf w vtl flags .world ≡ storedIn w vtl flags
+  pub default : (w : World) (vtl flags : ℕ) → (defaultOf w vtl flags .reply .number ≡ 0 → ⊥) → (defaultOf w vtl flags .reply .number ≡ refusal.locked → ⊥) → defaultOf w vtl flags .world ≡ w
+  pub default-10 : (w : World) (vtl flags : ℕ) → defaultOf w vtl flags .reply .number ≡ refusal.locked → defaultOf w vtl flags .world ≡ storedIn w vtl flags
   pub register : (w : World) (vtl p source checked new : ℕ) → (registerOf w vtl p source checked new .reply .number ≡ 0 → ⊥) → registerOf w vtl p source checked new .world ≡ w
   pub unregister : (w : World) (vtl p : ℕ) → (unregisterOf w vtl p .reply .number ≡ 0 → ⊥) → unregisterOf w vtl p .world ≡ w
   pub lock : (s t : List ℕ) (vtl : ℕ) (l : List ℕ) → (lockOf s t vtl l .reply .number ≡ 0 → ⊥) → lockOf s t vtl l .tables ≡ t
@@ -124,24 +128,24 @@ ok n = finished 0 0 0 n
 
 pub record Counts : Type 0 where
   -- its runs and three more
-  pub protection : (w : World) (vtl flags : ℕ) (l : List ℕ) (gs : List Given) → TakesProtection w vtl flags l → protectionWhole w (vtlOf vtl) flags l gs .whole .stand ≡ Ok
+  pub protection : (w : World) (vtl flags : ℕ) (l : List ℕ) (gs : List BackendAnswer) → TakesProtection w vtl flags l → protectionWhole w (vtlOf vtl) flags l gs .whole .status ≡ Ok
       → protectionCall w vtl flags l gs .last .reply ≡ ok (length (runsOf (pagesOf l)) + 3)
-  pub default : (w : World) (vtl flags : ℕ) (gs : List Given) → TakesDefault w vtl flags → InOrder w → defaultWhole (storedIn w vtl flags) (vtlOf vtl) flags gs .whole .stand ≡ Ok
+  pub default : (w : World) (vtl flags : ℕ) (gs : List BackendAnswer) → TakesDefault w vtl flags → InOrder w → defaultWhole (storedIn w vtl flags) (vtlOf vtl) flags gs .whole .status ≡ Ok
       → defaultCall w vtl flags gs .last .reply ≡ ok (length (ramRuns (entriesIn (storedIn w vtl flags .state)) (overlayIn (w .tables) (vtlOf vtl)) (w .maps)) + 3)
   -- a known page none, a new one four with new flags and three without
-  pub register-known : (w : World) (vtl p source checked new : ℕ) (gs : List Given) → TakesRegister w vtl p source checked new
+  pub register-known : (w : World) (vtl p source checked new : ℕ) (gs : List BackendAnswer) → TakesRegister w vtl p source checked new
       → overlayIn (w .tables) (vtlOf vtl) p ≡ true → registerCall w vtl p source checked new gs .last .reply ≡ ok 0
-  pub register-flags : (w : World) (vtl p source checked new : ℕ) (gs : List Given) → TakesRegister w vtl p source checked new
-      → overlayIn (w .tables) (vtlOf vtl) p ≡ false → ltb new 16 ≡ true → newWhole w (vtlOf vtl) p source new gs true .whole .stand ≡ Ok
+  pub register-flags : (w : World) (vtl p source checked new : ℕ) (gs : List BackendAnswer) → TakesRegister w vtl p source checked new
+      → overlayIn (w .tables) (vtlOf vtl) p ≡ false → ltb new flagsEnd ≡ true → newWhole w (vtlOf vtl) p source new gs true .whole .status ≡ Ok
       → registerCall w vtl p source checked new gs .last .reply ≡ ok 4
-  pub register-none : (w : World) (vtl p source checked new : ℕ) (gs : List Given) → TakesRegister w vtl p source checked new
-      → overlayIn (w .tables) (vtlOf vtl) p ≡ false → ltb new 16 ≡ false → newWhole w (vtlOf vtl) p source new gs false .whole .stand ≡ Ok
+  pub register-none : (w : World) (vtl p source checked new : ℕ) (gs : List BackendAnswer) → TakesRegister w vtl p source checked new
+      → overlayIn (w .tables) (vtlOf vtl) p ≡ false → ltb new flagsEnd ≡ false → newWhole w (vtlOf vtl) p source new gs false .whole .status ≡ Ok
       → registerCall w vtl p source checked new gs .last .reply ≡ ok 3
   -- a lowered count none, a removed entry four
-  pub unregister-lowered : (w : World) (vtl p : ℕ) (gs : List Given) → TakesUnregister w vtl p
+  pub unregister-lowered : (w : World) (vtl p : ℕ) (gs : List BackendAnswer) → TakesUnregister w vtl p
       → ltb 1 (entryIn (w .tables) (vtlOf vtl) p .«ref_count») ≡ true → unregisterCall w vtl p gs .last .reply ≡ ok 0
-  pub unregister-removed : (w : World) (vtl p : ℕ) (gs : List Given) → TakesUnregister w vtl p
-      → ltb 1 (entryIn (w .tables) (vtlOf vtl) p .«ref_count») ≡ false → oldWhole w (vtlOf vtl) p (entryIn (w .tables) (vtlOf vtl) p) gs .whole .stand ≡ Ok
+  pub unregister-removed : (w : World) (vtl p : ℕ) (gs : List BackendAnswer) → TakesUnregister w vtl p
+      → ltb 1 (entryIn (w .tables) (vtlOf vtl) p .«ref_count») ≡ false → oldWhole w (vtlOf vtl) p (entryIn (w .tables) (vtlOf vtl) p) gs .whole .status ≡ Ok
       → unregisterCall w vtl p gs .last .reply ≡ ok 4
 
 -- ---- the pages that a default change's Protects name, all of them done, the overlays being those of the tables that it leaves: each private RAM page without an overlay, once, ascending
@@ -157,7 +161,7 @@ pub record DefaultPages (w : World) (vtl : ℕ) (x : Told) : Type 0 where
 
 abbrev pub DefaultVisits : Type 0
 DefaultVisits =
-    (w : World) (vtl flags : ℕ) (gs : List Given) → TakesDefault w vtl flags → InOrder w → defaultWhole (storedIn w vtl flags) (vtlOf vtl) flags gs .whole .stand ≡ Ok
+    (w : World) (vtl flags : ℕ) (gs : List BackendAnswer) → TakesDefault w vtl flags → InOrder w → defaultWhole (storedIn w vtl flags) (vtlOf vtl) flags gs .whole .status ≡ Ok
     → DefaultPages w vtl (defaultCall w vtl flags gs)
 
 -- ---- the permission maps page by page, of whole calls on any maps
@@ -170,36 +174,36 @@ pub record DoneBefore (ps places : List ℕ) (i : ℕ) (holds : List ℕ → Typ
   pub done : holds (take count ps)
 
 pub record PermissionMaps : Type 0 where
-  pub protection : (tracked : Bool) (v : GuestVtl) (f : HvMapGpaFlags) (ps : List ℕ) (m : Maps) (gs : List Given) → wholePages tracked v f ps m gs .stand ≡ Ok
+  pub protection : (tracked : Bool) (v : GuestVtl) (f : HvMapGpaFlags) (ps : List ℕ) (m : Maps) (gs : List BackendAnswer) → wholePages tracked v f ps m gs .status ≡ Ok
       → Leaves tracked v (within (among ps)) f m (wholePages tracked v f ps m gs .maps)
-  pub default : (tracked : Bool) (v : GuestVtl) (f : HvMapGpaFlags) (es : List MemoryRangeWithNode) (overlay : ℕ → Bool) (m : Maps) (gs : List Given)
-      → wholeRam tracked v f es overlay m gs .stand ≡ Ok → Leaves tracked v (within (takenRam es (m .private) overlay)) f m (wholeRam tracked v f es overlay m gs .maps)
+  pub default : (tracked : Bool) (v : GuestVtl) (f : HvMapGpaFlags) (es : List MemoryRangeWithNode) (overlay : ℕ → Bool) (m : Maps) (gs : List BackendAnswer)
+      → wholeRam tracked v f es overlay m gs .status ≡ Ok → Leaves tracked v (within (takenRam es (m .private) overlay)) f m (wholeRam tracked v f es overlay m gs .maps)
   -- a return that ends in Ok or 16 leaves VTL0's default at the pages that were processed
-  pub return-ok : (s : Settings) (ps places : List ℕ) (m : Maps) (gs : List Given) → wholeReturn s ps places m gs .stand ≡ Ok
+  pub return-ok : (s : Settings) (ps places : List ℕ) (m : Maps) (gs : List BackendAnswer) → wholeReturn s ps places m gs .status ≡ Ok
       → PermitsFor (s .tracked) Vtl0 (within (among ps)) (s .defaults .vtl0) (m .permissions) (wholeReturn s ps places m gs .maps .permissions)
-  pub return-16 : (s : Settings) (ps places : List ℕ) (m : Maps) (gs : List Given) (code i : ℕ) → wholeReturn s ps places m gs .stand ≡ FailedAt code i
+  pub return-16 : (s : Settings) (ps places : List ℕ) (m : Maps) (gs : List BackendAnswer) (code i : ℕ) → wholeReturn s ps places m gs .status ≡ FailedAt code i
       → DoneBefore ps places i (λ qs. PermitsFor (s .tracked) Vtl0 (within (among qs)) (s .defaults .vtl0) (m .permissions) (wholeReturn s ps places m gs .maps .permissions))
   -- a share clears, at the call, and its Protects write none: under any answers
-  pub share : (s : Settings) (v : GuestVtl) (ps : List ℕ) (end : Stand) (m : Maps) (gs : List Given)
+  pub share : (s : Settings) (v : GuestVtl) (ps : List ℕ) (end : Status) (m : Maps) (gs : List BackendAnswer)
       → PermitsFor (s .tracked) v (within (among ps)) noFlags (m .permissions) (wholeShare s v ps end m gs .maps .permissions)
 
 -- and of calls as they are made in a layout that fits: there the maps have every page of RAM, and any other page is refused by 7
 
 pub record PermissionsLeft : Type 0 where
-  pub protection : (w : World) (vtl flags : ℕ) (l : List ℕ) (gs : List Given) → TakesProtection w vtl flags l → FitLayout w → protectionWhole w (vtlOf vtl) flags l gs .whole .stand ≡ Ok
+  pub protection : (w : World) (vtl flags : ℕ) (l : List ℕ) (gs : List BackendAnswer) → TakesProtection w vtl flags l → FitLayout w → protectionWhole w (vtlOf vtl) flags l gs .whole .status ≡ Ok
       → Leaves (trackedIn w) (vtlOf vtl) (all (among (pagesOf l))) (flagsOf flags) (w .maps) (protectionCall w vtl flags l gs .last .world .maps)
-  pub default : (w : World) (vtl flags : ℕ) (gs : List Given) → TakesDefault w vtl flags → FitLayout w → defaultWhole (storedIn w vtl flags) (vtlOf vtl) flags gs .whole .stand ≡ Ok
+  pub default : (w : World) (vtl flags : ℕ) (gs : List BackendAnswer) → TakesDefault w vtl flags → FitLayout w → defaultWhole (storedIn w vtl flags) (vtlOf vtl) flags gs .whole .status ≡ Ok
       → Leaves (trackedIn w) (vtlOf vtl) (all (takenRam (entriesIn (w .state)) (w .maps .private) (overlayIn (w .tables) (vtlOf vtl)))) (flagsOf flags) (w .maps)
       (defaultCall w vtl flags gs .last .world .maps)
-  pub return-ok : (w : World) (vtl visibility : ℕ) (l : List ℕ) (gs : List Given) → TakesVisibility w vtl visibility l → FitLayout w → boolOf visibility ≡ false
-      → wholeOf w (vtlOf vtl) false l gs .stand ≡ Ok
+  pub return-ok : (w : World) (vtl visibility : ℕ) (l : List ℕ) (gs : List BackendAnswer) → TakesVisibility w vtl visibility l → FitLayout w → boolOf visibility ≡ false
+      → wholeOf w (vtlOf vtl) false l gs .status ≡ Ok
       → PermitsFor (trackedIn w) Vtl0 (all (among (requestedPages w (vtlOf vtl) false l))) (settingsOf (w .state) .defaults .vtl0) (w .maps .permissions)
       (visibilityCall w vtl visibility l gs .last .world .maps .permissions)
-  pub return-16 : (w : World) (vtl visibility : ℕ) (l : List ℕ) (gs : List Given) (code i : ℕ) → TakesVisibility w vtl visibility l → FitLayout w → boolOf visibility ≡ false
-      → wholeOf w (vtlOf vtl) false l gs .stand ≡ FailedAt code i
+  pub return-16 : (w : World) (vtl visibility : ℕ) (l : List ℕ) (gs : List BackendAnswer) (code i : ℕ) → TakesVisibility w vtl visibility l → FitLayout w → boolOf visibility ≡ false
+      → wholeOf w (vtlOf vtl) false l gs .status ≡ FailedAt code i
       → DoneBefore (requestedPages w (vtlOf vtl) false l) (requestedPlaces w (vtlOf vtl) false l) i
       (λ qs. PermitsFor (trackedIn w) Vtl0 (all (among qs)) (settingsOf (w .state) .defaults .vtl0) (w .maps .permissions) (visibilityCall w vtl visibility l gs .last .world .maps .permissions))
-  pub share : (w : World) (vtl visibility : ℕ) (l : List ℕ) (gs : List Given) → TakesVisibility w vtl visibility l → FitLayout w → boolOf visibility ≡ true
+  pub share : (w : World) (vtl visibility : ℕ) (l : List ℕ) (gs : List BackendAnswer) → TakesVisibility w vtl visibility l → FitLayout w → boolOf visibility ≡ true
       → PermitsFor (trackedIn w) (vtlOf vtl) (all (among (requestedPages w (vtlOf vtl) true l))) noFlags (w .maps .permissions)
       (visibilityCall w vtl visibility l gs .last .world .maps .permissions)
 
@@ -207,14 +211,14 @@ pub record PermissionsLeft : Type 0 where
 -- page being in none
 
 pub record OverlayFails (w : World) (v : GuestVtl) (f : HvMapGpaFlags) (p source : ℕ) (x : Told) : Type 0 where
-  pub reply : x .last .reply ≡ finished 16 8 0 1
+  pub reply : x .last .reply ≡ finished refusal.backendFailed operationDenied 0 1
   pub tables : x .last .world .tables ≡ w .tables
   pub maps : Leaves (trackedIn w && eqb source 0) v (within (bits.one p)) f (w .maps) (x .last .world .maps)
 
 pub record Failures : Type 0 where
-  pub register : (w : World) (vtl p source checked new code k : ℕ) (gs : List Given) → TakesRegister w vtl p source checked new
-      → overlayIn (w .tables) (vtlOf vtl) p ≡ false → ltb new 16 ≡ true
+  pub register : (w : World) (vtl p source checked new code k : ℕ) (gs : List BackendAnswer) → TakesRegister w vtl p source checked new
+      → overlayIn (w .tables) (vtlOf vtl) p ≡ false → ltb new flagsEnd ≡ true
       → OverlayFails w (vtlOf vtl) (flagsOf new) p source (registerCall w vtl p source checked new (Fails code k ∷ gs))
-  pub unregister : (w : World) (vtl p code k : ℕ) (gs : List Given) → TakesUnregister w vtl p → ltb 1 (entryIn (w .tables) (vtlOf vtl) p .«ref_count») ≡ false
+  pub unregister : (w : World) (vtl p code k : ℕ) (gs : List BackendAnswer) → TakesUnregister w vtl p → ltb 1 (entryIn (w .tables) (vtlOf vtl) p .«ref_count») ≡ false
       → OverlayFails w (vtlOf vtl) (flagsOf (entryIn (w .tables) (vtlOf vtl) p .«previous_permissions»)) p (entryIn (w .tables) (vtlOf vtl) p .«gpn_source»)
       (unregisterCall w vtl p (Fails code k ∷ gs))

@@ -6,6 +6,7 @@ use mathlib.Core.List.{List, [], _∷_, _++_}
 use Prim.Native.Nat.{ℕ, _/_}
 use lib.Dec.{eqb, ltb}
 use lib.ListN.{length}
+use Rattle.abi.specs.Operations as operation
 use Rattle.bitmap.specs.Pages.{bitAt}
 use Rattle.permissions.specs.declared.GuestVtl.{GuestVtl}
 use Rattle.permissions.specs.declared.GuestVtl.the-variants.{Vtl0, Vtl1}
@@ -17,7 +18,7 @@ use Rattle.protector_state.specs.declared.Reply.{Reply}
 -- ---- the pages of the Protects among replies, in order
 
 abbrev pub isProtect : Reply → Bool
-isProtect r = eqb (r .operation) 3
+isProtect r = eqb (r .operation) operation.protect
 
 unfoldable pub protectedIn : List Reply → List ℕ
 protectedIn [] = []

@@ -3,6 +3,9 @@ use mathlib.Core.List.{List, [], _∷_, _++_}
 use mathlib.Core.Path.{_≡_}
 use Prim.Native.Nat.{ℕ, _+_, _-_, _≤_, _<_}
 use lib.ListN.{length, replicate}
+use Rattle.abi.specs.Codes as code
+use Rattle.abi.specs.Lengths.{tablesLen}
+use Rattle.abi.specs.Refusals as refusal
 use Rattle.permissions.specs.declared.GuestVtl.the-variants.{Vtl0, Vtl1}
 use Rattle.permissions.specs.Flags.{vtlOf, flagsOf}
 use Rattle.permissions.specs.HvError.{codeOf}
@@ -21,7 +24,7 @@ use Rattle.change_claims.specs.Calls.{protectionWhole, defaultWhole, reg
 
 -- a fresh protector with these overlays of VTL0: how many, then five words for each
 abbrev pub with : List ℕ → World
-with o = world (fresh .maps) (fresh .state) (fresh .pages) (o ++ replicate (3460 - length o) 0)
+with o = world (fresh .maps) (fresh .state) (fresh .pages) (o ++ replicate (tablesLen - length o) 0)
 
 -- two in the run from page 0 to page 15
 abbrev pub two : World
@@ -44,28 +47,28 @@ counts n = with (1 ∷ 5 ∷ 15 ∷ 15 ∷ n ∷ 0 ∷ [])
 pub record Changes : Type 0 where
   pub default-asked : defaultTwo .whole .asked
       ≡ Protect Vtl0 (flagsOf 3) (run 0 5) ∷ Protect Vtl0 (flagsOf 3) (run 6 5) ∷ Protect Vtl0 (flagsOf 3) (run 12 4) ∷ Protect Vtl0 (flagsOf 3) (run 32 8) ∷ Wait ∷ Flush Vtl0 ∷ TlbWait Vtl0 ∷ []
-  pub default-ok : defaultTwo .whole .stand ≡ Ok
+  pub default-ok : defaultTwo .whole .status ≡ Ok
   pub default-kernel : defaultTwo .whole .maps .permissions .kernel ≡ 0x20 ∷ 0x08 ∷ 0x00 ∷ 0x00 ∷ 0x00 ∷ []
   pub default-renewed : overlaysOf (defaultTwo .tables) Vtl0 ≡ 2 ∷ 5 ∷ 3 ∷ 1 ∷ 1 ∷ 0 ∷ 11 ∷ 3 ∷ 1 ∷ 1 ∷ 0 ∷ replicate 630 0
   pub repeated-asked : repeated .whole .asked ≡ Protect Vtl1 (flagsOf 3) (run 3 2) ∷ Protect Vtl1 (flagsOf 3) (run 3 1) ∷ Wait ∷ Flush Vtl0 ∷ TlbWait Vtl1 ∷ []
-  pub repeated-ok : repeated .whole .stand ≡ Ok
+  pub repeated-ok : repeated .whole .status ≡ Ok
   pub halted-asked : halted .whole .asked ≡ Protect Vtl0 (flagsOf 0) (run 3 2) ∷ Protect Vtl0 (flagsOf 0) (run 8 1) ∷ []
   pub halted-read : halted .whole .maps .permissions .read ≡ 0xe7 ∷ 0xfe ∷ 0x00 ∷ 0x00 ∷ 0xff ∷ []
-  pub halted-stands : halted .whole .stand ≡ Halts
+  pub halted-stands : halted .whole .status ≡ Halts
   pub new-asked : registerWhole fresh Vtl0 5 0 1 (dones 4) .whole .asked ≡ Protect Vtl0 (flagsOf 1) (run 5 1) ∷ Wait ∷ Flush Vtl0 ∷ TlbWait Vtl0 ∷ []
   pub new-entered : overlaysOf (registerWhole fresh Vtl0 5 0 1 (dones 4) .tables) Vtl0 ≡ 1 ∷ 5 ∷ 15 ∷ 1 ∷ 1 ∷ 0 ∷ replicate 635 0
-  pub new-failed : registerWhole fresh Vtl0 5 0 1 (Fails 77 0 ∷ []) .whole .stand ≡ FailedAt 8 0
+  pub new-failed : registerWhole fresh Vtl0 5 0 1 (Fails 77 0 ∷ []) .whole .status ≡ FailedAt code.operationDenied 0
   pub old-asked : unregisterWhole two Vtl0 5 (dones 4) .whole .asked ≡ Protect Vtl0 (flagsOf 15) (run 5 1) ∷ Wait ∷ Flush Vtl0 ∷ TlbWait Vtl0 ∷ []
   pub old-gone : overlaysOf (unregisterWhole two Vtl0 5 (dones 4) .tables) Vtl0 ≡ 1 ∷ 11 ∷ 15 ∷ 1 ∷ 1 ∷ 0 ∷ replicate 635 0
 
--- tables and counts that are full (17), and the last that are not; of the locked lists of one VTL
+-- tables and counts that are full (17), and the last that are not, by 01's own numbers; of the locked lists of one VTL
 pub record Limits : Type 0 where
   pub count-65535 : registerOf (counts 65534) 0 5 0 15 16 .reply ≡ finished 0 0 0 0
-  pub count-full : registerOf (counts 65535) 0 5 0 15 16 .reply ≡ finished 17 (codeOf 17) 0 0
+  pub count-full : registerOf (counts 65535) 0 5 0 15 16 .reply ≡ finished refusal.full (codeOf refusal.full) 0 0
   pub list-64 : (s t : List ℕ) (vtl : ℕ) (l : List ℕ) → lockRefusal s (length t) vtl l ≡ 0 → (x : Lists) → Holds t x → length (listsAt x (vtlOf vtl)) ≡ 63
       → total (listsAt x (vtlOf vtl)) + length (pagesOf l) ≤ 1024 → Makes t (withLists x (vtlOf vtl) (listsAt x (vtlOf vtl) ++ (pagesOf l ∷ []))) (lockOf s t vtl l)
-  pub list-65 : (s t : List ℕ) (vtl : ℕ) (l : List ℕ) → lockRefusal s (length t) vtl l ≡ 0 → (x : Lists) → Holds t x → length (listsAt x (vtlOf vtl)) ≡ 64 → lockOf s t vtl l ≡ ended t 17
+  pub list-65 : (s t : List ℕ) (vtl : ℕ) (l : List ℕ) → lockRefusal s (length t) vtl l ≡ 0 → (x : Lists) → Holds t x → length (listsAt x (vtlOf vtl)) ≡ 64 → lockOf s t vtl l ≡ ended t refusal.full
   pub pages-1024 : (s t : List ℕ) (vtl : ℕ) (l : List ℕ) → lockRefusal s (length t) vtl l ≡ 0 → (x : Lists) → Holds t x → length (listsAt x (vtlOf vtl)) < 64
       → total (listsAt x (vtlOf vtl)) + length (pagesOf l) ≡ 1024 → Makes t (withLists x (vtlOf vtl) (listsAt x (vtlOf vtl) ++ (pagesOf l ∷ []))) (lockOf s t vtl l)
   pub pages-1025 : (s t : List ℕ) (vtl : ℕ) (l : List ℕ) → lockRefusal s (length t) vtl l ≡ 0 → (x : Lists) → Holds t x → total (listsAt x (vtlOf vtl)) + length (pagesOf l) ≡ 1025
-      → lockOf s t vtl l ≡ ended t 17
+      → lockOf s t vtl l ≡ ended t refusal.full

@@ -30,10 +30,10 @@ use Rattle.visibility_steps.specs.declared.Step.{Step}
 use Rattle.visibility_steps.specs.Steps.{isSnp, isCca, releases, noWrites, setShared, setPrivate, ask, end, halt, shareRun, defaultRun, returnRun, afterFlush, afterWait, afterModify, afterAccept, afterDefault0, cutAt, failedModify, doneOf, failedOf}
 use Rattle.call_refusals.specs.World.{takes}
 use Rattle.protector.specs.Writes.{putPlaces}
-use Rattle.visibility_claims.specs.Whole.{Given, Succeeds, Fails}
-use Rattle.history.specs.Seen.{Age, Never, Returned, Validated, Zeroed, processed, accepted, zeroed, isDone}
-use Rattle.history.specs.Marks.{isSettled}
-use Rattle.history.proofs.Bits.{Has, clash, of-part, in-part, inside, set-cases}
+use Rattle.visibility_claims.specs.Whole.{BackendAnswer, Succeeds, Fails}
+use Rattle.history.specs.Observed.{ReturnState, Never, Returned, Validated, Zeroed, processed, accepted, zeroed, isDone}
+use Rattle.history.specs.Marks.{Has, isSettled}
+use Rattle.history.proofs.Bits.{clash, of-part, in-part, inside, set-cases}
 use Rattle.history.proofs.Right.{opened}
 
 -- ---- the pages of a run are those at its places
@@ -55,13 +55,13 @@ of-run t n a z g e f =
 
 -- ---- ages
 
-abbrev pub isNever : Age → Bool
+abbrev pub isNever : ReturnState → Bool
 isNever Never = true
 isNever Returned = false
 isNever Validated = false
 isNever Zeroed = false
 
-abbrev pub isValid : Age → Bool
+abbrev pub isValid : ReturnState → Bool
 isValid Never = false
 isValid Returned = false
 isValid Validated = true
@@ -97,7 +97,7 @@ zeroing at.Zero = true
 zeroing at.ProtectDefault0 = false
 zeroing at.ProtectDefault1 = false
 
-abbrev pub aged : Phase → Request → List ℕ → Given → (ℕ → Age) → ℕ → Age
+abbrev pub aged : Phase → Request → List ℕ → BackendAnswer → (ℕ → ReturnState) → ℕ → ReturnState
 aged at.Idle q t g age z = age z
 aged at.Halted q t g age z = age z
 aged at.Wait q t g age z = age z
@@ -113,7 +113,7 @@ aged at.ProtectDefault0 q t g age z = age z
 aged at.ProtectDefault1 q t g age z = age z
 
 -- what holds, of the private marks, the phase, the request and its table
-pub record Aged (P : List ℕ) (p : Phase) (q : Request) (t : List ℕ) (age : ℕ → Age) : Type 0 where
+pub record Aged (P : List ℕ) (p : Phase) (q : Request) (t : List ℕ) (age : ℕ → ReturnState) : Type 0 where
   pub settled : (z : ℕ) → Has P z → isSettled (age z) ≡ true
   pub long : opened p ≡ true → q .n ≤ length t
   pub came : returning p ≡ true → (j : ℕ) → j < q .n → j < length t → isNever (age (getD t j 0)) ≡ false
@@ -121,7 +121,7 @@ pub record Aged (P : List ℕ) (p : Phase) (q : Request) (t : List ℕ) (age : �
   pub valid : zeroing p ≡ true → (j : ℕ) → j < q .n → j < length t → q .at ≤ j → j < runEnd t (q .n) (q .at) → isValid (age (getD t j 0)) ≡ true
 
 -- how a step goes with it
-pub record Ages (n : ℕ) (t : List ℕ) (now : ℕ → Age) (x : Step) : Type 0 where
+pub record Ages (n : ℕ) (t : List ℕ) (now : ℕ → ReturnState) (x : Step) : Type 0 where
   pub on : x .writes .state ≡ true
   pub new : (j : ℕ) → j < x .writes .private .to → j < length t → isSettled (now (getD t j 0)) ≡ true
   pub fewer : opened (x .phase) ≡ true → x .request .n ≤ n
@@ -131,7 +131,7 @@ pub record Ages (n : ℕ) (t : List ℕ) (now : ℕ → Age) (x : Step) : Type 0
       → isValid (now (getD t j 0)) ≡ true
 
 -- a page whose age moves is at a place of a request whose pages are bare
-pub made-aged : (P : List ℕ) (p : Phase) (q : Request) (t : List ℕ) (age now : ℕ → Age) (x : Step) → Aged P p q t age
+pub made-aged : (P : List ℕ) (p : Phase) (q : Request) (t : List ℕ) (age now : ℕ → ReturnState) (x : Step) → Aged P p q t age
     → ((j : ℕ) → opened p ≡ true → j < q .n → j < length t → Has P (getD t j 0) → ⊥)
     → ((z : ℕ) → (now z ≡ age z → ⊥) → ((j : ℕ) → opened p ≡ true → j < q .n → j < length t → getD t j 0 ≡ z → ⊥) → ⊥)
     → (opened (x .phase) ≡ true → opened p ≡ true) → Ages (q .n) t now x → Aged (putPlaces t (x .writes .private) (x .writes .state) P) (x .phase) (x .request) t now
@@ -157,7 +157,7 @@ snp-not-cca Snp e = refl
 snp-not-cca Tdx e = refl
 snp-not-cca Cca e = false≢true e
 
-module _ (s : Settings) (t : List ℕ) (now : ℕ → Age) where
+module _ (s : Settings) (t : List ℕ) (now : ℕ → ReturnState) where
   pick : {n : ℕ} {x y : Step} (b : Bool) → Ages n t now x → Ages n t now y → Ages n t now (cond b x y)
   pick true f g = f
   pick false f g = g
@@ -220,40 +220,40 @@ module _ (s : Settings) (t : List ℕ) (now : ℕ → Age) where
 
 -- ---- the answers
 
-accepted-came : (a : Age) → isNever a ≡ false → isNever (accepted a) ≡ false
+accepted-came : (a : ReturnState) → isNever a ≡ false → isNever (accepted a) ≡ false
 accepted-came Never e = e
 accepted-came Returned e = refl
 accepted-came Validated e = refl
 accepted-came Zeroed e = refl
 
-accepted-valid : (a : Age) → isNever a ≡ false → isValid (accepted a) ≡ true
+accepted-valid : (a : ReturnState) → isNever a ≡ false → isValid (accepted a) ≡ true
 accepted-valid Never e = false≢true (sym e)
 accepted-valid Returned e = refl
 accepted-valid Validated e = refl
 accepted-valid Zeroed e = refl
 
-zeroed-came : (a : Age) → isNever a ≡ false → isNever (zeroed a) ≡ false
+zeroed-came : (a : ReturnState) → isNever a ≡ false → isNever (zeroed a) ≡ false
 zeroed-came Never e = e
 zeroed-came Returned e = refl
 zeroed-came Validated e = refl
 zeroed-came Zeroed e = refl
 
-zeroed-valid : (a : Age) → isValid a ≡ true → zeroed a ≡ Zeroed
+zeroed-valid : (a : ReturnState) → isValid a ≡ true → zeroed a ≡ Zeroed
 zeroed-valid Never e = false≢true e
 zeroed-valid Returned e = false≢true e
 zeroed-valid Validated e = refl
 zeroed-valid Zeroed e = refl
 
-either : (b : Bool) (x y : Age) (T : Age → Type 0) → T x → T y → T (cond b x y)
+either : (b : Bool) (x y : ReturnState) (T : ReturnState → Type 0) → T x → T y → T (cond b x y)
 either true x y T f g = f
 either false x y T f g = g
 
-module _ (s : Settings) (snp : isSnp (s .isolation) ≡ true) (P : List ℕ) (q : Request) (t : List ℕ) (age : ℕ → Age) where
+module _ (s : Settings) (snp : isSnp (s .isolation) ≡ true) (P : List ℕ) (q : Request) (t : List ℕ) (age : ℕ → ReturnState) where
   modify-done : Ages (q .n) t (aged at.Modify q t Succeeds age) (afterModify s q t)
   unfolding afterModify
   modify-done = go (q .share) refl
     where
-      now : ℕ → Age
+      now : ℕ → ReturnState
       now = aged at.Modify q t Succeeds age
 
       back : q .share ≡ false → (j : ℕ) → j < q .n → j < length t → now (getD t j 0) ≡ Returned
@@ -267,7 +267,7 @@ module _ (s : Settings) (snp : isSnp (s .isolation) ≡ true) (P : List ℕ) (q 
   unfolding failedModify
   modify-failed code k = go (q .share) refl (leb (q .n) k) refl
     where
-      now : ℕ → Age
+      now : ℕ → ReturnState
       now = aged at.Modify q t (Fails code k) age
 
       i : ℕ
@@ -291,8 +291,8 @@ module _ (s : Settings) (snp : isSnp (s .isolation) ≡ true) (P : List ℕ) (q 
         on = refl;
         new = λ j k d. absurd (omega arith);
         fewer = λ _. omega arith;
-        came = λ _ j h d. either (inRunAt t (q .n) (q .at) (getD t j 0)) _ _ (λ (a : Age). isNever a ≡ false) (accepted-came (age (getD t j 0)) (g .came refl j h d)) (g .came refl j h d);
-        past = λ _ j h d k. either (inRunAt t (q .n) (q .at) (getD t j 0)) _ _ (λ (a : Age). a ≡ Zeroed) (ap accepted (g .past refl j h d k)) (g .past refl j h d k);
+        came = λ _ j h d. either (inRunAt t (q .n) (q .at) (getD t j 0)) _ _ (λ (a : ReturnState). isNever a ≡ false) (accepted-came (age (getD t j 0)) (g .came refl j h d)) (g .came refl j h d);
+        past = λ _ j h d k. either (inRunAt t (q .n) (q .at) (getD t j 0)) _ _ (λ (a : ReturnState). a ≡ Zeroed) (ap accepted (g .past refl j h d k)) (g .past refl j h d k);
         valid = λ _ j h d l k.
             ap (λ (b : Bool). isValid (cond b (accepted (age (getD t j 0))) (age (getD t j 0)))) (in-run t (q .n) (q .at) j (g .long refl) l k d) ∙ accepted-valid (age (getD t j 0)) (g .came refl j h d);
       })
@@ -300,9 +300,9 @@ module _ (s : Settings) (snp : isSnp (s .isolation) ≡ true) (P : List ℕ) (q 
   zero-done : Aged P at.Zero q t age → Ages (q .n) t (aged at.Zero q t Succeeds age) (returnRun s q t (runEnd t (q .n) (q .at)) noWrites)
   zero-done g =
       return-ages s t (aged at.Zero q t Succeeds age) (q .n) q (runEnd t (q .n) (q .at)) noWrites snp (omega arith) refl refl
-      (λ j h d. either (inRunAt t (q .n) (q .at) (getD t j 0)) _ _ (λ (a : Age). isNever a ≡ false) (zeroed-came (age (getD t j 0)) (g .came refl j h d)) (g .came refl j h d))
+      (λ j h d. either (inRunAt t (q .n) (q .at) (getD t j 0)) _ _ (λ (a : ReturnState). isNever a ≡ false) (zeroed-came (age (getD t j 0)) (g .came refl j h d)) (g .came refl j h d))
       (λ j h d k. ⊎-elim
-      (λ (b : j < q .at). either (inRunAt t (q .n) (q .at) (getD t j 0)) _ _ (λ (a : Age). a ≡ Zeroed) (ap zeroed (g .past refl j h d b)) (g .past refl j h d b))
+      (λ (b : j < q .at). either (inRunAt t (q .n) (q .at) (getD t j 0)) _ _ (λ (a : ReturnState). a ≡ Zeroed) (ap zeroed (g .past refl j h d b)) (g .past refl j h d b))
       (λ (b : q .at ≤ j). ap (λ (c : Bool). cond c (zeroed (age (getD t j 0))) (age (getD t j 0))) (in-run t (q .n) (q .at) j (g .long refl) b k d) ∙ zeroed-valid (age (getD t j 0)) (g .valid refl j h d b k)) (lt-or-le j (q .at)))
 
   second : (f : OptionFlags) → Ages (q .n) t age (afterDefault0 f s q t)
@@ -342,11 +342,11 @@ module _ (s : Settings) (snp : isSnp (s .isolation) ≡ true) (P : List ℕ) (q 
   failed-ages at.ProtectDefault1 code k e = plain-halt s t age (q .n) q
 
 -- a page whose age moves is at a place
-module _ (q : Request) (t : List ℕ) (age : ℕ → Age) (g : Given) (z : ℕ) where
+module _ (q : Request) (t : List ℕ) (age : ℕ → ReturnState) (g : BackendAnswer) (z : ℕ) where
   moved-modify : (aged at.Modify q t g age z ≡ age z → ⊥) → ((j : ℕ) → j < q .n → j < length t → getD t j 0 ≡ z → ⊥) → ⊥
   moved-modify k f = go (among (part t (processed g (q .n)) 0) z) refl
     where
-      few : (g : Given) → processed g (q .n) ≤ q .n
+      few : (g : BackendAnswer) → processed g (q .n) ≤ q .n
       few Succeeds = omega arith
       few (Fails code k) = omega arith
 
@@ -354,7 +354,7 @@ module _ (q : Request) (t : List ℕ) (age : ℕ → Age) (g : Given) (z : ℕ) 
       go true e = of-part 0 (processed g (q .n)) t z e (λ j _ h d y. f j (omega (arith, few g)) d y)
       go false e = k (ap (λ (b : Bool). cond b (cond (q .share) Never Returned) (age z)) e)
 
-  moved-run : (step : Age → Age) → q .n ≤ length t → (cond (isDone g && inRunAt t (q .n) (q .at) z) (step (age z)) (age z) ≡ age z → ⊥) → ((j : ℕ) → j < q .n → j < length t → getD t j 0 ≡ z → ⊥) → ⊥
+  moved-run : (step : ReturnState → ReturnState) → q .n ≤ length t → (cond (isDone g && inRunAt t (q .n) (q .at) z) (step (age z)) (age z) ≡ age z → ⊥) → ((j : ℕ) → j < q .n → j < length t → getD t j 0 ≡ z → ⊥) → ⊥
   moved-run step l k f = go (inRunAt t (q .n) (q .at) z) refl
     where
       none : (b : Bool) → b ≡ false → cond (isDone g && b) (step (age z)) (age z) ≡ age z

@@ -37,13 +37,13 @@ use Rattle.call_refusals.specs.Refusals.{visibilityRefusal}
 use Rattle.protection_entries.specs.Calls.{defaultRefusal, storedDefault, stored, barred, renewedTables, renewedIn, defaultStep, defaultStarted, defaultTaken, defaultOf, protectionRefusal, allListed, protectionStep, protectionTaken, protectionOf}
 use Rattle.overlay_refusals.specs.Refusals.{unregisterRefusal, registerRefusal}
 use Rattle.overlay_entries.specs.Calls.{entryIn, counting, unregisterTaken, unregisterOf, currentIn, registerTaken, registerOf}
-use Rattle.visibility_claims.specs.Whole.{Given, Succeeds, Fails}
+use Rattle.visibility_claims.specs.Whole.{BackendAnswer, Succeeds, Fails}
 use Rattle.visibility_claims.specs.Calls.{answerOf}
 use Rattle.visibility_claims.proofs.Calls.{phase-read, request-read, few-done, few-failed}
-use Rattle.history.specs.Seen.{Seen, Age, asks, ageAfter, seesTaken, seesAnswer, seesCall}
-use Rattle.history.specs.Marks.{isSettled}
+use Rattle.history.specs.Observed.{Observed, ReturnState, asks, ageAfter, seesTaken, seesAnswer, seesCall}
+use Rattle.history.specs.Marks.{Has, isSettled}
 use Rattle.call_refusals.proofs.Laws.{fits-pages}
-use Rattle.history.proofs.Bits.{Has, clash, clear-kept}
+use Rattle.history.proofs.Bits.{clash, clear-kept}
 use Rattle.history.proofs.Right.{opened, isQuiet, Names, Fits}
 use Rattle.history.proofs.Steps.{done-fits, failed-fits}
 use Rattle.history.proofs.World.{Stands, digit-read, quiet-names, changing-shut, change-shut}
@@ -51,7 +51,7 @@ use Rattle.history.proofs.Answers.{Told, done-told, failed-told, Leads,
 use Rattle.history.proofs.Calls.{called, Taken, taken, few}
 use Rattle.history.proofs.Ages.{isNever, isValid, returning, zeroing, aged, Aged, Ages, made-aged, done-ages, failed-ages, moved-place}
 
-pub record Snp (w : World) (o : Seen) : Type 0 where
+pub record Snp (w : World) (o : Observed) : Type 0 where
   pub snp : isSnp (settingsOf (w .state) .isolation) ≡ true
   pub ages : Aged (w .maps .private) (phaseIn (w .state)) (requestOf (w .state)) (w .pages) (o .age)
 
@@ -64,23 +64,23 @@ quiet-not k q r h = go (eqb (r .operation) k) refl
     go false e = e
     go true e = false≢true (sym q ∙ ap (λ (n : ℕ). not (ltb 5 n && ltb n 9)) (sym (eqb-true (r .operation) k e)) ∙ h)
 
-pub quiet-age : (g : Given) (o : Seen) → isQuiet (o .op) ≡ true → (z : ℕ) → ageAfter g o z ≡ o .age z
+pub quiet-age : (g : BackendAnswer) (o : Observed) → isQuiet (o .op) ≡ true → (z : ℕ) → ageAfter g o z ≡ o .age z
 quiet-age Succeeds o h z = rw (quiet-not 6 refl (o .op) h, quiet-not 7 refl (o .op) h, quiet-not 8 refl (o .op) h)
 quiet-age (Fails code k) o h z = rw (quiet-not 6 refl (o .op) h)
 
-modify-age : (g : Given) (o : Seen) (q : Request) (t : List ℕ) → o .op ≡ modifies (q .share) (q .n) → o .table ≡ t → (z : ℕ) → ageAfter g o z ≡ aged at.Modify q t g (o .age) z
+modify-age : (g : BackendAnswer) (o : Observed) (q : Request) (t : List ℕ) → o .op ≡ modifies (q .share) (q .n) → o .table ≡ t → (z : ℕ) → ageAfter g o z ≡ aged at.Modify q t g (o .age) z
 modify-age Succeeds o q t e d z = rw (e, d, digit-read (q .share))
 modify-age (Fails code k) o q t e d z = rw (e, d, digit-read (q .share))
 
-accept-age : (g : Given) (o : Seen) (q : Request) (t : List ℕ) → o .op ≡ onRun 7 (runOf q t) → (z : ℕ) → ageAfter g o z ≡ aged at.Accept q t g (o .age) z
+accept-age : (g : BackendAnswer) (o : Observed) (q : Request) (t : List ℕ) → o .op ≡ onRun 7 (runOf q t) → (z : ℕ) → ageAfter g o z ≡ aged at.Accept q t g (o .age) z
 accept-age Succeeds o q t e z = rw e
 accept-age (Fails code k) o q t e z = rw e
 
-zero-age : (g : Given) (o : Seen) (q : Request) (t : List ℕ) → o .op ≡ onRun 8 (runOf q t) → (z : ℕ) → ageAfter g o z ≡ aged at.Zero q t g (o .age) z
+zero-age : (g : BackendAnswer) (o : Observed) (q : Request) (t : List ℕ) → o .op ≡ onRun 8 (runOf q t) → (z : ℕ) → ageAfter g o z ≡ aged at.Zero q t g (o .age) z
 zero-age Succeeds o q t e z = rw e
 zero-age (Fails code k) o q t e z = rw e
 
-seen-age : (p : Phase) (g : Given) (o : Seen) (q : Request) (t : List ℕ) → Names p q t (o .op) → (opened p ≡ true → o .table ≡ t) → (z : ℕ) → ageAfter g o z ≡ aged p q t g (o .age) z
+seen-age : (p : Phase) (g : BackendAnswer) (o : Observed) (q : Request) (t : List ℕ) → Names p q t (o .op) → (opened p ≡ true → o .table ≡ t) → (z : ℕ) → ageAfter g o z ≡ aged p q t g (o .age) z
 seen-age at.Idle g o q t n d z = quiet-age g o n z
 seen-age at.Halted g o q t n d z = quiet-age g o n z
 seen-age at.Wait g o q t n d z = quiet-age g o n z
@@ -127,7 +127,7 @@ shut-zeroing at.Zero h = false≢true (sym h)
 shut-zeroing at.ProtectDefault0 h = refl
 shut-zeroing at.ProtectDefault1 h = refl
 
-aged-same : (P : List ℕ) (p : Phase) (q : Request) (t : List ℕ) (age now : ℕ → Age) → ((z : ℕ) → now z ≡ age z) → Aged P p q t age → Aged P p q t now
+aged-same : (P : List ℕ) (p : Phase) (q : Request) (t : List ℕ) (age now : ℕ → ReturnState) → ((z : ℕ) → now z ≡ age z) → Aged P p q t age → Aged P p q t now
 aged-same P p q t age now e g =
     record {
       settled = λ z h. ap isSettled (e z) ∙ g .settled z h;
@@ -138,7 +138,7 @@ aged-same P p q t age now e g =
     }
 
 -- nothing is under way afterwards
-aged-shut : (P : List ℕ) (p p′ : Phase) (q q′ : Request) (t t′ : List ℕ) (age now : ℕ → Age) → opened p′ ≡ false → ((z : ℕ) → now z ≡ age z) → Aged P p q t age → Aged P p′ q′ t′ now
+aged-shut : (P : List ℕ) (p p′ : Phase) (q q′ : Request) (t t′ : List ℕ) (age now : ℕ → ReturnState) → opened p′ ≡ false → ((z : ℕ) → now z ≡ age z) → Aged P p q t age → Aged P p′ q′ t′ now
 aged-shut P p p′ q q′ t t′ age now s e g =
     record {
       settled = λ z h. ap isSettled (e z) ∙ g .settled z h;
@@ -156,7 +156,7 @@ set-snp s k x l = ap isolationOf (getD-set-other s k 16 x 0 (λ e. omega arith))
 
 -- ---- every answer
 
-module _ (es : List MemoryRangeWithNode) (w : World) (o : Seen) (k : Stands es w o) (a : Snp w o) where
+module _ (es : List MemoryRangeWithNode) (w : World) (o : Observed) (k : Stands es w o) (a : Snp w o) where
   abbrev p : Phase
   p = phaseIn (w .state)
 
@@ -166,7 +166,7 @@ module _ (es : List MemoryRangeWithNode) (w : World) (o : Seen) (k : Stands es w
   abbrev s : Settings
   s = settingsOf (w .state)
 
-  visible : (g : Given) (x : Step) → Fits (s .isolation) (w .pages) (opened p) (q .n) x → Ages (q .n) (w .pages) (aged p q (w .pages) g (o .age)) x → x .request .n ≤ 512
+  visible : (g : BackendAnswer) (x : Step) → Fits (s .isolation) (w .pages) (opened p) (q .n) x → Ages (q .n) (w .pages) (aged p q (w .pages) g (o .age)) x → x .request .n ≤ 512
       → Leads Snp o g (carriedOut w (w .pages) x)
   unfolding carriedOut applied
   visible g x f y few =
@@ -177,8 +177,7 @@ module _ (es : List MemoryRangeWithNode) (w : World) (o : Seen) (k : Stands es w
       let same = aged-same P′ (x .phase) (x .request) (w .pages) (aged p q (w .pages) g (o .age)) (ageAfter g o) (seen-age p g o q (w .pages) (k .names) (k .table)) made in
       let s′ : List ℕ = withRequest (x .phase) (x .request) (w .state) in
       record {
-        not4 = f .tells .not4;
-        not21 = f .tells .not21;
+        taken = f .tells .taken;
         stands = record {
           snp = ap isSnp (request-snp (x .phase) (x .request) (w .state)) ∙ a .snp;
           ages = subst (λ (y : Phase). Aged P′ y (requestOf s′) (w .pages) (ageAfter g o)) (sym (phase-read (x .phase)))
@@ -187,7 +186,7 @@ module _ (es : List MemoryRangeWithNode) (w : World) (o : Seen) (k : Stands es w
       }
 
   -- another change, from a state block with the same isolation
-  pub change-aged : (s′ tables t : List ℕ) (x : ChangeStep) (o′ : Seen) → settingsOf s′ .isolation ≡ s .isolation → ((z : ℕ) → o′ .age z ≡ o .age z)
+  pub change-aged : (s′ tables t : List ℕ) (x : ChangeStep) (o′ : Observed) → settingsOf s′ .isolation ≡ s .isolation → ((z : ℕ) → o′ .age z ≡ o .age z)
       → Snp (carriedChange (world (w .maps) s′ (w .pages) tables) t x .world) o′
   unfolding carriedChange
   change-aged s′ tables t x o′ i e =
@@ -196,17 +195,17 @@ module _ (es : List MemoryRangeWithNode) (w : World) (o : Seen) (k : Stands es w
         ages = aged-shut (w .maps .private) p _ q _ (w .pages) t (o .age) (o′ .age) (change-shut (x .stage)) e (a .ages);
       }
 
-  changed : (g : Given) → isChanging (w .state) ≡ true → (x : ChangeStep) → Told (s .isolation) x → Leads Snp o g (carriedChange w (w .pages) x)
+  changed : (g : BackendAnswer) → isChanging (w .state) ≡ true → (x : ChangeStep) → Told (s .isolation) x → Leads Snp o g (carriedChange w (w .pages) x)
   unfolding carriedChange
   changed g c x t =
       let r : Reply = flatOf (s .isolation) (x .answer) in
       let still : isQuiet (o .op) ≡ true = quiet-names p q (w .pages) (o .op) (changing-shut (w .state) c) (k .names) in
-      record { not4 = t .not4; not21 = t .not21; stands = change-aged (w .state) (w .tables) (w .pages) x (seesTaken g r (w .pages) o) refl (quiet-age g o still) }
+      record { taken = t .taken; stands = change-aged (w .state) (w .tables) (w .pages) x (seesTaken g r (w .pages) o) refl (quiet-age g o still) }
 
   few-here : q .n ≤ 512
   few-here = omega arith
 
-  pub answer-aged : (g : Given) → Snp (answerOf g w .world) (seesAnswer g (answerOf g w .reply) (answerOf g w .world .pages) o)
+  pub answer-aged : (g : BackendAnswer) → Snp (answerOf g w .world) (seesAnswer g (answerOf g w .reply) (answerOf g w .world .pages) o)
   unfolding answerDone answerFailed afterDone afterFailed
   answer-aged Succeeds =
       answered Snp w o (k .halts) a Succeeds false (cond (isChanging (w .state)) (changeDone w) (visibilityDone w))
@@ -223,7 +222,7 @@ module _ (es : List MemoryRangeWithNode) (w : World) (o : Seen) (k : Stands es w
 
 -- ---- every call
 
-module _ (w : World) (o : Seen) (a : Snp w o) where
+module _ (w : World) (o : Observed) (a : Snp w o) where
   pub tables-aged : (tables : List ℕ) → Snp (world (w .maps) (w .state) (w .pages) tables) o
   tables-aged tables = record { snp = a .snp; ages = a .ages }
 
@@ -234,7 +233,7 @@ module _ (w : World) (o : Seen) (a : Snp w o) where
       rw (word 1 (omega arith), word 2 (omega arith), word 3 (omega arith), word 4 (omega arith), word 5 (omega arith), word 6 (omega arith), word 7 (omega arith), word 8 (omega arith), word 9 (omega arith)) in
       record { snp = ap isSnp (set-snp (w .state) i x l) ∙ a .snp; ages = rw (word 0 (omega arith), b) (a .ages) }
 
-module _ (es : List MemoryRangeWithNode) (w : World) (o : Seen) (k : Stands es w o) (a : Snp w o) where
+module _ (es : List MemoryRangeWithNode) (w : World) (o : Observed) (k : Stands es w o) (a : Snp w o) where
   -- whatever the reply, a call moves no age
   call-ages : (ps : List ℕ) (r : Reply) (t : List ℕ) (z : ℕ) → seesCall ps r t o .age z ≡ o .age z
   call-ages ps r t z = go (asks r)

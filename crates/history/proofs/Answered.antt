@@ -2,23 +2,23 @@
 -- was; and they compose. Assumes nothing.
 use mathlib.Core.Path.{_≡_, refl, ap, _∙_}
 use Rattle.call_refusals.specs.World.{World}
-use Rattle.history.specs.Seen.{Seen}
+use Rattle.history.specs.Observed.{Observed}
 use Rattle.history.specs.Call.{Result, Effect, gives}
-use Rattle.history.specs.History.{History, none, call, stray, refusedBuild}
+use Rattle.history.specs.History.{History, none, call, callWithOtherLengths, refusedBuild}
 use Rattle.history.specs.Answered.{Answered, leaves}
 use Rattle.history.proofs.Is.{is, build-is}
-use Rattle.history.proofs.Refused.{stray-keeps, build-keeps}
+use Rattle.history.proofs.Refused.{other-lengths-keeps, build-keeps}
 
-pub answered : {w v : World} {a o : Seen} (h : History w a v o) → Answered h
+pub answered : {w v : World} {a o : Observed} (h : History w a v o) → Answered h
 unfolding Answered
 answered none = tt
 answered (call h c r m) = (answered h, is m)
-answered (stray {u} {x} h c r m s) = (answered h, is m, ap (λ (X : Effect (Result c)). X .world) (is m) ∙ stray-keeps c u x s)
+answered (callWithOtherLengths {u} {x} h c r m s) = (answered h, is m, ap (λ (X : Effect (Result c)). X .world) (is m) ∙ other-lengths-keeps c u x s)
 answered (refusedBuild {u} {x} {y} h ram i t l r m f) = (answered h, build-is m, build-keeps x y ram i t l r (build-is m) f)
 
-pub composed : {w v : World} {a o : Seen} (h : History w a v o) → v ≡ leaves h
+pub composed : {w v : World} {a o : Observed} (h : History w a v o) → v ≡ leaves h
 unfolding leaves
 composed none = refl
 composed (call h c r m) = ap (λ (X : Effect (Result c)). X .world) (is m) ∙ ap (λ (u : World). gives c u .world) (composed h)
-composed (stray h c r m s) = composed h
+composed (callWithOtherLengths h c r m s) = composed h
 composed (refusedBuild h ram i t l r m f) = composed h

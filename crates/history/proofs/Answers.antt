@@ -33,20 +33,19 @@ use Rattle.call_refusals.specs.World.{World, Outcome, fits, statusIn, takes, ta
 use Rattle.protector.specs.Writes.{applied}
 use Rattle.protector.specs.Calls.{refusedBy, decided, carriedOut, carriedChange, afterDone, afterFailed, visibilityDone, visibilityFailed, changeDone, changeFailed, answerDone, answerFailed}
 use Rattle.call_refusals.specs.Refusals.{answerRefusal}
-use Rattle.visibility_claims.specs.Whole.{Given, Succeeds, Fails}
+use Rattle.visibility_claims.specs.Whole.{BackendAnswer, Succeeds, Fails}
 use Rattle.visibility_claims.specs.Calls.{answerOf, takenBy}
 use Rattle.visibility_claims.proofs.Calls.{few-done, few-failed}
-use Rattle.history.specs.Seen.{Seen, asks, lastAfter, isTaken, goesOn, seesTaken, seesAnswer}
+use Rattle.history.specs.Observed.{Observed, asks, lastAfter, isTaken, goesOn, seesTaken, seesAnswer}
 use Rattle.history.proofs.Took.{isShared, sharedIn}
-use Rattle.history.proofs.Right.{opened, isHalted, isQuiet, Right, Fits, Moves, made-right}
+use Rattle.history.proofs.Right.{opened, isHalted, isQuiet, Right, TakenReply, Fits, Moves, made-right}
 use Rattle.history.proofs.Steps.{after, done-fits, failed-fits, done-moves, failed-moves}
 use Rattle.history.proofs.World.{Stands, settled, right-same, quiet-last, seen-last, stops, goes, quiet-names, changing-shut, stands-step, stands-change}
 
 -- ---- what a step of another change tells: nothing that Modify, Accept or Zero would
 
 pub record Told (i : IsolationType) (x : ChangeStep) : Type 0 where
-  pub not4 : eqb (flatOf i (x .answer) .number) refusal.wrongLength ≡ false
-  pub not21 : eqb (flatOf i (x .answer) .number) refusal.nothingAsked ≡ false
+  pub taken : TakenReply (flatOf i (x .answer))
   pub halts : eqb (flatOf i (x .answer) .number) refusal.halted ≡ stops (x .stage)
   pub waits : asks (flatOf i (x .answer)) ≡ goes (x .stage)
   pub quiet : isQuiet (flatOf i (x .answer)) ≡ true
@@ -54,11 +53,11 @@ pub record Told (i : IsolationType) (x : ChangeStep) : Type 0 where
 module _ (i : IsolationType) where
   protect-told : (tracked : Bool) (g : Stage) (q : Change) (a : ℕ) (r : PageRun) → stops g ≡ false → goes g ≡ true → Told i (protect tracked g q a r)
   unfolding protect flatOf askedOf
-  protect-told tracked g q a r h d = record { not4 = refl; not21 = refl; halts = sym h; waits = sym d; quiet = refl }
+  protect-told tracked g q a r h d = record { taken = record { not4 = refl; not21 = refl }; halts = sym h; waits = sym d; quiet = refl }
 
   wait-told : (q : Change) (e : Entry) → Told i (wait q e)
   unfolding wait ask flatOf askedOf
-  wait-told q e = record { not4 = refl; not21 = refl; halts = refl; waits = refl; quiet = refl }
+  wait-told q e = record { taken = record { not4 = refl; not21 = refl }; halts = refl; waits = refl; quiet = refl }
 
   pick : {x y : ChangeStep} (b : Bool) → Told i x → Told i y → Told i (cond b x y)
   pick true f g = f
@@ -94,23 +93,23 @@ module _ (i : IsolationType) where
   done-told tracked stage.ProtectRam q t next h = ram-told tracked q next
   done-told tracked stage.ProtectNew q t next h = wait-told q _
   done-told tracked stage.ProtectOld q t next h = wait-told q _
-  done-told tracked stage.Wait q t next h = record { not4 = refl; not21 = refl; halts = refl; waits = refl; quiet = refl }
-  done-told tracked stage.Flush q t next h = record { not4 = refl; not21 = refl; halts = refl; waits = refl; quiet = refl }
-  done-told tracked stage.TlbWait q t next h = record { not4 = refl; not21 = refl; halts = refl; waits = refl; quiet = refl }
+  done-told tracked stage.Wait q t next h = record { taken = record { not4 = refl; not21 = refl }; halts = refl; waits = refl; quiet = refl }
+  done-told tracked stage.Flush q t next h = record { taken = record { not4 = refl; not21 = refl }; halts = refl; waits = refl; quiet = refl }
+  done-told tracked stage.TlbWait q t next h = record { taken = record { not4 = refl; not21 = refl }; halts = refl; waits = refl; quiet = refl }
 
   pub failed-told : (g : Stage) (q : Change) → takesAt g true ≡ true → Told i (failedOf g q)
   unfolding failedOf halt finish flatOf
   failed-told stage.Idle q h = false≢true h
   failed-told stage.Halted q h = false≢true h
-  failed-told stage.ProtectPages q h = record { not4 = refl; not21 = refl; halts = refl; waits = refl; quiet = refl }
-  failed-told stage.ProtectRam q h = record { not4 = refl; not21 = refl; halts = refl; waits = refl; quiet = refl }
-  failed-told stage.ProtectNew q h = record { not4 = refl; not21 = refl; halts = refl; waits = refl; quiet = refl }
-  failed-told stage.ProtectOld q h = record { not4 = refl; not21 = refl; halts = refl; waits = refl; quiet = refl }
+  failed-told stage.ProtectPages q h = record { taken = record { not4 = refl; not21 = refl }; halts = refl; waits = refl; quiet = refl }
+  failed-told stage.ProtectRam q h = record { taken = record { not4 = refl; not21 = refl }; halts = refl; waits = refl; quiet = refl }
+  failed-told stage.ProtectNew q h = record { taken = record { not4 = refl; not21 = refl }; halts = refl; waits = refl; quiet = refl }
+  failed-told stage.ProtectOld q h = record { taken = record { not4 = refl; not21 = refl }; halts = refl; waits = refl; quiet = refl }
   failed-told stage.Wait q h = false≢true h
   failed-told stage.Flush q h = false≢true h
   failed-told stage.TlbWait q h = false≢true h
 
--- ---- the refusals of an answer: a: the state block is whole, h: halted, c: what is lent fits, d: an answer is waited for
+-- ---- the refusals of an answer: a: the state block has its length, h: halted, c: what is lent fits, d: an answer is waited for
 
 abbrev pub chain : Bool → Bool → Bool → Bool → ℕ
 chain a h c d = unless a refusal.wrongLength (when h refusal.halted (unless c refusal.wrongLength (unless d refusal.nothingAsked 0)))
@@ -134,13 +133,12 @@ chain-taken true false true false e = false≢true e
 chain-taken true false true true e = (refl, refl)
 
 -- a taken answer that leads to T, which keeps K
-pub record Leads (K : World → Seen → Type 0) (o : Seen) (g : Given) (T : Outcome) : Type 0 where
-  pub not4 : eqb (T .reply .number) refusal.wrongLength ≡ false
-  pub not21 : eqb (T .reply .number) refusal.nothingAsked ≡ false
+pub record Leads (K : World → Observed → Type 0) (o : Observed) (g : BackendAnswer) (T : Outcome) : Type 0 where
+  pub taken : TakenReply (T .reply)
   pub stands : K (T .world) (seesTaken g (T .reply) (T .world .pages) o)
 
-module _ (K : World → Seen → Type 0) (w : World) (o : Seen) (halts : o .halted ≡ eqb (statusIn (w .state)) refusal.halted) (k : K w o) where
-  pub answered : (g : Given) (failed : Bool) (T : Outcome) → (o .halted ≡ false → takesIn (w .state) failed ≡ true → Leads K o g T)
+module _ (K : World → Observed → Type 0) (w : World) (o : Observed) (halts : o .halted ≡ eqb (statusIn (w .state)) refusal.halted) (k : K w o) where
+  pub answered : (g : BackendAnswer) (failed : Bool) (T : Outcome) → (o .halted ≡ false → takesIn (w .state) failed ≡ true → Leads K o g T)
       → let X = decided w (answerRefusal (w .state) (fits w) failed) T in K (X .world) (seesAnswer g (X .reply) (X .world .pages) o)
   unfolding answerRefusal
   answered g failed T f = go (eqb n 0) refl
@@ -155,7 +153,7 @@ module _ (K : World → Seen → Type 0) (w : World) (o : Seen) (halts : o .halt
       go true e =
           let c = chain-taken (eqb (length (w .state)) stateLen) h (fits w) (takesIn (w .state) failed) e in
           let x = f (halts ∙ c .0) (c .1) in
-          let y : isTaken o (T .reply) ≡ true = rw (halts ∙ c .0, x .not4, x .not21) in
+          let y : isTaken o (T .reply) ≡ true = rw (halts ∙ c .0, x .taken .not4, x .taken .not21) in
           subst (λ (b : Bool). K (T .world) (cond b (seesTaken g (T .reply) (T .world .pages) o) o)) (sym y) (x .stands)
       go false e =
           let y : isTaken o (refusedBy w n .reply) ≡ false =
@@ -163,7 +161,7 @@ module _ (K : World → Seen → Type 0) (w : World) (o : Seen) (halts : o .halt
           subst (λ (b : Bool). K w (cond b (seesTaken g (refusedBy w n .reply) (w .pages) o) o)) (sym y) k
 
   -- and whether it is taken is seen
-  pub told : (g : Given) (failed : Bool) (T : Outcome) → (o .halted ≡ false → takesIn (w .state) failed ≡ true → Leads K o g T)
+  pub told : (g : BackendAnswer) (failed : Bool) (T : Outcome) → (o .halted ≡ false → takesIn (w .state) failed ≡ true → Leads K o g T)
       → isTaken o (decided w (answerRefusal (w .state) (fits w) failed) T .reply) ≡ eqb (answerRefusal (w .state) (fits w) failed) 0
   unfolding answerRefusal
   told g failed T f = go (eqb n 0) refl
@@ -178,19 +176,19 @@ module _ (K : World → Seen → Type 0) (w : World) (o : Seen) (halts : o .halt
       go true e =
           let c = chain-taken (eqb (length (w .state)) stateLen) h (fits w) (takesIn (w .state) failed) e in
           let x = f (halts ∙ c .0) (c .1) in
-          rw (halts ∙ c .0, x .not4, x .not21)
+          rw (halts ∙ c .0, x .taken .not4, x .taken .not21)
       go false e = ap (λ (b : Bool). counts b n) halts ∙ chain-untaken (eqb (length (w .state)) stateLen) h (fits w) (takesIn (w .state) failed) e
 
-  pub either : (g : Given) (c : Bool) (A B : Outcome) → isChanging (w .state) ≡ c → (isChanging (w .state) ≡ true → Leads K o g A) → (isChanging (w .state) ≡ false → Leads K o g B) → Leads K o g (cond c A B)
+  pub either : (g : BackendAnswer) (c : Bool) (A B : Outcome) → isChanging (w .state) ≡ c → (isChanging (w .state) ≡ true → Leads K o g A) → (isChanging (w .state) ≡ false → Leads K o g B) → Leads K o g (cond c A B)
   either g true A B e f h = f e
   either g false A B e f h = h e
 
 pub takes-change : (w : World) (c failed : Bool) → isChanging (w .state) ≡ c → takesIn (w .state) failed ≡ true → cond c (takesAt (stageIn (w .state)) failed) (takes (phaseIn (w .state)) failed) ≡ true
 takes-change w c failed e h = ap (λ (b : Bool). cond b (takesAt (stageIn (w .state)) failed) (takes (phaseIn (w .state)) failed)) (sym e) ∙ h
 
-module _ (es : List MemoryRangeWithNode) (w : World) (o : Seen) (k : Stands es w o) where
+module _ (es : List MemoryRangeWithNode) (w : World) (o : Observed) (k : Stands es w o) where
   -- of a visibility change
-  module _ (g : Given) (x : Step) (free : o .halted ≡ false) where
+  module _ (g : BackendAnswer) (x : Step) (free : o .halted ≡ false) where
     abbrev p : Phase
     p = phaseIn (w .state)
 
@@ -212,8 +210,7 @@ module _ (es : List MemoryRangeWithNode) (w : World) (o : Seen) (k : Stands es w
         (λ e. here (f .tells .stays e)) (λ e. here (or-right (asks r) _ (f .tells .halts ∙ e))) in
         let same = right-same (λ z. isShared (lastAfter g o z)) (isHalted (x .phase)) (seen-last p g o q (w .pages) (k .names) (k .table)) made in
         record {
-          not4 = f .tells .not4;
-          not21 = f .tells .not21;
+          taken = f .tells .taken;
           stands = stands-step es (applied (w .pages) (x .writes) (w .maps)) (w .state) (w .pages) (w .tables) (seesTaken g r (w .pages) o) (x .phase) (x .request) few (k .layout)
               (subst (λ (h : Bool). Right (isRam es) (applied (w .pages) (x .writes) (w .maps) .private) (applied (w .pages) (x .writes) (w .maps) .shared) (x .phase) (x .request) (w .pages) h listed′ (λ z. isShared (lastAfter g o z))) (sym (f .tells .halts)) same)
               (f .tells .halts) (f .tells .waits) (f .tells .names) (λ _. refl);
@@ -228,8 +225,7 @@ module _ (es : List MemoryRangeWithNode) (w : World) (o : Seen) (k : Stands es w
         let before = subst (λ (h : Bool). Right (isRam es) (w .maps .private) (w .maps .shared) p q (w .pages) h (o .listed) (sharedIn o)) free (k .right) in
         let still : isQuiet (o .op) ≡ true = quiet-names p q (w .pages) (o .op) shut (k .names) in
         record {
-          not4 = t .not4;
-          not21 = t .not21;
+          taken = t .taken;
           stands = stands-change es _ (w .state) (w .pages) _ (seesTaken g r (w .pages) o) (x .stage) (x .change) (k .layout)
               (λ p′ q′ s. settled (λ z. isShared (lastAfter g o z)) p′ q′ (w .pages) _ _ shut s (quiet-last g o still) before) (t .halts) (t .waits) (t .quiet);
         }
@@ -262,13 +258,13 @@ module _ (es : List MemoryRangeWithNode) (w : World) (o : Seen) (k : Stands es w
       visible (Fails code n) (visibilitySteps.failedOf s p′ q′ (w .pages) code n) free (failed-fits s p′ q′ (w .pages) code n y)
       (failed-moves s q′ (w .pages) (sharedIn o) p′ code n y (λ j e h d. k .right .toward e j h d) (λ e. k .right .once e)) (few-failed s (w .pages) p′ q′ code n y few))
 
-  pub answer-stands : (g : Given) → Stands es (answerOf g w .world) (seesAnswer g (answerOf g w .reply) (answerOf g w .world .pages) o)
+  pub answer-stands : (g : BackendAnswer) → Stands es (answerOf g w .world) (seesAnswer g (answerOf g w .reply) (answerOf g w .world .pages) o)
   unfolding answerDone answerFailed
   answer-stands Succeeds = answered (Stands es) w o (k .halts) k Succeeds false (cond (isChanging (w .state)) (changeDone w) (visibilityDone w)) done-leads
   answer-stands (Fails code n) = answered (Stands es) w o (k .halts) k (Fails code n) true (cond (isChanging (w .state)) (changeFailed w) (visibilityFailed w code n)) (failed-leads code n)
 
   -- whether an answer is taken is seen from what it gives
-  pub taken-seen : (g : Given) → isTaken o (answerOf g w .reply) ≡ takenBy g w
+  pub taken-seen : (g : BackendAnswer) → isTaken o (answerOf g w .reply) ≡ takenBy g w
   unfolding answerDone answerFailed
   taken-seen Succeeds = told (Stands es) w o (k .halts) k Succeeds false (cond (isChanging (w .state)) (changeDone w) (visibilityDone w)) done-leads
   taken-seen (Fails code n) = told (Stands es) w o (k .halts) k (Fails code n) true (cond (isChanging (w .state)) (changeFailed w) (visibilityFailed w code n)) (failed-leads code n)

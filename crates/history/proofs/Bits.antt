@@ -7,15 +7,14 @@ use native.Mathlib.Omega.{arith}
 use lib.ListN.{length, getD, take, length-take, length-drop}
 use lib.Seq.{getD-take, getD-drop}
 use lib.Dec.{eqb, ltb, lit<}
-use borrow.Author.Tests.{eqb-true, eq-eqb, ltb-false, lt-ltb}
+use borrow.Author.Tests.{eqb-true, ltb-false, lt-ltb}
 use Rattle.bitmap.specs.Pages.{bitAt, written}
 use Rattle.bitmap.proofs.Map.{page-law, page-past}
 use Rattle.page_list.specs.Pages.{among}
 use Rattle.page_list.specs.Runs.{part}
+use Rattle.page_list.proofs.Laws.{among-at}
 use Rattle.request_pages.specs.Request.{wanted}
-
-abbrev pub Has : List ℕ → ℕ → Type 0
-Has m q = bitAt 8 m q ≡ true
+use Rattle.history.specs.Marks.{Has}
 
 pub clash : {X : Type 0} (b : Bool) → b ≡ true → b ≡ false → X
 clash b e f = let z : _≡_ {A = ℕ} 0 1 = cc in absurd (omega arith)
@@ -37,18 +36,8 @@ of-part a b t q h f =
     let n : length (part t b a) ≡ min b (length t) - a = length-drop a (take b t) ∙ ap (λ (x : ℕ). x - a) (length-take b t) in
     f (a + j) (omega arith) (omega arith) (omega arith) (sym (getD-drop a (take b t) j 0 ∙ getD-take b t (a + j) 0 (omega arith)) ∙ e))
 
-pub among-own : (l : List ℕ) (j : ℕ) → j < length l → among l (getD l j 0) ≡ true
-unfolding among
-among-own [] j h = absurd (omega arith)
-among-own (p ∷ l) zero h = ap (λ (b : Bool). b || among l p) (eq-eqb p p refl)
-among-own (p ∷ l) (suc j) h = go (eqb (getD l j 0) p) (among-own l j (omega arith))
-  where
-    go : (b : Bool) → among l (getD l j 0) ≡ true → (b || among l (getD l j 0)) ≡ true
-    go true e = refl
-    go false e = e
-
 pub in-part : (b : ℕ) (t : List ℕ) (j : ℕ) → j < b → j < length t → among (part t b 0) (getD t j 0) ≡ true
-in-part b t j h g = ap (among (take b t)) (sym (getD-take b t j 0 h)) ∙ among-own (take b t) j (omega (arith, length-take b t))
+in-part b t j h g = ap (among (take b t)) (sym (getD-take b t j 0 h)) ∙ among-at (take b t) j (omega (arith, length-take b t))
 
 -- a page that bears the mark once P's pages are set bore it, or is P's
 pub set-cases : (P : ℕ → Bool) (m : List ℕ) (q : ℕ) → Has (written 8 P true m) q → (P q ≡ true → ⊥) → (Has m q → ⊥) → ⊥
@@ -93,7 +82,7 @@ inside a b t j h g d =
     let n : length (part t b a) ≡ min b (length t) - a = length-drop a (take b t) ∙ ap (λ (x : ℕ). x - a) (length-take b t) in
     let k : a + (j - a) ≡ j = omega arith in
     let e : getD (part t b a) (j - a) 0 ≡ getD t j 0 = getD-drop a (take b t) (j - a) 0 ∙ ap (λ (i : ℕ). getD (take b t) i 0) k ∙ getD-take b t j 0 g in
-    ap (among (part t b a)) (sym e) ∙ among-own (part t b a) (j - a) (omega arith)
+    ap (among (part t b a)) (sym e) ∙ among-at (part t b a) (j - a) (omega arith)
 
 pub clear-same : (P : ℕ → Bool) (m : List ℕ) (z : ℕ) → P z ≡ false → Has m z → Has (written 8 P false m) z
 clear-same P m z e h = page-law 8 P false m z (lit< tt) ∙ ap (λ (c : Bool). cond (c && ltb (z / 8) (length m)) false (bitAt 8 m z)) e ∙ h

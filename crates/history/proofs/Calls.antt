@@ -2,14 +2,13 @@
 use Prim.Native.Nat.{ℕ, _≤_, _<_}
 use mathlib.Core.Path.{_≡_, refl, sym, ap, _∙_, subst}
 use mathlib.Core.List.{List, []}
-use mathlib.Core.Bool.{Bool, true, false, not, cond}
+use mathlib.Core.Bool.{Bool, true, false, cond}
 use native.Mathlib.Omega.{arith}
 use lib.ListN.{length, getD, take, set, length-take}
 use lib.Seq.{getD-take, getD-set-other, drop-set-lt}
 use lib.Dec.{eqb, ltb}
 use borrow.Author.Tests.{eqb-true, ltb-false}
 use Rattle.abi.specs.Refusals as refusal
-use Rattle.laws.specs.Bools.{false≢true}
 use Rattle.laws.specs.Refusal.{passed, when-passed}
 use Rattle.call_refusals.proofs.Laws.{is-ready}
 use Rattle.layout.specs.declared.MemoryRangeWithNode.{MemoryRangeWithNode}
@@ -17,6 +16,7 @@ use Rattle.layout.specs.Layout.{isRam}
 use Rattle.permissions.specs.declared.GuestVtl.{GuestVtl}
 use Rattle.permissions.specs.Flags.{fitVtl, vtlOf, fitBool, boolOf}
 use Rattle.page_list.specs.Pages.{pagesOf, isLong, isRagged, among, repeats}
+use Rattle.page_list.proofs.Laws.{among-at}
 use Rattle.request_pages.specs.Request.{wanted}
 use Rattle.request_pages.proofs.Table.{length-pick, pages-few}
 use Rattle.visibility_steps.specs.declared.Phase.the-variants as at
@@ -32,20 +32,16 @@ use Rattle.protector.specs.Writes.{applied}
 use Rattle.protector.specs.Calls.{refusedBy, decided, carriedOut, carriedChange, stopOf, askedFor, tableFor, visibilityTaken, visibilityOf}
 use Rattle.call_refusals.specs.Refusals.{pageRefusal, firstRefusal, visibilityRefusal}
 use Rattle.visibility_claims.proofs.Calls.{modify-pages}
-use Rattle.history.specs.Seen.{Seen, asks, seesCall}
+use Rattle.change_claims.proofs.Made.{among-take, among-pick}
+use Rattle.history.specs.Observed.{Observed, asks, seesCall}
 use Rattle.history.proofs.Took.{sharedIn}
-use Rattle.history.proofs.Bits.{among-own}
 use Rattle.history.proofs.Right.{opened, Right}
-use Rattle.history.proofs.Start.{among-take, repeats-take, among-pick, repeats-pick, holds, places-apart, first-all, ram-page, start-right}
+use Rattle.history.proofs.Start.{repeats-take, repeats-pick, holds, places-apart, first-all, ram-page, start-right}
 use Rattle.history.proofs.World.{Stands, settled, stops, quiet-names, idle-shut, stands-step, stands-change}
 use Rattle.history.proofs.Answers.{Told}
 
-pub not-true : (b : Bool) → not b ≡ true → b ≡ false
-not-true true h = false≢true h
-not-true false h = refl
-
 -- a call: refused it changes nothing, and asks for nothing
-pub called : (K : World → Seen → Type 0) (w : World) (o : Seen) → K w o → (ps : List ℕ) (n : ℕ) (T : Outcome) → (n ≡ 0 → K (T .world) (seesCall ps (T .reply) (T .world .pages) o))
+pub called : (K : World → Observed → Type 0) (w : World) (o : Observed) → K w o → (ps : List ℕ) (n : ℕ) (T : Outcome) → (n ≡ 0 → K (T .world) (seesCall ps (T .reply) (T .world .pages) o))
     → let X = decided w n T in K (X .world) (seesCall ps (X .reply) (X .world .pages) o)
 called K w o k ps n T f = go (eqb n 0) refl
   where
@@ -69,7 +65,7 @@ module _ (s : List ℕ) (k x : ℕ) (low : 9 < k) (high : k < 31) where
   pub set-entries : entriesIn (set s k x) ≡ entriesIn s
   set-entries = rw (getD-set-other s k 31 x 0 (λ e. omega arith), drop-set-lt 32 s k x (omega arith))
 
-module _ (es : List MemoryRangeWithNode) (w : World) (o : Seen) (k : Stands es w o) where
+module _ (es : List MemoryRangeWithNode) (w : World) (o : Observed) (k : Stands es w o) where
   -- other tables, and another such word
   pub tables-stand : (tables : List ℕ) → Stands es (world (w .maps) (w .state) (w .pages) tables) o
   tables-stand tables = record { layout = k .layout; right = k .right; halts = k .halts; waits = k .waits; names = k .names; table = k .table }
@@ -111,7 +107,7 @@ module _ (es : List MemoryRangeWithNode) (w : World) (o : Seen) (k : Stands es w
         T : Outcome
         T = carriedChange (world (w .maps) s (w .pages) tables) t x
 
-        o′ : Seen
+        o′ : Observed
         o′ = record { op = r; table = t; halted = o .halted; listed = []; last = o .last; age = o .age }
 
         go : (b : Bool) → asks r ≡ b → Stands es (T .world) (cond b o′ o)
@@ -143,7 +139,7 @@ taken w vtl visibility l z =
     let h = when-passed (isRagged l) 7 _ (g .1) in
     record { fit = a .fits; idle = a .idle; short = ltb-false 4096 (length l) (d .0); apart = e .0; each = h .1 }
 
-module _ (es : List MemoryRangeWithNode) (w : World) (o : Seen) (k : Stands es w o) (v : GuestVtl) (b : Bool) (l : List ℕ) (x : Taken w v b l) where
+module _ (es : List MemoryRangeWithNode) (w : World) (o : Observed) (k : Stands es w o) (v : GuestVtl) (b : Bool) (l : List ℕ) (x : Taken w v b l) where
   abbrev P : ℕ → Bool
   P = wanted (w .maps .shared) b
 
@@ -160,7 +156,7 @@ module _ (es : List MemoryRangeWithNode) (w : World) (o : Seen) (k : Stands es w
   page j h = sym (getD-take (length Q) t j 0 h) ∙ ap (λ (m : List ℕ). getD m j 0) (modify-pages w v b l)
 
   named : (j : ℕ) → j < length Q → among (pagesOf l) (getD t j 0) ≡ true
-  named j h = ap (among (pagesOf l)) (page j h) ∙ among-take (stopOf w v b l) (pagesOf l) (getD Q j 0) (among-pick P ps (getD Q j 0) (among-own Q j h))
+  named j h = ap (among (pagesOf l)) (page j h) ∙ among-take (stopOf w v b l) (pagesOf l) (getD Q j 0) (among-pick P ps (getD Q j 0) (among-at Q j h))
 
   pub in-ram : (j : ℕ) → j < length Q → isRam es (getD t j 0) ≡ true
   in-ram j h =
@@ -183,12 +179,12 @@ module _ (es : List MemoryRangeWithNode) (w : World) (o : Seen) (k : Stands es w
       let made =
       start-right (isRam es) (w .maps .private) (w .maps .shared) (phaseIn (w .state)) (requestOf (w .state)) (w .pages) (o .listed) (sharedIn o) (settled-right es w o k (x .idle)) (shut es w o k (x .idle))
       t (pagesOf l) (length Q) stop stopped (s .tracked) v apart in-ram named b (λ j h. ap P (page j h) ∙ holds P ps j h) in
-      let o′ : Seen = record { op = T .reply; table = t; halted = o .halted; listed = pagesOf l; last = o .last; age = o .age } in
+      let o′ : Observed = record { op = T .reply; table = t; halted = o .halted; listed = pagesOf l; last = o .last; age = o .age } in
       stands-step es (T .world .maps) (w .state) t (w .tables) o′ at.Wait (asked v b (length Q) stop stopped) few (k .layout)
       (subst (λ (h : Bool). Right (isRam es) (T .world .maps .private) (T .world .maps .shared) at.Wait (asked v b (length Q) stop stopped) t h (pagesOf l) (sharedIn o)) (sym (free es w o k (x .idle))) made)
       (free es w o k (x .idle)) refl refl (λ _. refl)
 
-pub visibility-stands : (es : List MemoryRangeWithNode) (w : World) (o : Seen) → Stands es w o → (vtl visibility : ℕ) (l : List ℕ)
+pub visibility-stands : (es : List MemoryRangeWithNode) (w : World) (o : Observed) → Stands es w o → (vtl visibility : ℕ) (l : List ℕ)
     → let X = visibilityOf w vtl visibility l in Stands es (X .world) (seesCall (pagesOf l) (X .reply) (X .world .pages) o)
 unfolding visibilityOf
 visibility-stands es w o k vtl visibility l =

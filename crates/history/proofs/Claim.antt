@@ -29,7 +29,7 @@ use Rattle.call_refusals.specs.World.{World, Outcome, tablesLen, overlaysOf, lo
 use Rattle.protector.specs.Calls.{refusedBy, buildTaken, buildOf}
 use Rattle.call_refusals.specs.Refusals.{buildFits, buildRefusal, testedOf}
 use Rattle.call_refusals.proofs.Laws.{maps-fit}
-use Rattle.history.specs.Seen.{Seen, Took, tookAs, unseen}
+use Rattle.history.specs.Observed.{Observed, Took, tookAs, unseen}
 use Rattle.history.specs.Marks.{Has, readOff, Settled}
 use Rattle.history.specs.Tables.{EachFits, Overlays, EachShort, Locked, Tables}
 use Rattle.history.specs.Settings.{firstSettings, SettingsFit}
@@ -42,7 +42,7 @@ use Rattle.call_refusals.proofs.Laws.{fits-tables}
 use Rattle.history.specs.Answered.{given}
 use Rattle.history.specs.Claim.{ClaimFrom, Claim}
 use Rattle.history.proofs.Is.{build-is}
-use Rattle.history.proofs.Passed.{Whole}
+use Rattle.history.proofs.Passed.{Fitting}
 use Rattle.history.proofs.Histories.{Lent}
 use Rattle.history.proofs.Restart.{settled-hold, settled-lent}
 
@@ -117,9 +117,9 @@ module _ (u : World) (ram : List ℕ) (i t r : ℕ) (z : buildRefusal ram i t r 
   same-long : (s : Bool) (m : List ℕ) → length (fresh es s (length m)) ≡ length m
   same-long s m = length-fresh es s (length m)
 
-  built-whole : Whole (buildTaken u ram i t r .world)
+  built-fitting : Fitting (buildTaken u ram i t r .world)
   unfolding buildTaken
-  built-whole =
+  built-fitting =
       record {
         long = built-long;
         fit =
@@ -136,8 +136,8 @@ module _ (u : World) (ram : List ℕ) (i t r : ℕ) (z : buildRefusal ram i t r 
       record {
         layout = ap refusalOf (ram-built ram i t r well) ∙ ram-taken;
         idle = refl;
-        long = built-whole .long;
-        lent = built-whole .fit;
+        long = built-fitting .long;
+        lent = built-fitting .fit;
         private-ram = λ z h. ap (λ (es : List MemoryRangeWithNode). isRam es z) same ∙ fresh-ram es (length (u .maps .private)) z h;
         shared-ram = λ z h. absurd (fresh-none es (length (u .maps .shared)) z h);
         never-both = λ z _ h. fresh-none es (length (u .maps .shared)) z h;
@@ -246,14 +246,14 @@ module _ {ram : List ℕ} {i t r : ℕ} {u w : World} {reply : Reply} (b : Built
       }
 
 -- THE CLAIM, of every list of calls of the protector's entries from a build that was taken, refused calls and refused builds among them, wherever it stops
-module _ {ram : List ℕ} {i t r : ℕ} {u w v : World} {reply : Reply} {o : Seen} (b : Built ram i t r u w reply) (d : reply .number ≡ 0) (h : History w unseen v o) where
+module _ {ram : List ℕ} {i t r : ℕ} {u w v : World} {reply : Reply} {o : Observed} (b : Built ram i t r u w reply) (d : reply .number ≡ 0) (h : History w unseen v o) where
   pub calls-hold : Claim ram i t r u reply h
   calls-hold =
       record {
         built = build-is b;
         first = subst (λ (w : World). settingsOf (w .state) ≡ firstSettings i t r) (was b d .1) (first-settings b d);
         calls =
-            subst (λ (a : Seen). (h : History w a v o) → ClaimFrom (entriesOf ram) i t r h) (built-unseen b d)
+            subst (λ (a : Observed). (h : History w a v o) → ClaimFrom (entriesOf ram) i t r h) (built-unseen b d)
             (subst (λ (es : List MemoryRangeWithNode). (h : History w (readOff (w .maps)) v o) → ClaimFrom es i t r h) (same-entries b d) (λ h. settled-hold w (built-starts b d) h))
             h;
       }
@@ -261,5 +261,5 @@ module _ {ram : List ℕ} {i t r : ℕ} {u w v : World} {reply : Reply} {o : See
   -- the invariant stands, and what was last left has its lengths
   pub lent-holds : Lent (entriesOf ram) v o
   lent-holds =
-      subst (λ (a : Seen). History w a v o → Lent (entriesOf ram) v o) (built-unseen b d)
+      subst (λ (a : Observed). History w a v o → Lent (entriesOf ram) v o) (built-unseen b d)
       (λ h. subst (λ (es : List MemoryRangeWithNode). Lent es v o) (same-entries b d) (settled-lent w (built-settled b d) h)) h

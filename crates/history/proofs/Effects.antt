@@ -44,7 +44,7 @@ use Rattle.lock_entries.specs.Lists.{Lists, lists, listsAt, withLists, Makes}
 use Rattle.lock_entries.proofs.Lists.{lock-room, unlock-found}
 use Rattle.history.specs.Tables.{Tables, Pending, entryFor, TablesFit}
 use Rattle.history.proofs.Bits.{clash}
-use Rattle.history.proofs.Lengths.{renewed-long}
+use Rattle.change_claims.proofs.Tables.{renewed-long}
 use Rattle.history.proofs.Locked.{locks-held}
 use Rattle.history.proofs.Deciding.{decides, either}
 use Rattle.history.proofs.Entries.{overlays-long, overlays-used, overlays-know}
@@ -179,7 +179,7 @@ module _ (es : List MemoryRangeWithNode) (w : World) (k : Tables es (w .tables))
       let o : List ℕ = renewed m (entriesIn (w .state)) flags (overlaysOf (w .tables) v) in
       ap (λ (b : Bool). overlaysOf (cond b (refusedBy w 10) (defaultStarted r v flags) .world .tables) v) free
       ∙ ap (λ (t : List ℕ). overlaysOf t v) (ram-kept (settingsOf (w .state) .tracked) (changeOf v flags 0) (firstPiece m (w .state) (r .tables) v) (r .tables))
-      ∙ overlays-written (w .tables) o v (k .long) (renewed-long m (entriesIn (w .state)) flags (overlaysOf (w .tables) v) (used (overlaysOf (w .tables) v)) 1 ∙ overlays-long es (overlaysOf (w .tables) v) x)
+      ∙ overlays-written (w .tables) o v (k .long) (renewed-long m (entriesIn (w .state)) flags (used (overlaysOf (w .tables) v)) (overlaysOf (w .tables) v) 1 ∙ overlays-long es (overlaysOf (w .tables) v) x)
       ∙ ap (renewed m (entriesIn (w .state)) flags) (x .words) ∙ table-renewed m (entriesIn (w .state)) flags (x .entries) (x .few)
 
 module _ (es : List MemoryRangeWithNode) (w : World) (k : TablesFit es w) (vtl flags : ℕ) (z : defaultRefusal (w .state) (fits w) vtl flags ≡ 0)

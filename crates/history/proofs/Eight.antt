@@ -30,7 +30,7 @@ use Rattle.overlay_refusals.specs.Refusals.{callRefusal, within, knownRefusal, 
 use Rattle.overlay_entries.specs.Calls.{registerTaken, registerOf, unregisterTaken, unregisterOf}
 use Rattle.visibility_claims.specs.Ends.{afterAll}
 use Rattle.visibility_claims.specs.Table.{page, dones}
-use Rattle.history.specs.Seen.{Seen, unseen, asks}
+use Rattle.history.specs.Observed.{Observed, unseen, asks}
 use Rattle.history.specs.Call.{Call, Visibility, Write, sees}
 use Rattle.history.specs.Made.{Made, Built}
 use Rattle.history.specs.History.{History, none, call, refusedBuild}
@@ -58,7 +58,7 @@ unfolding buildOf buildRefusal refusalOf entriesOf ordered aligned buildTaken
 build8-taken = refl
 
 -- so the claim holds of every list of calls from it
-pub claim8 : {v : World} {o : Seen} (h : History built8 unseen v o) → Claim ram8 2 1 0 before8 (building8 .reply) h
+pub claim8 : {v : World} {o : Observed} (h : History built8 unseen v o) → Claim ram8 2 1 0 before8 (building8 .reply) h
 claim8 h = calls-hold build8 build8-taken h
 
 -- ---- and there its page 3 may be shared: a call that asks for an operation
@@ -76,17 +76,13 @@ pub share8-asks : asks (asking8 .reply) ≡ true
 unfolding visibilityOf ready visibilityRefusal buildOf buildRefusal refusalOf entriesOf ordered aligned buildTaken word writtenFrom ramByte numberOf numberAt numbersFrom among repeats pick tableOf stopAt put placeFrom listsFrom held ask operationOf cleared startOf firstPhases phaseOf askedOf flatOf applied carriedOut firstRefusal visibilityTaken
 share8-asks = refl
 
--- ---- and while it waits a build with isolation 9, lent what stands, is refused (3): a step of the list
+-- ---- and while it waits a build with isolation 9, lent what stands, is refused: a step of the list
 
-abbrev seen8 : Seen
+abbrev seen8 : Observed
 seen8 = sees sharing8 (asking8 .reply) (asking8 .world .pages) unseen
 
 pub refused8 : History built8 unseen (asking8 .world) seen8
 refused8 = refusedBuild (call none sharing8 (asking8 .reply) share8) ram8 9 1 0 (buildOf (asking8 .world) ram8 9 1 0 .reply) (any-call (asking8 .world) .built ram8 9 1 0) (any-call (asking8 .world) .refused ram8 9 1 0 refl)
-
-pub refused8-number : buildOf (asking8 .world) ram8 9 1 0 .reply .number ≡ 3
-unfolding buildOf buildRefusal refusalOf entriesOf ordered aligned
-refused8-number = refl
 
 -- ---- so do the other calls that may ask: a protection change, a default change, and an overlay page registered and, with that over, unregistered
 

@@ -5,28 +5,30 @@ use mathlib.Core.Path.{_≡_, refl, sym, ap, ap₂, _∙_, subst}
 use mathlib.Core.List.{List, [], _∷_, _++_, map, append-nil, append-assoc}
 use mathlib.Core.Bool.{Bool, true, false, cond, not, _||_}
 use lib.ListN.{length, replicate, length-replicate}
+use borrow.Author.Tests.{not-true}
+use Rattle.laws.specs.Bools.{not-of}
 use Rattle.layout.specs.declared.MemoryRangeWithNode.{MemoryRangeWithNode}
 use Rattle.layout.specs.Layout.{entriesOf}
 use Rattle.protector_state.specs.declared.Reply.{Reply}
 use Rattle.protector_state.specs.State.{entriesIn}
 use Rattle.call_refusals.specs.World.{World, Outcome, takes}
 use Rattle.protector.specs.Calls.{answerDone}
-use Rattle.visibility_claims.specs.Whole.{Given, Succeeds}
+use Rattle.visibility_claims.specs.Whole.{BackendAnswer, Succeeds}
 use Rattle.visibility_claims.specs.Calls.{answerOf, takenBy}
 use Rattle.visibility_claims.specs.Ends.{leftIn, underWay, afterAll, takenOf, unrefused}
 use Rattle.visibility_claims.proofs.Ends as claims
-use Rattle.history.specs.Seen.{Seen, unseen, asks, isWaiting, isTaken, seesCall, seesAnswer}
+use Rattle.history.specs.Observed.{Observed, unseen, asks, isWaiting, isTaken, seesCall, seesAnswer}
 use Rattle.history.specs.Marks.{readOff, Settled}
 use Rattle.history.specs.Call.{Answer, sees}
 use Rattle.history.specs.Made.{Made, Built}
 use Rattle.history.specs.History.{History, none, call, Event, Called, eventsIn}
 use Rattle.history.specs.Answered.{given}
-use Rattle.history.specs.Ends.{Course, start, answer, other, courseOf, takenIn, heardIn, Falls, Meanwhile, Answers, Ends, Heard, insisting, Told, RequestEnds}
+use Rattle.history.specs.Ends.{Trace, start, answer, other, traceOf, takenIn, heardIn, Falls, Meanwhile, Answers, Ends, Heard, insisting, Told, RequestEnds}
 use Rattle.history.proofs.Bits.{clash}
 use Rattle.history.proofs.World.{Stands}
 use Rattle.history.proofs.Answers.{taken-seen}
-use Rattle.history.proofs.Passed.{Whole}
-use Rattle.history.proofs.Wholes.{answer-long}
+use Rattle.history.proofs.Passed.{Fitting}
+use Rattle.history.proofs.Fittings.{answer-long}
 use Rattle.history.proofs.Histories.{Lent, lent-kept, history-keeps}
 use Rattle.history.proofs.Falls.{taken-waits, answer-is, at-stop, steps-fall}
 use Rattle.history.proofs.Claim.{lent-holds}
@@ -46,7 +48,7 @@ answer-sum l k u v false f g h = add (leftIn v) (subst (λ (v : World). leftIn v
     add : (a : ℕ) → a + k ≤ l → a + (0 + k) ≤ l
     add a h = omega (arith, h)
 
-sum-falls : {w v : World} {a o : Seen} (h : Course w a v o) → Falls h → Meanwhile h → leftIn v + takenIn h ≤ leftIn w
+sum-falls : {w v : World} {a o : Observed} (h : Trace w a v o) → Falls h → Meanwhile h → leftIn v + takenIn h ≤ leftIn w
 unfolding Falls Meanwhile takenIn
 sum-falls start f m = omega arith
 sum-falls {w} (answer {u} {v} h g b) f m = answer-sum (leftIn w) (takenIn h) u v b (f .1) (f .2) (sum-falls h (f .0) m)
@@ -57,7 +59,7 @@ unfolding afterAll takenOf
 idle-at-none v h = claims.ends v [] h
 
 -- where it still waits it waited at each answer, and each that wasn't refused was taken
-all-taken : {w v : World} {a o : Seen} (h : Course w a v o) → Falls h → Meanwhile h → isWaiting o ≡ true → heardIn h ≡ takenIn h
+all-taken : {w v : World} {a o : Observed} (h : Trace w a v o) → Falls h → Meanwhile h → isWaiting o ≡ true → heardIn h ≡ takenIn h
 unfolding Falls Meanwhile takenIn heardIn
 all-taken start f m e = refl
 all-taken (answer {u} {v} {o} {p} h g b) f m e =
@@ -69,8 +71,8 @@ all-taken (answer {u} {v} {o} {p} h g b) f m e =
     or-false false = refl
 all-taken (other h) f m e = all-taken h (f .0) (m .0) (m .1)
 
-module _ (es : List MemoryRangeWithNode) {w v : World} {a o : Seen} (k : Stands es w a) (h : History w a v o) (m : Meanwhile (courseOf h)) where
-  still-fewer : isWaiting o ≡ true → takenIn (courseOf h) < leftIn w
+module _ (es : List MemoryRangeWithNode) {w v : World} {a o : Observed} (k : Stands es w a) (h : History w a v o) (m : Meanwhile (traceOf h)) where
+  still-fewer : isWaiting o ≡ true → takenIn (traceOf h) < leftIn w
   still-fewer e = go (leftIn v) refl
     where
       rest : (a b c n : ℕ) → a + c ≤ b → a ≡ suc n → c < b
@@ -79,53 +81,49 @@ module _ (es : List MemoryRangeWithNode) {w v : World} {a o : Seen} (k : Stands 
       none : (a : ℕ) → a ≡ 0 → a ≤ 0
       none a e = omega (arith, e)
 
-      go : (n : ℕ) → leftIn v ≡ n → takenIn (courseOf h) < leftIn w
-      go (suc n) d = rest (leftIn v) (leftIn w) (takenIn (courseOf h)) n (sum-falls (courseOf h) (steps-fall es k h) m) d
+      go : (n : ℕ) → leftIn v ≡ n → takenIn (traceOf h) < leftIn w
+      go (suc n) d = rest (leftIn v) (leftIn w) (takenIn (traceOf h)) n (sum-falls (traceOf h) (steps-fall es k h) m) d
       go zero d = absurd (clash _ e (at-stop es k h .waits ∙ idle-at-none v (none (leftIn v) d)))
 
-  request-ends : leftIn w ≤ heardIn (courseOf h) → isWaiting o ≡ false
+  request-ends : leftIn w ≤ heardIn (traceOf h) → isWaiting o ≡ false
   request-ends e = go (isWaiting o) refl
     where
       go : (b : Bool) → isWaiting o ≡ b → isWaiting o ≡ false
       go false b = b
-      go true b = absurd (rest (leftIn w) (takenIn (courseOf h)) (heardIn (courseOf h)) (still-fewer b) (all-taken (courseOf h) (steps-fall es k h) m b) e)
+      go true b = absurd (rest (leftIn w) (takenIn (traceOf h)) (heardIn (traceOf h)) (still-fewer b) (all-taken (traceOf h) (steps-fall es k h) m b) e)
         where
           rest : (a b c : ℕ) → b < a → c ≡ b → a ≤ c → ⊥
           rest a b c d e f = omega (arith, d, e, f)
 
 -- ---- lists of answers alone
 
-abbrev answered : Given → Event
+abbrev answered : BackendAnswer → Event
 answered g = Called (Answer g)
 
 -- from where h stops, gs in turn
-record Further (v : World) (o : Seen) (l : List Event) (w : World) (gs : List Given) : Type 0 where
-  seen : Seen
+record Further (v : World) (o : Observed) (l : List Event) (w : World) (gs : List BackendAnswer) : Type 0 where
+  seen : Observed
   calls : History v o (afterAll w gs) seen
   alone : eventsIn calls ≡ l ++ map answered gs
-  meanwhile : Meanwhile (courseOf calls)
+  meanwhile : Meanwhile (traceOf calls)
 
-further : {v w : World} {o p : Seen} (h : History v o w p) → Meanwhile (courseOf h) → (gs : List Given) → Further v o (eventsIn h) w gs
-unfolding afterAll courseOf eventsIn Meanwhile
+further : {v w : World} {o p : Observed} (h : History v o w p) → Meanwhile (traceOf h) → (gs : List BackendAnswer) → Further v o (eventsIn h) w gs
+unfolding afterAll traceOf eventsIn Meanwhile
 further {p = p} h m [] = record { seen = p; calls = h; alone = sym (append-nil (eventsIn h)); meanwhile = m }
 further {w = w} h m (g ∷ gs) =
     let x = further (call h (Answer g) (answerOf g w .reply) (any-call w .made (Answer g))) m gs in
     record { seen = x .seen; calls = x .calls; alone = x .alone ∙ append-assoc (eventsIn h) (answered g ∷ []) (map answered gs); meanwhile = x .meanwhile }
 
 -- done after each that isn't taken
-insisting-over : (w : World) → Whole w → (gs : List Given) → (underWay w ≡ true → leftIn w ≤ length gs) → underWay (afterAll w (insisting w gs)) ≡ false
+insisting-over : (w : World) → Fitting w → (gs : List BackendAnswer) → (underWay w ≡ true → leftIn w ≤ length gs) → underWay (afterAll w (insisting w gs)) ≡ false
 unfolding afterAll insisting
-insisting-over w k [] f = none (underWay w) refl
-  where
-    none : (b : Bool) → underWay w ≡ b → b ≡ false
-    none false e = refl
-    none true e = sym (sym (idle-at-none w (f e)) ∙ e)
-insisting-over w k (g ∷ gs) f = go (takenBy g w) refl (λ (h : Given) e. insisting-over (answerOf h w .world) (answer-long w k h) gs e)
+insisting-over w k [] f = not-true (underWay w) (not-of (underWay w) (λ e. clash (underWay w) e (idle-at-none w (f e))))
+insisting-over w k (g ∷ gs) f = go (takenBy g w) refl (λ (h : BackendAnswer) e. insisting-over (answerOf h w .world) (answer-long w k h) gs e)
   where
     less : (a b n : ℕ) → a < b → b ≤ suc n → a ≤ n
     less a b n c d = omega (arith, c, d)
 
-    lower : (h : Given) → takenBy h w ≡ true → leftIn (answerOf h w .world) ≤ length gs
+    lower : (h : BackendAnswer) → takenBy h w ≡ true → leftIn (answerOf h w .world) ≤ length gs
     lower h t = less (leftIn (answerOf h w .world)) (leftIn w) (length gs) (claims.taken-lowers w h t) (f (taken-waits w h t))
 
     again : (b : Bool) → takenBy Succeeds w ≡ b → underWay (answerOf Succeeds w .world) ≡ true → leftIn (answerOf Succeeds w .world) ≤ length gs
@@ -133,7 +131,7 @@ insisting-over w k (g ∷ gs) f = go (takenBy g w) refl (λ (h : Given) e. insis
     again false t b = clash _ (claims.done-taken w (k .long) (k .fit) (sym (ap underWay (claims.untaken-keeps w Succeeds t)) ∙ b)) t
 
     go : (b : Bool) → takenBy g w ≡ b
-        → ((h : Given) → (underWay (answerOf h w .world) ≡ true → leftIn (answerOf h w .world) ≤ length gs) → underWay (afterAll (answerOf h w .world) (insisting (answerOf h w .world) gs)) ≡ false)
+        → ((h : BackendAnswer) → (underWay (answerOf h w .world) ≡ true → leftIn (answerOf h w .world) ≤ length gs) → underWay (afterAll (answerOf h w .world) (insisting (answerOf h w .world) gs)) ≡ false)
         → underWay (afterAll w (cond b (g ∷ insisting (answerOf g w .world) gs) (g ∷ Succeeds ∷ insisting (answerOf Succeeds w .world) gs))) ≡ false
     go true t next = next g (λ _. lower g t)
     go false t next =
@@ -141,33 +139,33 @@ insisting-over w k (g ∷ gs) f = go (takenBy g w) refl (λ (h : Given) e. insis
         (next Succeeds (again (takenBy Succeeds w) refl))
 
 -- done alone
-dones-unrefused : (n : ℕ) (w : World) → Whole w → unrefused w (replicate n Succeeds)
+dones-unrefused : (n : ℕ) (w : World) → Fitting w → unrefused w (replicate n Succeeds)
 unfolding unrefused
 dones-unrefused zero w k = tt
 dones-unrefused (suc n) w k = (claims.done-taken w (k .long) (k .fit), dones-unrefused n (answerDone w .world) (answer-long w k Succeeds))
 
 -- ---- THE CLAIM, from any world that meets the invariant
 
-stands-told : (es : List MemoryRangeWithNode) (v : World) (o : Seen) → Stands es v o → Told v o
+stands-told : (es : List MemoryRangeWithNode) (v : World) (o : Observed) → Stands es v o → Told v o
 stands-told es v o k = record { waits = k .waits; takes = taken-seen es v o k }
 
 -- while a request is under way done is taken
-done-answers : (es : List MemoryRangeWithNode) (v : World) (o : Seen) → Lent es v o → {x : World} {r : Reply} → Made (Answer Succeeds) v x r → isWaiting o ≡ true → isTaken o r ≡ true
+done-answers : (es : List MemoryRangeWithNode) (v : World) (o : Observed) → Lent es v o → {x : World} {r : Reply} → Made (Answer Succeeds) v x r → isWaiting o ≡ true → isTaken o r ≡ true
 done-answers es v o k m b = ap (λ (X : Outcome). isTaken o (X .reply)) (answer-is m) ∙ taken-seen es v o (k .first) Succeeds ∙ claims.done-taken v (k .second .long) (k .second .fit) (sym (k .first .waits) ∙ b)
 
-module _ (es : List MemoryRangeWithNode) (v : World) (o : Seen) (k : Lent es v o) where
-  giving : (gs : List Given) → Answers v o gs
-  unfolding courseOf eventsIn Meanwhile
+module _ (es : List MemoryRangeWithNode) (v : World) (o : Observed) (k : Lent es v o) where
+  giving : (gs : List BackendAnswer) → Answers v o gs
+  unfolding traceOf eventsIn Meanwhile
   giving gs =
       let x = further none tt gs in
       record { world = afterAll v gs; seen = x .seen; calls = x .calls; alone = x .alone; enough = request-ends es (k .first) (x .calls) (x .meanwhile) }
 
-  ending : (gs : List Given) → underWay (afterAll v gs) ≡ false → Ends v o gs
+  ending : (gs : List BackendAnswer) → underWay (afterAll v gs) ≡ false → Ends v o gs
   unfolding giving
   ending gs e = record { answers = giving gs; over = at-stop es (k .first) (giving gs .calls) .waits ∙ e }
 
   -- done so many times
-  done-heard : {x y : World} {p : Seen} {r : Reply} → Lent es x p → Made (Answer Succeeds) x y r → (isTaken p r || not (isWaiting p)) ≡ true
+  done-heard : {x y : World} {p : Observed} {r : Reply} → Lent es x p → Made (Answer Succeeds) x y r → (isTaken p r || not (isWaiting p)) ≡ true
   done-heard {x} {p = p} {r = r} s m = go (isWaiting p) refl
     where
       go : (b : Bool) → isWaiting p ≡ b → (isTaken p r || not b) ≡ true
@@ -179,7 +177,7 @@ module _ (es : List MemoryRangeWithNode) (v : World) (o : Seen) (k : Lent es v o
           or-true false = refl
 
   hearing : (n : ℕ) → Heard v o n
-  unfolding courseOf Meanwhile heardIn
+  unfolding traceOf Meanwhile heardIn
   hearing zero = record { world = v; seen = o; calls = none; meanwhile = tt; heard = refl }
   hearing (suc n) =
       let x = hearing n in
@@ -201,7 +199,7 @@ module _ (es : List MemoryRangeWithNode) (v : World) (o : Seen) (k : Lent es v o
       record {
         told = stands-told es v o (k .first);
         falls = λ h. steps-fall es (k .first) h;
-        few = λ h m. sum-falls (courseOf h) (steps-fall es (k .first) h) m;
+        few = λ h m. sum-falls (traceOf h) (steps-fall es (k .first) h) m;
         still = λ h m. still-fewer es (k .first) h m;
         ends = λ h m. request-ends es (k .first) h m;
         heard = hearing;
@@ -209,23 +207,23 @@ module _ (es : List MemoryRangeWithNode) (v : World) (o : Seen) (k : Lent es v o
         given = giving;
         insisted = λ gs e. ending (insisting v gs) (insisting-over v (k .second) gs (λ _. e));
         unrefused-end = λ gs r e. ending gs (claims.every-request-ends v gs r e);
-        done-ends = ending (replicate (leftIn v) Succeeds) (claims.every-request-ends v (replicate (leftIn v) Succeeds) (dones-unrefused (leftIn v) v (k .second)) (omega (arith, length-replicate {A = Given} (leftIn v) Succeeds)));
+        done-ends = ending (replicate (leftIn v) Succeeds) (claims.every-request-ends v (replicate (leftIn v) Succeeds) (dones-unrefused (leftIn v) v (k .second)) (omega (arith, length-replicate {A = BackendAnswer} (leftIn v) Succeeds)));
       }
 
 -- THE CLAIM, wherever a list of calls from a build stops
-pub every-request-ends : {ram : List ℕ} {i t r : ℕ} {u w v : World} {reply : Reply} {o : Seen} → Built ram i t r u w reply → reply .number ≡ 0 → History w unseen v o → RequestEnds v o
+pub every-request-ends : {ram : List ℕ} {i t r : ℕ} {u w v : World} {reply : Reply} {o : Observed} → Built ram i t r u w reply → reply .number ≡ 0 → History w unseen v o → RequestEnds v o
 every-request-ends {ram} {v = v} {o = o} b d h = lent-ends (entriesOf ram) v o (lent-holds b d h)
 
 -- and wherever one stops from a world that is settled
-pub settled-requests-end : {w v : World} {o : Seen} → Settled w → History w (readOff (w .maps)) v o → RequestEnds v o
+pub settled-requests-end : {w v : World} {o : Observed} → Settled w → History w (readOff (w .maps)) v o → RequestEnds v o
 settled-requests-end {w} {v} {o} k h = lent-ends (entriesIn (w .state)) v o (settled-lent w k h)
 
 -- ---- a request that is under way, of eight pages of RAM: page 3 is shared
 
-asked-waits : (ps : List ℕ) (r : Reply) (p : List ℕ) (o : Seen) → asks r ≡ true → isWaiting (seesCall ps r p o) ≡ true
+asked-waits : (ps : List ℕ) (r : Reply) (p : List ℕ) (o : Observed) → asks r ≡ true → isWaiting (seesCall ps r p o) ≡ true
 asked-waits ps r p o e = ap (λ (b : Bool). isWaiting (cond b (record { op = r; table = p; halted = o .halted; listed = ps; last = o .last; age = o .age }) o)) e ∙ e
 
-abbrev seen8 : Seen
+abbrev seen8 : Observed
 seen8 = sees sharing8 (asking8 .reply) (asking8 .world .pages) unseen
 
 pub share8-waits : isWaiting seen8 ≡ true

@@ -21,11 +21,11 @@ use Rattle.lock_entries.specs.Calls.{Kept, lockOf, unlockOf}
 use Rattle.setting_entries.specs.Calls.{Enabled, enableOf}
 use Rattle.queries.specs.Queries as queries
 use Rattle.queries.specs.Queries.{queryOf}
-use Rattle.visibility_claims.specs.Whole.{Given, Succeeds, Fails}
+use Rattle.visibility_claims.specs.Whole.{BackendAnswer, Succeeds, Fails}
 use Rattle.history.specs.Call.{Writer, Visibility, Protection, Default, Register, Unregister, Lock, Unlock, Enable, TellEnabled, TellDefault, IsOverlay, Query, Fault, Lower, Access, Reader, Call, Write, Read, Answer, Result, givesWriter, shown, gives}
 use Rattle.history.specs.Made.{Run, Seven, Nine, Made, visibility, done, failed, protection, default, register, unregister, lock, unlock, enable, tellEnabled, tellDefault, isOverlay, query, fault, lower, access, Built, build}
 use Rattle.history.specs.History.{IsRefusal, block, other, lockBlock, lockTables}
-use Rattle.history.specs.Callable.{Callable, Strays}
+use Rattle.history.specs.Callable.{Callable, AnyOtherLengths}
 use Rattle.history.specs.Answered.{given}
 use Rattle.history.proofs.Bits.{clash}
 use Rattle.history.proofs.Fits.{mapsIn}
@@ -103,7 +103,7 @@ read-made (Fault mapping view address writes failure) w =
 read-made (Lower vtl page) w = lower (w .pages) (w .tables) lasting7 (seven w (vtl, (page, tt))) (shown (Lower vtl page) w) (seven w (vtl, (page, tt))) refl
 read-made (Access page) w = access (w .pages) (w .tables) lasting7 (seven w (page, tt)) (shown (Access page) w) (seven w (page, tt)) refl
 
-answer-made : (g : Given) (w : World) → Made (Answer g) w (gives (Answer g) w .world) (gives (Answer g) w .answer)
+answer-made : (g : BackendAnswer) (w : World) → Made (Answer g) w (gives (Answer g) w .world) (gives (Answer g) w .answer)
 answer-made Succeeds w = let X : Outcome = answerDone w in done lasting9 (nine w tt) (X .reply) (nine (X .world) tt) refl
 answer-made (Fails code n) w = let X : Outcome = answerFailed w code n in failed lasting9 (nine w (code, (n, tt))) (X .reply) (nine (X .world) (code, (n, tt))) refl
 
@@ -134,8 +134,8 @@ any-call w = record { made = made; built = built; refused = λ ram isolation tra
 
 -- ---- something of another length, whatever was last left
 
-pub any-stray : (u : World) → Strays u
-any-stray u =
+pub any-other-lengths : (u : World) → AnyOtherLengths u
+any-other-lengths u =
     record {
       no-block = block (λ e. absurd (omega (arith, e)));
       no-pages = other refl (none (mapsIn u));

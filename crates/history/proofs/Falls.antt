@@ -13,84 +13,84 @@ use Rattle.protector_state.specs.declared.Reply.{Reply}
 use Rattle.protector_state.specs.State.{phaseIn}
 use Rattle.protector_state.specs.Changing.{stageIn, isChanging}
 use Rattle.call_refusals.specs.World.{World, Outcome, fits, statusOf, takes, takesAt}
-use Rattle.visibility_claims.specs.Whole.{Given, Succeeds, Fails}
+use Rattle.visibility_claims.specs.Whole.{BackendAnswer, Succeeds, Fails}
 use Rattle.visibility_claims.specs.Calls.{answerOf, takenBy}
 use Rattle.visibility_claims.specs.Ends.{leftIn, underWay}
 use Rattle.visibility_claims.proofs.Ends as claims
 use Rattle.visibility_claims.proofs.Refusals.{answer-takes}
-use Rattle.history.specs.Seen.{Seen, isWaiting, isTaken}
+use Rattle.history.specs.Observed.{Observed, isWaiting, isTaken}
 use Rattle.history.specs.Call.{Write, Read, Answer, Result, Effect}
 use Rattle.history.specs.Made.{Made}
-use Rattle.history.specs.History.{History, none, call, stray, refusedBuild, Stray}
+use Rattle.history.specs.History.{History, none, call, callWithOtherLengths, refusedBuild, OtherLengths}
 use Rattle.history.specs.Answered.{given}
-use Rattle.history.specs.Ends.{courseOf, Falls}
+use Rattle.history.specs.Ends.{traceOf, Falls}
 use Rattle.history.proofs.Bits.{clash}
 use Rattle.history.proofs.World.{Stands, phase-waits}
 use Rattle.history.proofs.Answers.{taken-seen}
 use Rattle.history.proofs.Is.{is}
-use Rattle.history.proofs.Refused.{stray-untaken, busy-no-effect}
+use Rattle.history.proofs.Refused.{other-lengths-untaken, busy-no-effect}
 use Rattle.history.proofs.Histories.{stands-kept, history-keeps}
 
 -- ---- answers
 
-pub taken-waits : (w : World) (g : Given) → takenBy g w ≡ true → underWay w ≡ true
+pub taken-waits : (w : World) (g : BackendAnswer) → takenBy g w ≡ true → underWay w ≡ true
 taken-waits w g t = by g t
   where
     go : (b f : Bool) → cond b (takesAt (stageIn (w .state)) f) (takes (phaseIn (w .state)) f) ≡ true → eqb (cond b refusal.busy (statusOf (phaseIn (w .state)))) refusal.busy ≡ true
     go true f e = refl
     go false f e = phase-waits (phaseIn (w .state)) f e
 
-    by : (g : Given) → takenBy g w ≡ true → underWay w ≡ true
+    by : (g : BackendAnswer) → takenBy g w ≡ true → underWay w ≡ true
     by Succeeds t = go (isChanging (w .state)) false (answer-takes (w .state) (fits w) false (eqb-true _ _ t))
     by (Fails code n) t = go (isChanging (w .state)) true (answer-takes (w .state) (fits w) true (eqb-true _ _ t))
 
-module _ (es : List MemoryRangeWithNode) (u : World) (o : Seen) (k : Stands es u o) where
+module _ (es : List MemoryRangeWithNode) (u : World) (o : Observed) (k : Stands es u o) where
   abbrev Steps : World → Reply → Type 0
   Steps v r = (isTaken o r ≡ true → leftIn v < leftIn u) × (isTaken o r ≡ false → v ≡ u)
 
   -- while nothing is under way it begins nothing
-  answer-begins : (g : Given) (v : World) (r : Reply) (p : Seen) → given v r ≡ answerOf g u → Stands es v p → isWaiting p ≡ true → isWaiting o ≡ true
+  answer-begins : (g : BackendAnswer) (v : World) (r : Reply) (p : Observed) → given v r ≡ answerOf g u → Stands es v p → isWaiting p ≡ true → isWaiting o ≡ true
   answer-begins g v r p e s b = k .waits ∙ go (takenBy g u) refl
     where
       go : (t : Bool) → takenBy g u ≡ t → underWay u ≡ true
       go true t = taken-waits u g t
       go false t = sym (ap underWay (ap (λ (X : Outcome). X .world) e ∙ claims.untaken-keeps u g t)) ∙ (sym (s .waits) ∙ b)
 
-  stray-begins : (p : Seen) → Stands es u p → isWaiting p ≡ true → isWaiting o ≡ true
-  stray-begins p s b = k .waits ∙ (sym (s .waits) ∙ b)
+  other-lengths-begins : (p : Observed) → Stands es u p → isWaiting p ≡ true → isWaiting o ≡ true
+  other-lengths-begins p s b = k .waits ∙ (sym (s .waits) ∙ b)
 
-  answer-falls : (g : Given) (v : World) (r : Reply) → given v r ≡ answerOf g u → Steps v r
+  answer-falls : (g : BackendAnswer) (v : World) (r : Reply) → given v r ≡ answerOf g u → Steps v r
   answer-falls g v r e =
       let t : isTaken o r ≡ takenBy g u = ap (λ (X : Outcome). isTaken o (X .reply)) e ∙ taken-seen es u o k g in
       let d : v ≡ answerOf g u .world = ap (λ (X : Outcome). X .world) e in
       (λ b. subst (λ (v : World). leftIn v < leftIn u) (sym d) (claims.taken-lowers u g (sym t ∙ b)), λ b. d ∙ claims.untaken-keeps u g (sym t ∙ b))
 
   -- one that is lent something of another length isn't taken
-  stray-falls : (x y : World) (g : Given) (r : Reply) → Stray u x → given y r ≡ answerOf g x → Steps u r
-  stray-falls x y g r s e = (λ b. clash _ b (ap (λ (X : Outcome). isTaken o (X .reply)) e ∙ stray-untaken u x s o (k .halts) g), λ _. refl)
+  other-lengths-falls : (x y : World) (g : BackendAnswer) (r : Reply) → OtherLengths u x → given y r ≡ answerOf g x → Steps u r
+  other-lengths-falls x y g r s e = (λ b. clash _ b (ap (λ (X : Outcome). isTaken o (X .reply)) e ∙ other-lengths-untaken u x s o (k .halts) g), λ _. refl)
 
 -- ---- each call of a list, from any world that meets the invariant
 
 -- what an answer gave, as its outcome
-pub answer-is : {g : Given} {u v : World} {r : Reply} → Made (Answer g) u v r → given v r ≡ answerOf g u
+pub answer-is : {g : BackendAnswer} {u v : World} {r : Reply} → Made (Answer g) u v r → given v r ≡ answerOf g u
 answer-is m = ap (λ (X : Effect Reply). given (X .world) (X .answer)) (is m)
 
-module _ (es : List MemoryRangeWithNode) {w : World} {a : Seen} (k : Stands es w a) where
-  pub at-stop : {v : World} {o : Seen} → History w a v o → Stands es v o
+module _ (es : List MemoryRangeWithNode) {w : World} {a : Observed} (k : Stands es w a) where
+  pub at-stop : {v : World} {o : Observed} → History w a v o → Stands es v o
   at-stop h = history-keeps (Stands es) (stands-kept es) h k
 
-  pub waiting : {v : World} {o : Seen} (h : History w a v o) → isWaiting o ≡ true → underWay v ≡ true
+  pub waiting : {v : World} {o : Observed} (h : History w a v o) → isWaiting o ≡ true → underWay v ≡ true
   waiting h b = sym (at-stop h .waits) ∙ b
 
-  pub steps-fall : {v : World} {o : Seen} (h : History w a v o) → Falls (courseOf h)
-  unfolding courseOf Falls
+  pub steps-fall : {v : World} {o : Observed} (h : History w a v o) → Falls (traceOf h)
+  unfolding traceOf Falls
   steps-fall none = tt
   steps-fall (call {u} h (Write d) r m) = (steps-fall h, λ b. ap (λ (X : Effect Reply). X .world) (is m) ∙ busy-no-effect d u (waiting h b) .keeps)
   steps-fall (call h (Read q) r m) = (steps-fall h, λ b. ap (λ (X : Effect (Result (Read q))). X .world) (is m))
   steps-fall (call {u} {v} {o} h (Answer g) r m) =
       let f = answer-falls es u o (at-stop h) g v r (answer-is m) in (steps-fall h, f .0, f .1, answer-begins es u o (at-stop h) g v r _ (answer-is m) (at-stop (call h (Answer g) r m)))
-  steps-fall (stray h (Write d) r m s) = (steps-fall h, λ b. refl)
-  steps-fall (stray h (Read q) r m s) = (steps-fall h, λ b. refl)
-  steps-fall (stray {u} {x} {y} {o} h (Answer g) r m s) =
-      let f = stray-falls es u o (at-stop h) x y g r s (answer-is m) in (steps-fall h, f .0, f .1, stray-begins es u o (at-stop h) _ (at-stop (stray h (Answer g) r m s)))
+  steps-fall (callWithOtherLengths h (Write d) r m s) = (steps-fall h, λ b. refl)
+  steps-fall (callWithOtherLengths h (Read q) r m s) = (steps-fall h, λ b. refl)
+  steps-fall (callWithOtherLengths {u} {x} {y} {o} h (Answer g) r m s) =
+      let f = other-lengths-falls es u o (at-stop h) x y g r s (answer-is m) in (steps-fall h, f .0, f .1, other-lengths-begins es u o (at-stop h) _ (at-stop (callWithOtherLengths h (Answer g) r m s)))
   steps-fall (refusedBuild h ram i t l r m f) = (steps-fall h, λ b. refl)

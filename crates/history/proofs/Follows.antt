@@ -21,24 +21,24 @@ use Rattle.protection_entries.specs.Calls.{protectionTaken, protectionOf, defau
 use Rattle.overlay_entries.specs.Calls.{registerTaken, registerOf, unregisterTaken, unregisterOf}
 use Rattle.lock_entries.specs.Calls.{ended, lockRefusal, lockTaken, lockOf, unlockTaken, unlockOf}
 use Rattle.setting_entries.specs.Calls.{enableRefusal, enabled, enableOf}
-use Rattle.visibility_claims.specs.Whole.{Given}
+use Rattle.visibility_claims.specs.Whole.{BackendAnswer}
 use Rattle.visibility_claims.specs.Calls.{answerOf, takenBy, asksIn, Told, follow}
 use Rattle.visibility_claims.proofs.Ends as claims
 use Rattle.visibility_claims.proofs.Calls.{taken-input, visibility-is-whole}
 use Rattle.change_claims.proofs.Calls.{protection-is-whole, register-is-whole, unregister-is-whole}
 use Rattle.change_claims.proofs.Default.{default-is-whole}
-use Rattle.history.specs.Seen.{Seen, asks, isWaiting, isTaken, seesTaken, seesCall, seesAnswer}
+use Rattle.history.specs.Observed.{Observed, asks, isWaiting, isTaken, seesTaken, seesCall, seesAnswer}
 use Rattle.history.specs.Call.{Reader, Shown, Writer, Visibility, Protection, Default, Register, Unregister, Lock, Unlock, Enable, Write, Read, Answer, Result, Effect, givesWriter, seesWriter}
 use Rattle.history.specs.Made.{Made, Built}
-use Rattle.history.specs.History.{Wrong, IsRefusal, History, none, call, stray, refusedBuild}
+use Rattle.history.specs.History.{OtherCallLengths, IsRefusal, History, none, call, callWithOtherLengths, refusedBuild}
 use Rattle.history.specs.Answered.{given}
-use Rattle.history.specs.Ends.{Course, start, answer, other, courseOf, Falls, Meanwhile}
-use Rattle.history.specs.Requests.{givenIn, askedIn, toldIn, WholeOf, IsWhole, Begun, nothing, since, thenCall, thenStray, thenBuild, begunIn, AskedAt, Asked}
+use Rattle.history.specs.Ends.{Trace, start, answer, other, traceOf, Falls, Meanwhile}
+use Rattle.history.specs.Requests.{givenIn, askedIn, toldIn, WholeOf, IsWhole, Begun, nothing, since, thenCall, thenCallWithOtherLengths, thenBuild, begunIn, AskedAt, Asked}
 use Rattle.history.proofs.Bits.{clash}
 use Rattle.history.proofs.World.{Stands}
 use Rattle.history.proofs.Answers.{taken-seen}
 use Rattle.history.proofs.Is.{is}
-use Rattle.history.proofs.Refused.{stray-unseen, stray-untaken, busy-no-effect}
+use Rattle.history.proofs.Refused.{other-lengths-unseen, other-lengths-untaken, busy-no-effect}
 use Rattle.history.proofs.Falls.{answer-is, at-stop, waiting, steps-fall}
 
 -- ---- what the answers lead to, with one more that is taken
@@ -46,14 +46,14 @@ use Rattle.history.proofs.Falls.{answer-is, at-stop, waiting, steps-fal
 abbrev joined : Outcome → Told → Told
 joined X r = record { asked = asksIn (X .reply) ++ r .asked; last = r .last }
 
-abbrev added : Told → Given → Told
+abbrev added : Told → BackendAnswer → Told
 added r g = record { asked = r .asked ++ asksIn (answerOf g (r .last .world) .reply); last = answerOf g (r .last .world) }
 
-joined-added : (X : Outcome) (r : Told) (g : Given) → joined X (added r g) ≡ added (joined X r) g
+joined-added : (X : Outcome) (r : Told) (g : BackendAnswer) → joined X (added r g) ≡ added (joined X r) g
 joined-added X r g =
     ap (λ (l : List Reply). record { asked = l; last = answerOf g (r .last .world) }) (sym (append-assoc (asksIn (X .reply)) (r .asked) (asksIn (answerOf g (r .last .world) .reply))))
 
-follow-taken : (X : Outcome) (gs : List Given) (g : Given) → takenBy g (follow X gs .last .world) ≡ true → follow X (gs ++ (g ∷ [])) ≡ added (follow X gs) g
+follow-taken : (X : Outcome) (gs : List BackendAnswer) (g : BackendAnswer) → takenBy g (follow X gs .last .world) ≡ true → follow X (gs ++ (g ∷ [])) ≡ added (follow X gs) g
 unfolding follow
 follow-taken X [] g t = ap (λ (b : Bool). cond b (added (follow X []) g) (follow X [])) t
 follow-taken X (g₀ ∷ gs) g t = go (takenBy g₀ (X .world)) t (λ t. follow-taken (answerOf g₀ (X .world)) gs g t) (λ t. follow-taken X gs g t)
@@ -67,13 +67,13 @@ follow-taken X (g₀ ∷ gs) g t = go (takenBy g₀ (X .world)) t (λ t. follow-
 
 -- ---- each call of a list: a taken answer gives what the definition gives; nothing else moves a request that is under way
 
-unfoldable Goes : {w v : World} {a o : Seen} → Course w a v o → Type 0
+unfoldable Goes : {w v : World} {a o : Observed} → Trace w a v o → Type 0
 Goes start = Unit {0}
 Goes (answer {u} {v} {o} {p} h g b) = Goes h × (b ≡ true → (takenBy g u ≡ true) × (given v (p .op) ≡ answerOf g u)) × (b ≡ false → (v ≡ u) × (p .op ≡ o .op))
 Goes (other {u} {v} {o} {p} h) = Goes h × (isWaiting o ≡ true → (v ≡ u) × (p .op ≡ o .op))
 
 -- so the calls tell what following the answers does
-told-follows : {w v : World} {a o : Seen} (X : Outcome) (h : Course w a v o) → Goes h → Meanwhile h → given w (a .op) ≡ X → toldIn h ≡ follow X (givenIn h)
+told-follows : {w v : World} {a o : Observed} (X : Outcome) (h : Trace w a v o) → Goes h → Meanwhile h → given w (a .op) ≡ X → toldIn h ≡ follow X (givenIn h)
 unfolding Goes Meanwhile givenIn askedIn follow
 told-follows X start f m e = ap (λ (X : Outcome). record { asked = asksIn (X .reply); last = X }) e
 told-follows X (answer {u} {v} {o} {p} h g b) f m e = go (told-follows X h (f .0) m e) b (f .1) (f .2)
@@ -89,16 +89,16 @@ told-follows X (answer {u} {v} {o} {p} h g b) f m e = go (told-follows X h (f .0
         let t = k refl in
         ap₂ (λ (l : List Reply) (Z : Outcome). record { asked = l; last = Z }) (append-nil (askedIn h)) (ap₂ (λ (v : World) (r : Reply). given v r) (t .0) (t .1))
         ∙ before
-        ∙ sym (ap (λ (gs : List Given). follow X gs) (append-nil (givenIn h)))
+        ∙ sym (ap (λ (gs : List BackendAnswer). follow X gs) (append-nil (givenIn h)))
 told-follows X (other {u} {v} {o} {p} h) f m e =
     let t = f .1 (m .1) in
     ap (λ (Z : Outcome). record { asked = askedIn h; last = Z }) (ap₂ (λ (v : World) (r : Reply). given v r) (t .0) (t .1)) ∙ told-follows X h (f .0) (m .0) e
 
-module _ (es : List MemoryRangeWithNode) (u : World) (o : Seen) (k : Stands es u o) where
-  abbrev Answers : World → Reply → List ℕ → Given → Type 0
+module _ (es : List MemoryRangeWithNode) (u : World) (o : Observed) (k : Stands es u o) where
+  abbrev Answers : World → Reply → List ℕ → BackendAnswer → Type 0
   Answers v r t g = (isTaken o r ≡ true → (takenBy g u ≡ true) × (given v (seesAnswer g r t o .op) ≡ answerOf g u)) × (isTaken o r ≡ false → (v ≡ u) × (seesAnswer g r t o .op ≡ o .op))
 
-  answer-goes : (g : Given) (v : World) (r : Reply) → given v r ≡ answerOf g u → Answers v r (v .pages) g
+  answer-goes : (g : BackendAnswer) (v : World) (r : Reply) → given v r ≡ answerOf g u → Answers v r (v .pages) g
   answer-goes g v r e =
       let t : isTaken o r ≡ takenBy g u = ap (λ (X : Outcome). isTaken o (X .reply)) e ∙ taken-seen es u o k g in
       let d : v ≡ answerOf g u .world = ap (λ (X : Outcome). X .world) e in (
@@ -106,29 +106,29 @@ module _ (es : List MemoryRangeWithNode) (u : World) (o : Seen) (k : Stands es u
         λ b. (d ∙ claims.untaken-keeps u g (sym t ∙ b), ap (λ (c : Bool). cond c (seesTaken g r (v .pages) o) o .op) b),
       )
 
-  untaken-goes : (g : Given) (r : Reply) (t : List ℕ) → isTaken o r ≡ false → Answers u r t g
+  untaken-goes : (g : BackendAnswer) (r : Reply) (t : List ℕ) → isTaken o r ≡ false → Answers u r t g
   untaken-goes g r t f = (λ b. clash _ b f, λ b. (refl, ap (λ (c : Bool). cond c (seesTaken g r t o) o .op) b))
 
-module _ (es : List MemoryRangeWithNode) {w : World} {a : Seen} (k : Stands es w a) where
-  steps-go : {v : World} {o : Seen} (h : History w a v o) → Goes (courseOf h)
-  unfolding courseOf Goes
+module _ (es : List MemoryRangeWithNode) {w : World} {a : Observed} (k : Stands es w a) where
+  steps-go : {v : World} {o : Observed} (h : History w a v o) → Goes (traceOf h)
+  unfolding traceOf Goes
   steps-go none = tt
   steps-go (call {u} {v} {o} h (Write d) r m) = (
     steps-go h,
     λ b. (
       ap (λ (X : Effect Reply). X .world) (is m) ∙ busy-no-effect d u (waiting es k h b) .keeps,
-      ap (λ (X : Effect Reply). seesWriter d (X .answer) (X .world .pages) o .op) (is m) ∙ ap (λ (p : Seen). p .op) (busy-no-effect d u (waiting es k h b) .unseen o),
+      ap (λ (X : Effect Reply). seesWriter d (X .answer) (X .world .pages) o .op) (is m) ∙ ap (λ (p : Observed). p .op) (busy-no-effect d u (waiting es k h b) .unseen o),
     ),
   )
   steps-go (call h (Read q) r m) = (steps-go h, λ b. (ap (λ (X : Effect (Result (Read q))). X .world) (is m), refl))
   steps-go (call {u} {v} {o} h (Answer g) r m) = let f = answer-goes es u o (at-stop es k h) g v r (answer-is m) in (steps-go h, f .0, f .1)
-  steps-go (stray {u} {x} {y} {o} h (Write d) r m s) = (
+  steps-go (callWithOtherLengths {u} {x} {y} {o} h (Write d) r m s) = (
     steps-go h,
-    λ b. (refl, ap (λ (X : Effect Reply). seesWriter d (X .answer) (X .world .pages) o .op) (is m) ∙ ap (λ (p : Seen). p .op) (stray-unseen (Write d) u x o (at-stop es k h .halts) s)),
+    λ b. (refl, ap (λ (X : Effect Reply). seesWriter d (X .answer) (X .world .pages) o .op) (is m) ∙ ap (λ (p : Observed). p .op) (other-lengths-unseen (Write d) u x o (at-stop es k h .halts) s)),
   )
-  steps-go (stray h (Read q) r m s) = (steps-go h, λ b. (refl, refl))
-  steps-go (stray {u} {x} {y} {o} h (Answer g) r m s) =
-      let f = untaken-goes es u o (at-stop es k h) g r (y .pages) (ap (λ (X : Outcome). isTaken o (X .reply)) (answer-is m) ∙ stray-untaken u x s o (at-stop es k h .halts) g) in (steps-go h, f .0, f .1)
+  steps-go (callWithOtherLengths h (Read q) r m s) = (steps-go h, λ b. (refl, refl))
+  steps-go (callWithOtherLengths {u} {x} {y} {o} h (Answer g) r m s) =
+      let f = untaken-goes es u o (at-stop es k h) g r (y .pages) (ap (λ (X : Outcome). isTaken o (X .reply)) (answer-is m) ∙ other-lengths-untaken u x s o (at-stop es k h .halts) g) in (steps-go h, f .0, f .1)
   steps-go (refusedBuild h ram i t l r m f) = (steps-go h, λ b. (refl, refl))
 
 -- ---- a call that asks for something is taken, and with its answers in turn is the whole call
@@ -188,7 +188,7 @@ enable-silent s = go (eqb (enableRefusal s) 0)
 abbrev outcomeOf : Writer → World → Outcome
 outcomeOf d u = given (givesWriter d u .world) (givesWriter d u .answer)
 
-follows-whole : (d : Writer) (u : World) → ordered 0 (entriesIn (u .state)) ≡ true → asks (givesWriter d u .answer) ≡ true → (gs : List Given) → WholeOf d u gs (follow (outcomeOf d u) gs)
+follows-whole : (d : Writer) (u : World) → ordered 0 (entriesIn (u .state)) ≡ true → asks (givesWriter d u .answer) ≡ true → (gs : List BackendAnswer) → WholeOf d u gs (follow (outcomeOf d u) gs)
 unfolding visibilityOf protectionOf registerOf unregisterOf
 follows-whole (Visibility vtl share list) u e a gs = visibility-is-whole u vtl share list gs (taken-input u vtl share list (decided-taken u _ (visibilityTaken u (vtlOf vtl) (boolOf share) list) a))
 follows-whole (Protection vtl flags list) u e a gs = protection-is-whole u vtl flags list (decided-taken u _ (protectionTaken u (vtlOf vtl) flags list) a) gs
@@ -200,7 +200,7 @@ follows-whole (Unlock vtl list) u e a gs = clash _ a (unlock-silent (u .state) (
 follows-whole Enable u e a gs = clash _ a (enable-silent (u .state))
 
 -- what is seen of such a call is its reply
-asks-seen : (d : Writer) (u : World) (r : Reply) → r ≡ givesWriter d u .answer → asks r ≡ true → (t : List ℕ) (o : Seen) → seesWriter d r t o .op ≡ r
+asks-seen : (d : Writer) (u : World) (r : Reply) → r ≡ givesWriter d u .answer → asks r ≡ true → (t : List ℕ) (o : Observed) → seesWriter d r t o .op ≡ r
 asks-seen d u r e a t o = by d e
   where
     seen : (ps : List ℕ) → seesCall ps r t o .op ≡ r
@@ -218,18 +218,18 @@ asks-seen d u r e a t o = by d e
 
 -- ---- a call of a list
 
-module _ {u v : World} {d : Writer} {r : Reply} (m : Made (Write d) u v r) (a : asks r ≡ true) (o : Seen) where
+module _ {u v : World} {d : Writer} {r : Reply} (m : Made (Write d) u v r) (a : asks r ≡ true) (o : Observed) where
   made : given v r ≡ outcomeOf d u
   made = ap (λ (X : Effect Reply). given (X .world) (X .answer)) (is m)
 
   -- from any world that meets the invariant, whatever other calls come meanwhile
   pub whole-from : (es : List MemoryRangeWithNode) → Stands es u o → ordered 0 es ≡ true
-      → {x : World} {p : Seen} (h : History v (seesWriter d r (v .pages) o) x p) → Meanwhile (courseOf h) → IsWhole d u (courseOf h)
+      → {x : World} {p : Observed} (h : History v (seesWriter d r (v .pages) o) x p) → Meanwhile (traceOf h) → IsWhole d u (traceOf h)
   whole-from es k e h b =
-      subst (λ (t : Told). WholeOf d u (givenIn (courseOf h)) t)
-      (sym (told-follows (outcomeOf d u) (courseOf h) (steps-go es (at-stop es k (call none (Write d) r m)) h) b
+      subst (λ (t : Told). WholeOf d u (givenIn (traceOf h)) t)
+      (sym (told-follows (outcomeOf d u) (traceOf h) (steps-go es (at-stop es k (call none (Write d) r m)) h) b
       (ap (λ (r : Reply). given v r) (asks-seen d u r (ap (λ (X : Outcome). X .reply) made) a (v .pages) o) ∙ made)))
-      (follows-whole d u (subst (λ (es : List MemoryRangeWithNode). ordered 0 es ≡ true) (sym (k .layout)) e) (sym (ap (λ (X : Outcome). asks (X .reply)) made) ∙ a) (givenIn (courseOf h)))
+      (follows-whole d u (subst (λ (es : List MemoryRangeWithNode). ordered 0 es ≡ true) (sym (k .layout)) e) (sym (ap (λ (X : Outcome). asks (X .reply)) made) ∙ a) (givenIn (traceOf h)))
 
 -- ---- each of a list, from any world that meets the invariant, nothing being under way
 
@@ -237,7 +237,7 @@ none-waits : (b c : Bool) → (b ≡ true → c ≡ true) → c ≡ false → b 
 none-waits true c f e = clash c (f refl) e
 none-waits false c f e = refl
 
-silent-seen : (d : Writer) (r : Reply) → asks r ≡ false → (t : List ℕ) (o : Seen) → seesWriter d r t o ≡ o
+silent-seen : (d : Writer) (r : Reply) → asks r ≡ false → (t : List ℕ) (o : Observed) → seesWriter d r t o ≡ o
 silent-seen d r e t o = by d
   where
     seen : (ps : List ℕ) → seesCall ps r t o ≡ o
@@ -253,51 +253,51 @@ silent-seen d r e t o = by d
     by (Unlock vtl list) = refl
     by Enable = refl
 
-module _ (es : List MemoryRangeWithNode) {w : World} {a : Seen} (k : Stands es w a) (order : ordered 0 es ≡ true) (free : isWaiting a ≡ false) where
+module _ (es : List MemoryRangeWithNode) {w : World} {a : Observed} (k : Stands es w a) (order : ordered 0 es ≡ true) (free : isWaiting a ≡ false) where
   -- the request's call asked for something, and no other began since
-  abbrev Open : {x : World} {p : Seen} → Begun w a x p → Type 0
+  abbrev Open : {x : World} {p : Observed} → Begun w a x p → Type 0
   Open {x} {p} nothing = isWaiting p ≡ false
-  Open (since g d r m h) = (asks r ≡ true) × Meanwhile (courseOf h)
+  Open (since g d r m h) = (asks r ≡ true) × Meanwhile (traceOf h)
 
-  open-do : {u v : World} {o : Seen} (b : Begun w a u o) → Open b → isWaiting o ≡ true → (d : Writer) (r : Reply) (m : Made (Write d) u v r) → Open (thenCall b (Write d) r m)
-  unfolding courseOf Meanwhile
+  open-do : {u v : World} {o : Observed} (b : Begun w a u o) → Open b → isWaiting o ≡ true → (d : Writer) (r : Reply) (m : Made (Write d) u v r) → Open (thenCall b (Write d) r m)
+  unfolding traceOf Meanwhile
   open-do nothing f e d r m = clash _ e f
   open-do (since g d s n h) f e c r m = (f .0, (f .1, e))
 
-  open-read : {u v : World} {o : Seen} (b : Begun w a u o) → Open b → isWaiting o ≡ true → (q : Reader) (r : Shown q) (m : Made (Read q) u v r) → Open (thenCall b (Read q) r m)
-  unfolding courseOf Meanwhile
+  open-read : {u v : World} {o : Observed} (b : Begun w a u o) → Open b → isWaiting o ≡ true → (q : Reader) (r : Shown q) (m : Made (Read q) u v r) → Open (thenCall b (Read q) r m)
+  unfolding traceOf Meanwhile
   open-read nothing f e q r m = clash _ e f
   open-read (since g d s n h) f e q r m = (f .0, (f .1, e))
 
-  open-answer : {u v : World} {o : Seen} (b : Begun w a u o) → Open b → (g : Given) (r : Reply) (m : Made (Answer g) u v r)
+  open-answer : {u v : World} {o : Observed} (b : Begun w a u o) → Open b → (g : BackendAnswer) (r : Reply) (m : Made (Answer g) u v r)
       → (isWaiting (seesAnswer g r (v .pages) o) ≡ true → isWaiting o ≡ true) → Open (thenCall b (Answer g) r m)
-  unfolding courseOf Meanwhile
+  unfolding traceOf Meanwhile
   open-answer nothing f g r m e = none-waits _ _ e f
   open-answer (since g d s n h) f c r m e = f
 
-  astray-do : {u x y : World} {o : Seen} (b : Begun w a u o) → Open b → isWaiting o ≡ true → (d : Writer) (r : Reply) (m : Made (Write d) x y r) (s : Wrong (Write d) u x) → Open (thenStray b (Write d) r m s)
-  unfolding courseOf Meanwhile
-  astray-do nothing f e d r m s = clash _ e f
-  astray-do (since g d s n h) f e c r m t = (f .0, (f .1, e))
+  other-lengths-do : {u x y : World} {o : Observed} (b : Begun w a u o) → Open b → isWaiting o ≡ true → (d : Writer) (r : Reply) (m : Made (Write d) x y r) (s : OtherCallLengths (Write d) u x) → Open (thenCallWithOtherLengths b (Write d) r m s)
+  unfolding traceOf Meanwhile
+  other-lengths-do nothing f e d r m s = clash _ e f
+  other-lengths-do (since g d s n h) f e c r m t = (f .0, (f .1, e))
 
-  astray-read : {u x y : World} {o : Seen} (b : Begun w a u o) → Open b → isWaiting o ≡ true → (q : Reader) (r : Shown q) (m : Made (Read q) x y r) (s : Wrong (Read q) u x) → Open (thenStray b (Read q) r m s)
-  unfolding courseOf Meanwhile
-  astray-read nothing f e q r m s = clash _ e f
-  astray-read (since g d s n h) f e q r m t = (f .0, (f .1, e))
+  other-lengths-read : {u x y : World} {o : Observed} (b : Begun w a u o) → Open b → isWaiting o ≡ true → (q : Reader) (r : Shown q) (m : Made (Read q) x y r) (s : OtherCallLengths (Read q) u x) → Open (thenCallWithOtherLengths b (Read q) r m s)
+  unfolding traceOf Meanwhile
+  other-lengths-read nothing f e q r m s = clash _ e f
+  other-lengths-read (since g d s n h) f e q r m t = (f .0, (f .1, e))
 
-  astray-answer : {u x y : World} {o : Seen} (b : Begun w a u o) → Open b → (g : Given) (r : Reply) (m : Made (Answer g) x y r) (s : Wrong (Answer g) u x)
-      → (isWaiting (seesAnswer g r (y .pages) o) ≡ true → isWaiting o ≡ true) → Open (thenStray b (Answer g) r m s)
-  unfolding courseOf Meanwhile
-  astray-answer nothing f g r m s e = none-waits _ _ e f
-  astray-answer (since g d s n h) f c r m t e = f
+  other-lengths-answer : {u x y : World} {o : Observed} (b : Begun w a u o) → Open b → (g : BackendAnswer) (r : Reply) (m : Made (Answer g) x y r) (s : OtherCallLengths (Answer g) u x)
+      → (isWaiting (seesAnswer g r (y .pages) o) ≡ true → isWaiting o ≡ true) → Open (thenCallWithOtherLengths b (Answer g) r m s)
+  unfolding traceOf Meanwhile
+  other-lengths-answer nothing f g r m s e = none-waits _ _ e f
+  other-lengths-answer (since g d s n h) f c r m t e = f
 
-  astray-build : {u x y : World} {o : Seen} (b : Begun w a u o) → Open b → isWaiting o ≡ true → (ram : List ℕ) (i t l : ℕ) (r : Reply) (m : Built ram i t l x y r) (n : IsRefusal r) → Open (thenBuild b ram i t l r m n)
-  unfolding courseOf Meanwhile
-  astray-build nothing f e ram i t l r m n = clash _ e f
-  astray-build (since g d s n h) f e ram i t l r m z = (f .0, (f .1, e))
+  other-lengths-build : {u x y : World} {o : Observed} (b : Begun w a u o) → Open b → isWaiting o ≡ true → (ram : List ℕ) (i t l : ℕ) (r : Reply) (m : Built ram i t l x y r) (n : IsRefusal r) → Open (thenBuild b ram i t l r m n)
+  unfolding traceOf Meanwhile
+  other-lengths-build nothing f e ram i t l r m n = clash _ e f
+  other-lengths-build (since g d s n h) f e ram i t l r m z = (f .0, (f .1, e))
 
-  begun-open : {x : World} {p : Seen} (h : History w a x p) → Open (begunIn h)
-  unfolding begunIn courseOf Meanwhile Falls
+  begun-open : {x : World} {p : Observed} (h : History w a x p) → Open (begunIn h)
+  unfolding begunIn traceOf Meanwhile Falls
   begun-open none = free
   begun-open (call {u} {v} {o} h (Write d) r m) = go (begun-open h) (asks r) refl (isWaiting o) refl
     where
@@ -311,30 +311,30 @@ module _ (es : List MemoryRangeWithNode) {w : World} {a : Seen} (k : Stands es w
       go f true i = open-read (begunIn h) f i q r m
       go f false i = i
   begun-open (call h (Answer g) r m) = open-answer (begunIn h) (begun-open h) g r m (steps-fall es k (call h (Answer g) r m) .3)
-  begun-open (stray {u} {x} {y} {o} h (Write d) r m s) = go (begun-open h) (isWaiting o) refl
+  begun-open (callWithOtherLengths {u} {x} {y} {o} h (Write d) r m s) = go (begun-open h) (isWaiting o) refl
     where
-      go : Open (begunIn h) → (c : Bool) → isWaiting o ≡ c → Open (cond c (thenStray (begunIn h) (Write d) r m s) nothing)
-      go f true i = astray-do (begunIn h) f i d r m s
-      go f false i = at-stop es k (stray h (Write d) r m s) .waits ∙ sym (at-stop es k h .waits) ∙ i
-  begun-open (stray {u} {x} {y} {o} h (Read q) r m s) = go (begun-open h) (isWaiting o) refl
+      go : Open (begunIn h) → (c : Bool) → isWaiting o ≡ c → Open (cond c (thenCallWithOtherLengths (begunIn h) (Write d) r m s) nothing)
+      go f true i = other-lengths-do (begunIn h) f i d r m s
+      go f false i = at-stop es k (callWithOtherLengths h (Write d) r m s) .waits ∙ sym (at-stop es k h .waits) ∙ i
+  begun-open (callWithOtherLengths {u} {x} {y} {o} h (Read q) r m s) = go (begun-open h) (isWaiting o) refl
     where
-      go : Open (begunIn h) → (c : Bool) → isWaiting o ≡ c → Open (cond c (thenStray (begunIn h) (Read q) r m s) nothing)
-      go f true i = astray-read (begunIn h) f i q r m s
+      go : Open (begunIn h) → (c : Bool) → isWaiting o ≡ c → Open (cond c (thenCallWithOtherLengths (begunIn h) (Read q) r m s) nothing)
+      go f true i = other-lengths-read (begunIn h) f i q r m s
       go f false i = i
-  begun-open (stray h (Answer g) r m s) = astray-answer (begunIn h) (begun-open h) g r m s (steps-fall es k (stray h (Answer g) r m s) .3)
+  begun-open (callWithOtherLengths h (Answer g) r m s) = other-lengths-answer (begunIn h) (begun-open h) g r m s (steps-fall es k (callWithOtherLengths h (Answer g) r m s) .3)
   begun-open (refusedBuild {u} {x} {y} {o} h ram i t l r m n) = go (begun-open h) (isWaiting o) refl
     where
       go : Open (begunIn h) → (c : Bool) → isWaiting o ≡ c → Open (cond c (thenBuild (begunIn h) ram i t l r m n) nothing)
-      go f true e = astray-build (begunIn h) f e ram i t l r m n
+      go f true e = other-lengths-build (begunIn h) f e ram i t l r m n
       go f false e = e
 
-  open-asked : {x : World} {p : Seen} (b : Begun w a x p) → Open b → AskedAt b
+  open-asked : {x : World} {p : Observed} (b : Begun w a x p) → Open b → AskedAt b
   open-asked nothing f = f
   open-asked (since {u} {v} {o} g d r m h) f = whole-from m (f .0) o es (at-stop es k g) order h (f .1)
 
-  pub asked-from : {x : World} {p : Seen} (h : History w a x p) → Asked h
+  pub asked-from : {x : World} {p : Observed} (h : History w a x p) → Asked h
   unfolding Asked
   asked-from none = tt
   asked-from (call h c r m) = (asked-from h, open-asked (begunIn (call h c r m)) (begun-open (call h c r m)))
-  asked-from (stray h c r m s) = (asked-from h, open-asked (begunIn (stray h c r m s)) (begun-open (stray h c r m s)))
+  asked-from (callWithOtherLengths h c r m s) = (asked-from h, open-asked (begunIn (callWithOtherLengths h c r m s)) (begun-open (callWithOtherLengths h c r m s)))
   asked-from (refusedBuild h ram i t l r m n) = (asked-from h, open-asked (begunIn (refusedBuild h ram i t l r m n)) (begun-open (refusedBuild h ram i t l r m n)))

@@ -14,10 +14,10 @@ use Rattle.protector_state.specs.Reply.{finished}
 use Rattle.protector_state.specs.State.{stateLen, settingsOf}
 use Rattle.call_refusals.specs.World.{World, world}
 use Rattle.setting_entries.specs.Calls.{enableRefusal, enabled, enableOf}
-use Rattle.history.specs.Seen.{Seen}
+use Rattle.history.specs.Observed.{Observed}
 use Rattle.history.specs.Call.{Visibility, Protection, Default, Register, Unregister, Lock, Unlock, Enable, Call, Write, Read, Answer, gives, sees}
 use Rattle.history.proofs.Bits.{clash}
-use Rattle.history.proofs.Wholes.{lock-tables-long, unlock-tables-long}
+use Rattle.history.proofs.Fittings.{lock-tables-long, unlock-tables-long}
 
 -- what the setter does to the state block: nothing where it is refused
 pub setter-frame : (K : List ℕ → Type 0) (s : List ℕ) → K s → (settingsOf s .tracked ≡ true → length s ≡ stateLen → K (set s 19 1)) → K (enableOf s .state)
@@ -30,9 +30,9 @@ setter-frame K s k f = go (eqb (enableRefusal s) 0) refl
         f (passed (settingsOf s .tracked) 23 _ (a .goes) .0) (a .long)
     go false e = k
 
-pub record Framed (K : World → Seen → Type 0) : Type 0 where
-  pub tables : (w : World) (o : Seen) (t : List ℕ) → length t ≡ length (w .tables) → K w o → K (world (w .maps) (w .state) (w .pages) t) o
-  pub setting : (w : World) (o : Seen) → K w o → K (world (w .maps) (set (w .state) 19 1) (w .pages) (w .tables)) o
+pub record Framed (K : World → Observed → Type 0) : Type 0 where
+  pub tables : (w : World) (o : Observed) (t : List ℕ) → length t ≡ length (w .tables) → K w o → K (world (w .maps) (w .state) (w .pages) t) o
+  pub setting : (w : World) (o : Observed) → K w o → K (world (w .maps) (set (w .state) 19 1) (w .pages) (w .tables)) o
 
 -- the calls that touch neither marks nor request: on locks, the setter, and those that only read
 abbrev pub isApart : Call → Bool
@@ -48,11 +48,11 @@ isApart (Read q) = true
 isApart (Answer g) = false
 
 -- K of what a call leaves and of what is seen then
-abbrev pub After : (World → Seen → Type 0) → Call → World → Seen → Type 0
+abbrev pub After : (World → Observed → Type 0) → Call → World → Observed → Type 0
 After K c w o = K (gives c w .world) (sees c (gives c w .answer) (gives c w .world .pages) o)
 
 -- THE FRAME LAW
-pub frame : {K : World → Seen → Type 0} → Framed K → (c : Call) → isApart c ≡ true → (w : World) (o : Seen) → K w o → After K c w o
+pub frame : {K : World → Observed → Type 0} → Framed K → (c : Call) → isApart c ≡ true → (w : World) (o : Observed) → K w o → After K c w o
 frame f (Write (Visibility vtl share list)) e w o k = clash _ e refl
 frame f (Write (Protection vtl flags list)) e w o k = clash _ e refl
 frame f (Write (Default vtl flags)) e w o k = clash _ e refl

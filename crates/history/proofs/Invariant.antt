@@ -17,13 +17,13 @@ use Rattle.protector_state.specs.State.{ramOf, withRequest}
 use Rattle.protector_state.specs.Changing.{withChange}
 use Rattle.call_refusals.specs.World.{World}
 use Rattle.protection_entries.specs.Calls.{storedDefault}
-use Rattle.history.specs.Seen.{Seen}
+use Rattle.history.specs.Observed.{Observed}
 use Rattle.history.specs.History.{History}
 use Rattle.history.specs.Tables.{TablesFit}
 use Rattle.history.specs.Settings.{SettingsFit}
 use Rattle.history.specs.Permitted.{Permitted}
 use Rattle.history.proofs.World.{Stands}
-use Rattle.history.proofs.Passed.{Whole}
+use Rattle.history.proofs.Passed.{Fitting}
 use Rattle.history.proofs.Histories.{Keeps, Both, InWorld, product, history-keeps, stands-kept, SnpAges, ages-kept, Lengths, lengths-kept, Unlisted, unlisted-kept}
 use Rattle.history.proofs.Tabled.{tables-kept}
 use Rattle.history.proofs.PermittedCalls.{permissions-kept}
@@ -54,27 +54,27 @@ module _ (l : List ℕ) where
 
 -- ---- of the layout es, its words l, and a build with isolation i, tracked t and release flag r
 
-pub record Invariant (es : List MemoryRangeWithNode) (l : List ℕ) (i t r : ℕ) (w : World) (o : Seen) : Type 0 where
+pub record Invariant (es : List MemoryRangeWithNode) (l : List ℕ) (i t r : ℕ) (w : World) (o : Observed) : Type 0 where
   pub stands : Stands es w o
   pub tables : TablesFit es w
   pub permitted : Permitted es w
   pub ages : SnpAges (isolationOf i) w o
-  pub whole : Whole w
+  pub fitting : Fitting w
   pub unlisted : Unlisted w o
   pub settings : SettingsFit i t r (w .state)
   pub ram : ramOf (w .state) ≡ l
 
 module _ (es : List MemoryRangeWithNode) (l : List ℕ) (i t r : ℕ) where
-  abbrev Marks : World → Seen → Type 0
+  abbrev Marks : World → Observed → Type 0
   Marks = Both (Both (Both (Stands es) (InWorld (TablesFit es))) (InWorld (Permitted es))) (SnpAges (isolationOf i))
 
-  abbrev Listed : World → Seen → Type 0
+  abbrev Listed : World → Observed → Type 0
   Listed = Both (Both Marks Lengths) Unlisted
 
-  abbrev Set : World → Seen → Type 0
+  abbrev Set : World → Observed → Type 0
   Set = Both Listed (InWorld (λ (w : World). SettingsFit i t r (w .state)))
 
-  abbrev All : World → Seen → Type 0
+  abbrev All : World → Observed → Type 0
   All = Both Set (InWorld (λ (w : World). Ram l (w .state)))
 
   marks-kept : Keeps Marks
@@ -87,13 +87,13 @@ module _ (es : List MemoryRangeWithNode) (l : List ℕ) (i t r : ℕ) where
   all-kept = product (product listed-kept (words-kept (SettingsFit i t r) (settings-words i t r) Listed)) (words-kept (Ram l) (ram-words l) Set)
 
   -- every list of calls keeps it
-  pub invariant-kept : {w v : World} {a o : Seen} → History w a v o → Invariant es l i t r w a → Invariant es l i t r v o
+  pub invariant-kept : {w v : World} {a o : Observed} → History w a v o → Invariant es l i t r w a → Invariant es l i t r v o
   invariant-kept h k =
       let x =
       history-keeps All all-kept h
       (record {
         first = record {
-          first = record { first = record { first = record { first = record { first = record { first = k .stands; second = k .tables }; second = k .permitted }; second = k .ages }; second = k .whole }; second = k .unlisted };
+          first = record { first = record { first = record { first = record { first = record { first = k .stands; second = k .tables }; second = k .permitted }; second = k .ages }; second = k .fitting }; second = k .unlisted };
           second = k .settings;
         };
         second = k .ram;
@@ -105,7 +105,7 @@ module _ (es : List MemoryRangeWithNode) (l : List ℕ) (i t r : ℕ) where
         tables = m .first .first .second;
         permitted = m .first .second;
         ages = m .second;
-        whole = y .first .second;
+        fitting = y .first .second;
         unlisted = y .second;
         settings = x .first .second;
         ram = x .second;

@@ -1,22 +1,17 @@
 -- What is lent keeps its lengths, whatever a call writes into it. Assumes nothing.
 use native.Mathlib.Omega.{arith}
-use Prim.Native.Nat.{ℕ, zero, suc, _+_, _-_, _*_, _<_}
+use Prim.Native.Nat.{ℕ, _+_, _-_, _*_, _<_}
 use mathlib.Core.Path.{_≡_, refl, sym, ap, _∙_}
 use mathlib.Core.List.{List, _∷_, _++_}
 use mathlib.Core.Bool.{Bool, true, false, cond}
-use lib.Dec.{ltb}
 use lib.ListN.{length, take, drop, set, getD, length-set, length-append, length-drop, take-append-drop}
 use lib.Seq.{sets, length-sets, drop-drop, getD-drop, getD-set-other}
 use Rattle.words.specs.Words.{closedTo, swapped}
 use Rattle.words.proofs.Padded.{length-closed}
 use Rattle.bitmap.proofs.Map.{length-written}
-use Rattle.layout.specs.declared.MemoryRangeWithNode.{MemoryRangeWithNode}
 use Rattle.permissions.specs.Flags.{vtlNumber, boolOf}
-use Rattle.overlay_table.specs.declared.OverlayPage.{OverlayPage}
-use Rattle.overlay_table.specs.Overlays.{isOverlay, used, placeOf, wordsOf, entry, addWords}
+use Rattle.overlay_table.specs.Overlays.{used, entry, addWords}
 use Rattle.lock_table.specs.Locks as locks
-use Rattle.default_change.specs.Pieces.{privateRam}
-use Rattle.default_change.specs.Renewed.{renewedAt, renewedFrom}
 use Rattle.request_pages.specs.Request.{put}
 use Rattle.visibility_steps.specs.declared.Phase.{Phase}
 use Rattle.visibility_steps.specs.declared.Request.{Request}
@@ -31,9 +26,11 @@ use Rattle.protector_state.specs.Changing.{changeWords, withChange}
 use Rattle.call_refusals.specs.World.{World, world, overlaysOf}
 use Rattle.protector.specs.Writes.{applied, withoutPage, entered}
 use Rattle.protector.specs.Calls.{carriedOut, carriedChange}
-use Rattle.history.proofs.World.{request-entries, change-entries}
+use Rattle.visibility_claims.proofs.Ends.{change-entries}
+use Rattle.change_claims.proofs.Tables.{add-long, without-long}
+use Rattle.history.proofs.World.{request-entries}
 use Rattle.history.proofs.Calls.{set-entries}
-use Rattle.history.proofs.Passed.{Whole}
+use Rattle.history.proofs.Passed.{Fitting}
 
 -- ---- runs of words
 
@@ -50,23 +47,6 @@ swapped-long t a n m =
 either-long : (b : Bool) (n : ℕ) (x y : List ℕ) → length x ≡ n → length y ≡ n → length (cond b x y) ≡ n
 either-long true n x y e f = e
 either-long false n x y e f = f
-
-add-long : (t : List ℕ) (e : OverlayPage) → length (addWords t e) ≡ length t
-add-long t e =
-    let r : List ℕ = sets t (1 + 5 * used t) (wordsOf e) in
-    either-long (ltb (used t) 128) (length t) (set r 0 (used t + 1)) t (length-set r 0 (used t + 1) ∙ length-sets t (1 + 5 * used t) (wordsOf e)) refl
-
-without-long : (t : List ℕ) (p : ℕ) → length (withoutPage t p) ≡ length t
-without-long t p =
-    let r : List ℕ = closedTo t (placeOf t p) 5 (1 + 5 * used t) in
-    either-long (isOverlay t p) (length t) (set r 0 (used t - 1)) t (length-set r 0 (used t - 1) ∙ length-closed t (placeOf t p) 5 (1 + 5 * used t)) refl
-
-pub renewed-long : (m : List ℕ) (es : List MemoryRangeWithNode) (bits : ℕ) (t : List ℕ) (k o : ℕ) → length (renewedFrom m es bits t k o) ≡ length t
-unfolding renewedFrom
-renewed-long m es bits t zero o = refl
-renewed-long m es bits t (suc k) o =
-    renewed-long m es bits (renewedAt m es bits t o) k (o + 5)
-    ∙ either-long (privateRam m es (getD t o 0)) (length t) (set t (o + 1) bits) t (length-set t (o + 1) bits) refl
 
 pub lock-long : (t l : List ℕ) → length (locks.lockWords t l) ≡ length t
 lock-long t l =
@@ -111,8 +91,8 @@ pub record Same (w v : World) : Type 0 where
   pub pages : length (v .pages) ≡ length (w .pages)
   pub tables : length (v .tables) ≡ length (w .tables)
 
-pub same-whole : (w v : World) → Same w v → Whole w → Whole v
-same-whole w v s k =
+pub same-fitting : (w v : World) → Same w v → Fitting w → Fitting v
+same-fitting w v s k =
     record { long = s .state ∙ k .long; fit = rw (s .entries, s .tracked, s .private, s .shared, s .read, s .write, s .kernel, s .user, s .pages, s .tables) (k .fit) }
 
 -- ---- a step carried out
@@ -123,10 +103,10 @@ request-long p q s e = length-append (requestWords p q) (drop 10 s) ∙ omega (a
 change-long : (g : Stage) (q : Change) (s : List ℕ) → length s ≡ stateLen → length (withChange g q s) ≡ length s
 change-long g q s e = length-append (changeWords g q) (drop 14 s) ∙ omega (arith, length-drop 14 s, e)
 
-pub step-whole : (w : World) (t : List ℕ) (x : Step) → length t ≡ length (w .pages) → Whole w → Whole (carriedOut w t x .world)
+pub step-fitting : (w : World) (t : List ℕ) (x : Step) → length t ≡ length (w .pages) → Fitting w → Fitting (carriedOut w t x .world)
 unfolding carriedOut applied put
-step-whole w t x e k =
-    same-whole w _
+step-fitting w t x e k =
+    same-fitting w _
     (record {
       state = request-long (x .phase) (x .request) (w .state) (k .long);
       entries = request-entries (x .phase) (x .request) (w .state);
@@ -141,10 +121,10 @@ step-whole w t x e k =
       tables = refl;
     }) k
 
-pub change-whole : (w : World) (t : List ℕ) (x : ChangeStep) → length t ≡ length (w .pages) → Whole w → Whole (carriedChange w t x .world)
+pub change-fitting : (w : World) (t : List ℕ) (x : ChangeStep) → length t ≡ length (w .pages) → Fitting w → Fitting (carriedChange w t x .world)
 unfolding carriedChange
-change-whole w t x e k =
-    same-whole w _
+change-fitting w t x e k =
+    same-fitting w _
     (record {
       state = change-long (x .stage) (x .change) (w .state) (k .long);
       entries = change-entries (x .stage) (x .change) (w .state);
@@ -161,13 +141,13 @@ change-whole w t x e k =
 
 -- ---- other tables, and another word of the state block
 
-pub tables-whole : (w : World) (t : List ℕ) → length t ≡ length (w .tables) → Whole w → Whole (world (w .maps) (w .state) (w .pages) t)
-tables-whole w t e k =
-    same-whole w _ (record { state = refl; entries = refl; tracked = refl; private = refl; shared = refl; read = refl; write = refl; kernel = refl; user = refl; pages = refl; tables = e }) k
+pub tables-fitting : (w : World) (t : List ℕ) → length t ≡ length (w .tables) → Fitting w → Fitting (world (w .maps) (w .state) (w .pages) t)
+tables-fitting w t e k =
+    same-fitting w _ (record { state = refl; entries = refl; tracked = refl; private = refl; shared = refl; read = refl; write = refl; kernel = refl; user = refl; pages = refl; tables = e }) k
 
-pub set-whole : (w : World) (i x : ℕ) → 17 < i → i < 31 → Whole w → Whole (world (w .maps) (set (w .state) i x) (w .pages) (w .tables))
-set-whole w i x low high k =
-    same-whole w _
+pub set-fitting : (w : World) (i x : ℕ) → 17 < i → i < 31 → Fitting w → Fitting (world (w .maps) (set (w .state) i x) (w .pages) (w .tables))
+set-fitting w i x low high k =
+    same-fitting w _
     (record {
       state = length-set (w .state) i x;
       entries = set-entries (w .state) i x (omega (arith, low)) high;

@@ -11,10 +11,10 @@ pub mod Calls
 pub mod Others
 pub mod Ages
 pub mod Aging
-pub mod Strays
+pub mod OtherLengths
 pub mod Lengths
 pub mod Deciding
-pub mod Wholes
+pub mod Fittings
 pub mod Frame
 pub mod Is
 pub mod Refused
@@ -40,5 +40,5 @@ pub mod Ends
 pub mod Falls
 pub mod Follows
 pub mod Requests
-pub mod SeenTable
+pub mod ObservedTable
 pub mod Unasked

@@ -22,7 +22,7 @@ use Rattle.protector.specs.Calls.{refusedBy, carriedChange}
 use Rattle.protection_entries.specs.Calls.{defaultRefusal, storedDefault, stored, barred, renewedTables, renewedIn, defaultStep, defaultStarted, defaultTaken, defaultOf, protectionRefusal, allListed, protectionStep, protectionTaken, protectionOf}
 use Rattle.overlay_refusals.specs.Refusals.{unregisterRefusal, registerRefusal}
 use Rattle.overlay_entries.specs.Calls.{entryIn, counting, unregisterTaken, unregisterOf, currentIn, registerTaken, registerOf}
-use Rattle.history.specs.Seen.{Seen, seesCall}
+use Rattle.history.specs.Observed.{Observed, seesCall}
 use Rattle.history.specs.Call.{Protection, Default, Register, Unregister}
 use Rattle.history.proofs.Passed.{passed-in}
 use Rattle.history.proofs.World.{Stands, stops}
@@ -53,7 +53,14 @@ old-goes tracked v p previous source = refl
 
 -- ---- nothing is under way where a call is taken
 
-module _ (es : List MemoryRangeWithNode) (w : World) (o : Seen) (k : Stands es w o) where
+module _ (es : List MemoryRangeWithNode) (w : World) (o : Observed) (k : Stands es w o) where
+  abbrev StandsAt : Outcome → Type 0
+  StandsAt X = Stands es (X .world) (seesCall [] (X .reply) (X .world .pages) o)
+
+  either-stands : (b : Bool) (A B : Outcome) → StandsAt A → StandsAt B → StandsAt (cond b A B)
+  either-stands true A B f g = f
+  either-stands false A B f g = g
+
   pub protection-stands : (vtl flags : ℕ) (l : List ℕ) → let X = protectionOf w vtl flags l in Stands es (X .world) (seesCall [] (X .reply) (X .world .pages) o)
   unfolding protectionOf protectionTaken
   protection-stands vtl flags l =
@@ -93,7 +100,8 @@ module _ (es : List MemoryRangeWithNode) (w : World) (o : Seen) (k : Stands es w
   pub unregister-stands : (vtl p : ℕ) → let X = unregisterOf w vtl p in Stands es (X .world) (seesCall [] (X .reply) (X .world .pages) o)
   unfolding unregisterOf unregisterTaken
   unregister-stands vtl p =
-      called (Stands es) w o k [] (unregisterRefusal (w .state) (fits w) (w .tables) vtl p) (unregisterTaken w (vtlOf vtl) p) (λ z. go (passed-in (Unregister vtl p) w z .idle) (ltb 1 (entryIn (w .tables) (vtlOf vtl) p .«ref_count»)))
+      called (Stands es) w o k [] (unregisterRefusal (w .state) (fits w) (w .tables) vtl p) (unregisterTaken w (vtlOf vtl) p) (λ z. either-stands (ltb 1 (entryIn (w .tables) (vtlOf vtl) p .«ref_count»)) A B (tables-stand es w o k (A .world .tables))
+      (change-starts es w o k (passed-in (Unregister vtl p) w z .idle) (w .state) (w .tables) (w .pages) x refl (old-told _ _ _ _ _ _) (old-goes _ _ _ _ _)))
     where
       v : GuestVtl
       v = vtlOf vtl
@@ -101,20 +109,18 @@ module _ (es : List MemoryRangeWithNode) (w : World) (o : Seen) (k : Stands es w
       A : Outcome
       A = counting w v p (entryIn (w .tables) v p .«ref_count» - 1)
 
-      B : Outcome
-      B = carriedChange w (w .pages) (startOld (settingsOf (w .state) .tracked) v p (entryIn (w .tables) v p .«previous_permissions») (entryIn (w .tables) v p .«gpn_source»))
+      x : ChangeStep
+      x = startOld (settingsOf (w .state) .tracked) v p (entryIn (w .tables) v p .«previous_permissions») (entryIn (w .tables) v p .«gpn_source»)
 
-      go : statusIn (w .state) ≡ 0 → (b : Bool) → Stands es (cond b A B .world) (seesCall [] (cond b A B .reply) (cond b A B .world .pages) o)
-      go idle true = tables-stand es w o k (A .world .tables)
-      go idle false =
-          change-starts es w o k idle (w .state) (w .tables) (w .pages) (startOld (settingsOf (w .state) .tracked) v p (entryIn (w .tables) v p .«previous_permissions») (entryIn (w .tables) v p .«gpn_source»)) refl
-          (old-told _ _ _ _ _ _) (old-goes _ _ _ _ _)
+      B : Outcome
+      B = carriedChange w (w .pages) x
 
   pub register-stands : (vtl p source checked new : ℕ) → let X = registerOf w vtl p source checked new in Stands es (X .world) (seesCall [] (X .reply) (X .world .pages) o)
   unfolding registerOf registerTaken
   register-stands vtl p source checked new =
       called (Stands es) w o k [] (registerRefusal (w .state) (fits w) (w .maps .shared) (w .tables) (currentIn w (vtlOf vtl) p source) vtl p source checked new) (registerTaken w (vtlOf vtl) p source new)
-      (λ z. go (passed-in (Register vtl p source checked new) w z .idle) (isOverlay (overlaysOf (w .tables) (vtlOf vtl)) p))
+      (λ z. either-stands (isOverlay (overlaysOf (w .tables) (vtlOf vtl)) p) A B (tables-stand es w o k (A .world .tables))
+      (change-starts es w o k (passed-in (Register vtl p source checked new) w z .idle) (w .state) (w .tables) (w .pages) x refl (new-told _ _ _ _ _ _ _) (new-goes _ _ _ _ _ _)))
     where
       v : GuestVtl
       v = vtlOf vtl
@@ -127,7 +133,3 @@ module _ (es : List MemoryRangeWithNode) (w : World) (o : Seen) (k : Stands es w
 
       B : Outcome
       B = carriedChange w (w .pages) x
-
-      go : statusIn (w .state) ≡ 0 → (b : Bool) → Stands es (cond b A B .world) (seesCall [] (cond b A B .reply) (cond b A B .world .pages) o)
-      go idle true = tables-stand es w o k (A .world .tables)
-      go idle false = change-starts es w o k idle (w .state) (w .tables) (w .pages) x refl (new-told _ _ _ _ _ _ _) (new-goes _ _ _ _ _ _)

@@ -59,9 +59,9 @@ passed-in Enable x z = by-ready x _ _ z
 
 -- ---- a state block of its length, and all else as it should be
 
-pub record Whole (x : World) : Type 0 where
+pub record Fitting (x : World) : Type 0 where
   pub long : length (x .state) ≡ stateLen
   pub fit : fits x ≡ true
 
-pub whole : (x : World) → Passed x (fits x) → Whole x
-whole x k = record { long = k .long; fit = k .fits }
+pub fitting : (x : World) → Passed x (fits x) → Fitting x
+fitting x k = record { long = k .long; fit = k .fits }

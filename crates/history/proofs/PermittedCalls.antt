@@ -23,6 +23,7 @@ use Rattle.permissions.specs.Flags.{fitVtl, vtlOf, fitFlags, flagsOf, bitsOf, b
 use Rattle.page_list.specs.declared.PageRun.{PageRun}
 use Rattle.page_list.specs.Pages.{pagesOf, among, isLong, isRagged}
 use Rattle.page_list.specs.Runs.{part}
+use Rattle.page_list.proofs.Laws.{among-at}
 use Rattle.request_pages.specs.Request.{put}
 use Rattle.request_pages.proofs.Table.{in-use, length-table, pages-few, pick-each}
 use Rattle.overlay_table.specs.declared.OverlayPage.{OverlayPage}
@@ -46,19 +47,18 @@ use Rattle.overlay_refusals.specs.Refusals.{unregisterRefusal, registerRefusal}
 use Rattle.overlay_refusals.specs.Refusals as tests
 use Rattle.overlay_refusals.proofs.Laws.{call-passed, flags-passed}
 use Rattle.overlay_entries.specs.Calls.{entryIn, counting, unregisterTaken, unregisterOf, currentIn, registerTaken, registerOf}
-use Rattle.visibility_claims.specs.Whole.{Given, Succeeds, Fails}
+use Rattle.visibility_claims.specs.Whole.{BackendAnswer, Succeeds, Fails}
 use Rattle.visibility_claims.specs.Calls.{answerOf}
-use Rattle.history.specs.Seen.{Seen}
+use Rattle.history.specs.Observed.{Observed}
 use Rattle.history.specs.Marks.{Has}
 use Rattle.history.specs.Call.{Writer, Visibility, Protection, Default, Register, Unregister, Lock, Unlock, Enable, Call, Write, Read, Answer, givesWriter, gives}
 use Rattle.history.specs.Tables.{TablesFit}
 use Rattle.history.specs.Permitted.{Inside, OnRam, isPages, isListing, Permitted}
 use Rattle.call_refusals.proofs.Laws.{fits-pages}
-use Rattle.history.proofs.Bits.{among-own}
 use Rattle.history.proofs.Start.{first-all, ram-page}
 use Rattle.history.proofs.Calls.{taken, in-ram}
-use Rattle.history.proofs.Passed.{passed-in, whole}
-use Rattle.history.proofs.Strays.{answer-whole}
+use Rattle.history.proofs.Passed.{passed-in, fitting}
+use Rattle.history.proofs.OtherLengths.{answer-fitting}
 use Rattle.history.proofs.Deciding.{decides, either}
 use Rattle.history.proofs.Entries.{overlays-entry, overlays-own}
 use Rattle.history.proofs.Tabled.{fresh-page}
@@ -190,11 +190,11 @@ module _ (es : List MemoryRangeWithNode) where
         let own : getD t j 0 ≡ getD ps j 0 = sym (getD-take (length ps) t j 0 h) ∙ ap (λ (m : List ℕ). getD m j 0) first in
         ap (λ (y : List MemoryRangeWithNode). isRam y (getD t j 0)) (sym layout)
         ∙ ram-page (entriesIn (w .state)) (overlaysOf (w .tables) (vtlOf vtl)) (locksOf (w .tables) (vtlOf vtl)) true (getD t j 0)
-        (first-all _ ps (getD t j 0) (listed-each .1) (ap (among ps) own ∙ among-own ps j h))
+        (first-all _ ps (getD t j 0) (listed-each .1) (ap (among ps) own ∙ among-at ps j h))
 
   -- ---- the calls
 
-  module _ (w : World) (o : Seen) (k : Both (Stands es) (InWorld (TablesFit es)) w o) (p : Permitted es w) where
+  module _ (w : World) (o : Observed) (k : Both (Stands es) (InWorld (TablesFit es)) w o) (p : Permitted es w) where
     visibility-permits : (vtl share : ℕ) (l : List ℕ) → Permitted es (visibilityOf w vtl share l .world)
     unfolding visibilityOf visibilityTaken
     visibility-permits vtl share l =
@@ -219,7 +219,7 @@ module _ (es : List MemoryRangeWithNode) where
       takes-change c e = ap (λ (b : Bool). cond b (takesAt (stageIn (w .state)) failed) (takes (phaseIn (w .state)) failed)) (sym e) ∙ takes-it
 
       long : requestOf (w .state) .n ≤ length (w .pages)
-      long = omega (arith, fits-pages w (answer-whole w failed z .fit))
+      long = omega (arith, fits-pages w (answer-fitting w failed z .fit))
 
       visible : isChanging (w .state) ≡ false → OnRam es (requestOf (w .state) .n) (w .pages)
       visible e = p .listed (ap (λ (b : Bool). cond b (isPages (stageIn (w .state))) (eqb (statusOf (phaseIn (w .state))) refusal.busy)) e ∙ phase-waits (phaseIn (w .state)) failed (takes-change false e))
@@ -227,7 +227,7 @@ module _ (es : List MemoryRangeWithNode) where
       paged : isChanging (w .state) ≡ true → isPages (stageIn (w .state)) ≡ true → OnRam es (requestOf (w .state) .n) (w .pages)
       paged e d = p .listed (ap (λ (b : Bool). cond b (isPages (stageIn (w .state))) (eqb (statusOf (phaseIn (w .state))) refusal.busy)) e ∙ d)
 
-    answer-permits : (g : Given) → Permitted es (answerOf g w .world)
+    answer-permits : (g : BackendAnswer) → Permitted es (answerOf g w .world)
     unfolding answerDone answerFailed afterDone afterFailed
     answer-permits Succeeds = decides (Permitted es) w (answerRefusal (w .state) (fits w) false) _ p (λ z. go z (isChanging (w .state)) refl)
       where
@@ -248,7 +248,7 @@ module _ (es : List MemoryRangeWithNode) where
     protection-permits vtl flags l =
         decides (Permitted es) w (protectionRefusal (w .state) (fits w) (w .maps .shared) (w .tables) vtl flags l) _ p
         (λ z. let few : length (pagesOf l) ≤ 512 = pages-few l (listed-each w (k .first .layout) vtl flags l z .0) in
-        let q : length (w .pages) ≡ 1024 = fits-pages w (whole w (passed-in (Protection vtl flags l) w z) .fit) in
+        let q : length (w .pages) ≡ 1024 = fits-pages w (fitting w (passed-in (Protection vtl flags l) w z) .fit) in
         let long : length (allListed l (w .pages)) ≡ 1024 = length-table (λ p. true) (pagesOf l) (w .pages) q few in
         change-permits w (allListed l (w .pages)) _ (p .inside)
         (safe-pages es (allListed l (w .pages)) (settingsOf (w .state) .tracked) (changeOf (vtlOf vtl) flags (length (pagesOf l))) 0 (omega (arith, few, long)) (listed-ram w (k .first .layout) vtl flags l z)))

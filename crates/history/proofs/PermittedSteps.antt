@@ -23,7 +23,7 @@ use Rattle.page_list.proofs.RunLaws.{run-none}
 use Rattle.request_pages.specs.Request.{runEnd}
 use Rattle.request_pages.proofs.Runs.{end-le, run-places}
 use Rattle.default_change.specs.Pieces.{pageUp, pieceIn, nextOf}
-use Rattle.default_change.proofs.Whole as whole
+use Rattle.default_change.proofs.Whole as pieces
 use Rattle.visibility_steps.specs.declared.Phase.{Phase}
 use Rattle.visibility_steps.specs.declared.Phase.the-variants as at
 use Rattle.visibility_steps.specs.declared.Settings.{Settings}
@@ -79,7 +79,7 @@ piece-all P (e ∷ es) at q h g = go (eqb (pieceIn P e at .count) 0) h g (piece-
     go : (b : Bool) → cond b (nextOf P es at) (pieceIn P e at) .first ≤ q → q < cond b (nextOf P es at) (pieceIn P e at) .first + cond b (nextOf P es at) (pieceIn P e at) .count
         → (nextOf P es at .first ≤ q → q < nextOf P es at .first + nextOf P es at .count → P q ≡ true) → P q ≡ true
     go true h g m = m h g
-    go false h g m = whole.piece-holds P (max (pageUp (e .start)) at) (pageUp (e .end) - max (pageUp (e .start)) at) q h g
+    go false h g m = pieces.piece-holds P (max (pageUp (e .start)) at) (pageUp (e .end) - max (pageUp (e .start)) at) q h g
 
 -- ---- a step of a visibility change of n pages: no page more, and permissions of these alone
 

@@ -20,21 +20,21 @@ use Rattle.protection_entries.specs.Calls.{protectionTaken, protectionOf, store
 use Rattle.overlay_entries.specs.Calls.{registerTaken, registerOf, unregisterTaken, unregisterOf}
 use Rattle.lock_entries.specs.Calls.{ended, lockRefusal, lockTaken, lockOf, unlockTaken, unlockOf}
 use Rattle.setting_entries.specs.Calls.{enableRefusal, enableOf}
-use Rattle.visibility_claims.specs.Whole.{Given, Succeeds, Fails}
+use Rattle.visibility_claims.specs.Whole.{BackendAnswer, Succeeds, Fails}
 use Rattle.visibility_claims.specs.Calls.{answerOf}
 use Rattle.visibility_claims.specs.Ends.{underWay}
-use Rattle.history.specs.Seen.{Seen, isTaken, seesCall}
+use Rattle.history.specs.Observed.{Observed, isTaken, seesCall}
 use Rattle.history.specs.Call.{Writer, Visibility, Protection, Default, Register, Unregister, Lock, Unlock, Enable, Call, Write, Read, Answer, Effect, replied, givesWriter, gives, seesWriter, sees}
-use Rattle.history.specs.History.{Stray, StrayWriter, Wrong, IsRefusal}
+use Rattle.history.specs.History.{OtherLengths, OtherWriterLengths, OtherCallLengths, IsRefusal}
 use Rattle.history.specs.Answered.{given}
 use Rattle.history.proofs.Bits.{clash}
-use Rattle.history.proofs.Passed.{refusalIn, lentFits, Passed, passed-in, whole}
-use Rattle.history.proofs.Strays.{not-whole, not-lent, answer-whole, untaken-seen, answer-stray}
+use Rattle.history.proofs.Passed.{refusalIn, lentFits, Passed, passed-in, fitting}
+use Rattle.history.proofs.OtherLengths.{not-fitting, not-lent, answer-fitting, untaken-seen, answer-other-lengths}
 
 -- nothing comes of it: it leaves what it was lent, and nothing is seen
-pub record NoEffect (x : World) (X : Effect Reply) (view : Reply → List ℕ → Seen → Seen) : Type 0 where
+pub record NoEffect (x : World) (X : Effect Reply) (view : Reply → List ℕ → Observed → Observed) : Type 0 where
   pub keeps : X .world ≡ x
-  pub unseen : (o : Seen) → view (X .answer) (X .world .pages) o ≡ o
+  pub unseen : (o : Observed) → view (X .answer) (X .world .pages) o ≡ o
 
 refused : (x : World) (n : ℕ) (T : Outcome) → (n ≡ 0 → ⊥) → decided x n T ≡ refusedBy x n
 refused x n T f = ap (λ (b : Bool). cond b T (refusedBy x n)) (ne-eqb n 0 f)
@@ -60,46 +60,46 @@ barred-no-effect Enable x f = record { keeps = rw (ne-eqb (enableRefusal (x .sta
 
 -- ---- something of another length bars it
 
-stray-barred : (a : Writer) (u x : World) → StrayWriter a u x → refusalIn a x ≡ 0 → ⊥
-stray-barred a u x s z = go a s (passed-in a x z)
+other-lengths-barred : (a : Writer) (u x : World) → OtherWriterLengths a u x → refusalIn a x ≡ 0 → ⊥
+other-lengths-barred a u x s z = go a s (passed-in a x z)
   where
-    go : (a : Writer) → StrayWriter a u x → Passed x (lentFits a x) → ⊥
-    go (Visibility vtl share list) s k = not-whole u x s (whole x k)
-    go (Protection vtl flags list) s k = not-whole u x s (whole x k)
-    go (Default vtl flags) s k = not-whole u x s (whole x k)
-    go (Register vtl page source checked new) s k = not-whole u x s (whole x k)
-    go (Unregister vtl page) s k = not-whole u x s (whole x k)
+    go : (a : Writer) → OtherWriterLengths a u x → Passed x (lentFits a x) → ⊥
+    go (Visibility vtl share list) s k = not-fitting u x s (fitting x k)
+    go (Protection vtl flags list) s k = not-fitting u x s (fitting x k)
+    go (Default vtl flags) s k = not-fitting u x s (fitting x k)
+    go (Register vtl page source checked new) s k = not-fitting u x s (fitting x k)
+    go (Unregister vtl page) s k = not-fitting u x s (fitting x k)
     go (Lock vtl list) s k = not-lent u x s k
     go (Unlock vtl list) s k = not-lent u x s k
     go Enable s k = s (k .long)
 
 -- an answer too writes nothing then, and isn't taken
-module _ (u x : World) (s : Stray u x) where
-  answer-keeps : (g : Given) → answerOf g x .world ≡ x
+module _ (u x : World) (s : OtherLengths u x) where
+  answer-keeps : (g : BackendAnswer) → answerOf g x .world ≡ x
   unfolding answerDone answerFailed
-  answer-keeps Succeeds = ap (λ (X : Outcome). X .world) (refused x (answerRefusal (x .state) (fits x) false) (cond (isChanging (x .state)) (changeDone x) (visibilityDone x)) (λ z. not-whole u x s (answer-whole x false z)))
-  answer-keeps (Fails code n) = ap (λ (X : Outcome). X .world) (refused x (answerRefusal (x .state) (fits x) true) (cond (isChanging (x .state)) (changeFailed x) (visibilityFailed x code n)) (λ z. not-whole u x s (answer-whole x true z)))
+  answer-keeps Succeeds = ap (λ (X : Outcome). X .world) (refused x (answerRefusal (x .state) (fits x) false) (cond (isChanging (x .state)) (changeDone x) (visibilityDone x)) (λ z. not-fitting u x s (answer-fitting x false z)))
+  answer-keeps (Fails code n) = ap (λ (X : Outcome). X .world) (refused x (answerRefusal (x .state) (fits x) true) (cond (isChanging (x .state)) (changeFailed x) (visibilityFailed x code n)) (λ z. not-fitting u x s (answer-fitting x true z)))
 
-  module _ (o : Seen) (halts : o .halted ≡ eqb (statusIn (u .state)) refusal.halted) where
-    pub stray-untaken : (g : Given) → isTaken o (answerOf g x .reply) ≡ false
+  module _ (o : Observed) (halts : o .halted ≡ eqb (statusIn (u .state)) refusal.halted) where
+    pub other-lengths-untaken : (g : BackendAnswer) → isTaken o (answerOf g x .reply) ≡ false
     unfolding answerDone answerFailed
-    stray-untaken Succeeds = untaken-seen u x o halts false (cond (isChanging (x .state)) (changeDone x) (visibilityDone x)) s
-    stray-untaken (Fails code n) = untaken-seen u x o halts true (cond (isChanging (x .state)) (changeFailed x) (visibilityFailed x code n)) s
+    other-lengths-untaken Succeeds = untaken-seen u x o halts false (cond (isChanging (x .state)) (changeDone x) (visibilityDone x)) s
+    other-lengths-untaken (Fails code n) = untaken-seen u x o halts true (cond (isChanging (x .state)) (changeFailed x) (visibilityFailed x code n)) s
 
-    answer-unseen : (g : Given) → sees (Answer g) (answerOf g x .reply) (answerOf g x .world .pages) o ≡ o
+    answer-unseen : (g : BackendAnswer) → sees (Answer g) (answerOf g x .reply) (answerOf g x .world .pages) o ≡ o
     unfolding answerDone answerFailed
-    answer-unseen Succeeds = answer-stray u x o halts false (cond (isChanging (x .state)) (changeDone x) (visibilityDone x)) s (λ (p : Seen). p ≡ o) Succeeds refl
-    answer-unseen (Fails code n) = answer-stray u x o halts true (cond (isChanging (x .state)) (changeFailed x) (visibilityFailed x code n)) s (λ (p : Seen). p ≡ o) (Fails code n) refl
+    answer-unseen Succeeds = answer-other-lengths u x o halts false (cond (isChanging (x .state)) (changeDone x) (visibilityDone x)) s (λ (p : Observed). p ≡ o) Succeeds refl
+    answer-unseen (Fails code n) = answer-other-lengths u x o halts true (cond (isChanging (x .state)) (changeFailed x) (visibilityFailed x code n)) s (λ (p : Observed). p ≡ o) (Fails code n) refl
 
-pub stray-keeps : (c : Call) (u x : World) → Wrong c u x → gives c x .world ≡ x
-stray-keeps (Write a) u x s = barred-no-effect a x (stray-barred a u x s) .keeps
-stray-keeps (Read q) u x s = refl
-stray-keeps (Answer g) u x s = answer-keeps u x s g
+pub other-lengths-keeps : (c : Call) (u x : World) → OtherCallLengths c u x → gives c x .world ≡ x
+other-lengths-keeps (Write a) u x s = barred-no-effect a x (other-lengths-barred a u x s) .keeps
+other-lengths-keeps (Read q) u x s = refl
+other-lengths-keeps (Answer g) u x s = answer-keeps u x s g
 
-pub stray-unseen : (c : Call) (u x : World) (o : Seen) → o .halted ≡ eqb (statusIn (u .state)) refusal.halted → Wrong c u x → sees c (gives c x .answer) (gives c x .world .pages) o ≡ o
-stray-unseen (Write a) u x o halts s = barred-no-effect a x (stray-barred a u x s) .unseen o
-stray-unseen (Read q) u x o halts s = refl
-stray-unseen (Answer g) u x o halts s = answer-unseen u x s o halts g
+pub other-lengths-unseen : (c : Call) (u x : World) (o : Observed) → o .halted ≡ eqb (statusIn (u .state)) refusal.halted → OtherCallLengths c u x → sees c (gives c x .answer) (gives c x .world .pages) o ≡ o
+other-lengths-unseen (Write a) u x o halts s = barred-no-effect a x (other-lengths-barred a u x s) .unseen o
+other-lengths-unseen (Read q) u x o halts s = refl
+other-lengths-unseen (Answer g) u x o halts s = answer-unseen u x s o halts g
 
 -- ---- so does a request under way
 

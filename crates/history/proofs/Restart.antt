@@ -18,7 +18,7 @@ use Rattle.visibility_steps.specs.Steps.{isSnp}
 use Rattle.protector_state.specs.Changing.{isChanging}
 use Rattle.protector_state.specs.State.{phaseIn, requestOf, settingsOf, ramOf, entriesIn}
 use Rattle.call_refusals.specs.World.{World, statusOf}
-use Rattle.history.specs.Seen.{Seen, isWaiting}
+use Rattle.history.specs.Observed.{Observed, isWaiting}
 use Rattle.history.specs.Marks.{Has, Exact, Marked, readOff, Settled}
 use Rattle.history.specs.Resting.{Rests}
 use Rattle.history.specs.Claim.{ClaimFrom}
@@ -40,7 +40,7 @@ use Rattle.history.proofs.Unasked.{unasked}
 
 -- ---- what the invariant says of the marks
 
-stands-exact : (es : List MemoryRangeWithNode) (w : World) (o : Seen) → Stands es w o → (z : ℕ) → isRam es z ≡ true → among (o .listed) z ≡ false → Exact (w .maps) o z
+stands-exact : (es : List MemoryRangeWithNode) (w : World) (o : Observed) → Stands es w o → (z : ℕ) → isRam es z ≡ true → among (o .listed) z ≡ false → Exact (w .maps) o z
 stands-exact es w o k z r off =
     let g = k .right in
     let f = g .full z r (λ j a b d y. clash (among (o .listed) z) (ap (among (o .listed)) (sym y) ∙ g .named a j b d) off) (λ _. off) in
@@ -51,7 +51,7 @@ stands-exact es w o k z r off =
       shared-only = λ h. is-shared (o .last z) (g .only-shared z h);
     }
 
-stands-marked : (es : List MemoryRangeWithNode) (w : World) (o : Seen) → Stands es w o → Unlisted w o → Marked es (w .maps) o
+stands-marked : (es : List MemoryRangeWithNode) (w : World) (o : Observed) → Stands es w o → Unlisted w o → Marked es (w .maps) o
 unfolding among
 stands-marked es w o k n =
     let g = k .right in
@@ -66,7 +66,7 @@ stands-marked es w o k n =
     }
 
 -- of every list of calls from any world that meets the invariant, whatever was seen before
-claim-from : (es : List MemoryRangeWithNode) (l : List ℕ) (i t r : ℕ) {w v : World} {a o : Seen} → Invariant es l i t r w a → ordered 0 es ≡ true → isWaiting a ≡ false
+claim-from : (es : List MemoryRangeWithNode) (l : List ℕ) (i t r : ℕ) {w v : World} {a o : Observed} → Invariant es l i t r w a → ordered 0 es ≡ true → isWaiting a ≡ false
     → (h : History w a v o) → ClaimFrom es i t r h
 claim-from es l i t r {w} {v} {a} {o} k order free h =
     let x : Invariant es l i t r v o = invariant-kept es l i t r h k in
@@ -75,8 +75,8 @@ claim-from es l i t r {w} {v} {a} {o} k order free h =
       answered = answered h;
       composed = composed h;
       asked = asked-from es (k .stands) order free h;
-      long = x .whole .long;
-      lent = x .whole .fit;
+      long = x .fitting .long;
+      lent = x .fitting .fit;
       layout = x .stands .layout;
       holds = record { marks = stands-marked es v o (x .stands) (x .unlisted); settled = λ e. x .ages e .ages .settled };
       tables = x .tables;
@@ -166,7 +166,7 @@ module _ (w : World) (k : Settled w) where
       }
 
   -- the invariant stands, and what was last left has its lengths
-  pub settled-lent : {v : World} {o : Seen} → History w (readOff (w .maps)) v o → Lent es v o
+  pub settled-lent : {v : World} {o : Observed} → History w (readOff (w .maps)) v o → Lent es v o
   settled-lent h = history-keeps (Lent es) (lent-kept es) h (record { first = settled-stands; second = record { long = k .long; fit = k .lent } })
 
 -- ---- and all else is as it should be
@@ -179,15 +179,15 @@ module _ {i t r : ℕ} (w : World) (k : Rests i t r w) where
         tables = record { tables = k .tables; pending = pending-idle (entriesIn (w .state)) (w .state) (w .tables) (k .settled .idle) };
         permitted = record { inside = k .inside; listed = λ e. absurd (not-listing (w .state) (k .settled .idle) e) };
         ages = λ e. settled-aged w (k .settled) (ap (λ (n : ℕ). isSnp (isolationOf n)) (k .settings .same-isolation) ∙ e);
-        whole = record { long = k .settled .long; fit = k .settled .lent };
+        fitting = record { long = k .settled .long; fit = k .settled .lent };
         unlisted = λ _ _. refl;
         settings = k .settings;
         ram = refl;
       }
 
   -- THE CLAIM
-  pub settled-hold : {v : World} {o : Seen} (h : History w (readOff (w .maps)) v o) → ClaimFrom (entriesIn (w .state)) i t r h
+  pub settled-hold : {v : World} {o : Observed} (h : History w (readOff (w .maps)) v o) → ClaimFrom (entriesIn (w .state)) i t r h
   settled-hold h = claim-from (entriesIn (w .state)) (ramOf (w .state)) i t r rests-invariant (fit (ramOf (w .state)) (k .settled .layout) .in-order) refl h
 
-  pub settled-invariant : {v : World} {o : Seen} → History w (readOff (w .maps)) v o → Invariant (entriesIn (w .state)) (ramOf (w .state)) i t r v o
+  pub settled-invariant : {v : World} {o : Observed} → History w (readOff (w .maps)) v o → Invariant (entriesIn (w .state)) (ramOf (w .state)) i t r v o
   settled-invariant h = invariant-kept (entriesIn (w .state)) (ramOf (w .state)) i t r h rests-invariant

@@ -24,8 +24,9 @@ use Rattle.protector_state.specs.declared.Reply.{Reply}
 use Rattle.protector_state.specs.Reply.{modifies, onRun, flatOf}
 use Rattle.call_refusals.specs.World.{statusOf}
 use Rattle.protector.specs.Writes.{putPlaces}
-use Rattle.history.specs.Seen.{asks, goesOn}
-use Rattle.history.proofs.Bits.{Has, clash, of-part, inside, set-cases, set-has, set-keeps}
+use Rattle.history.specs.Observed.{asks, goesOn}
+use Rattle.history.specs.Marks.{Has}
+use Rattle.history.proofs.Bits.{clash, of-part, inside, set-cases, set-has, set-keeps}
 
 -- the pages under way bear neither mark while one of these operations is outstanding
 abbrev pub opened : Phase → Bool
@@ -113,10 +114,14 @@ pub record Right (ram : ℕ → Bool) (P S : List ℕ) (p : Phase) (q : Request)
 
 -- ---- a step from a request of n pages
 
+-- a reply that no answer gives that isn't taken: neither for a length nor as not asked for
+pub record TakenReply (r : Reply) : Type 0 where
+  pub not4 : eqb (r .number) refusal.wrongLength ≡ false
+  pub not21 : eqb (r .number) refusal.nothingAsked ≡ false
+
 -- what it tells: a taken answer, halted or waiting as its phase is, and the operation that its phase names
 pub record Tells (i : IsolationType) (t : List ℕ) (x : Step) : Type 0 where
-  pub not4 : eqb (flatOf i (x .answer) .number) refusal.wrongLength ≡ false
-  pub not21 : eqb (flatOf i (x .answer) .number) refusal.nothingAsked ≡ false
+  pub taken : TakenReply (flatOf i (x .answer))
   pub halts : eqb (flatOf i (x .answer) .number) refusal.halted ≡ isHalted (x .phase)
   pub waits : asks (flatOf i (x .answer)) ≡ eqb (statusOf (x .phase)) refusal.busy
   pub stays : opened (x .phase) ≡ true → goesOn (flatOf i (x .answer)) ≡ true
@@ -137,10 +142,14 @@ pub record Fits (i : IsolationType) (t : List ℕ) (o : Bool) (n : ℕ) (x : Ste
   pub opens : opened (x .phase) ≡ true → (x .writes .private .to ≡ 0) × (x .request .n ≤ m) × (x .request .n ≤ n) × (o ≡ true)
   pub tells : Tells i t x
 
+-- what is taken stays as it was but of the first n pages of the table t
+abbrev pub StaysBut : List ℕ → ℕ → (last now : ℕ → Bool) → Type 0
+StaysBut t n last now = (z : ℕ) → among (part t n 0) z ≡ false → now z ≡ last z
+
 -- how it goes with what is taken
 pub record Moves (p : Phase) (q : Request) (t : List ℕ) (last now : ℕ → Bool) (x : Step) : Type 0 where
   pub same : opened p ≡ false → (z : ℕ) → now z ≡ last z
-  pub kept : (z : ℕ) → among (part t (q .n) 0) z ≡ false → now z ≡ last z
+  pub kept : StaysBut t (q .n) last now
   pub new-private : (j : ℕ) → j < x .writes .private .to → j < length t → now (getD t j 0) ≡ false
   pub new-shared : (j : ℕ) → x .writes .shared .from ≤ j → j < x .writes .shared .to → j < length t → now (getD t j 0) ≡ true
   pub covered : opened p ≡ true → (j : ℕ) → j < q .n → (opened (x .phase) ≡ true → j < x .request .n → ⊥) → (isHalted (x .phase) ≡ true → ⊥)

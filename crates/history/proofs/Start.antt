@@ -16,6 +16,7 @@ use Rattle.layout.specs.Layout.{isRam}
 use Rattle.permissions.specs.declared.GuestVtl.{GuestVtl}
 use Rattle.page_list.specs.Pages.{among, repeats}
 use Rattle.page_list.specs.Runs.{part}
+use Rattle.page_list.proofs.Laws.{among-at}
 use Rattle.request_pages.specs.Request.{pick, wanted, put}
 use Rattle.visibility_steps.specs.declared.Phase.{Phase}
 use Rattle.visibility_steps.specs.declared.Phase.the-variants as at
@@ -23,20 +24,12 @@ use Rattle.visibility_steps.specs.declared.Request.{Request}
 use Rattle.visibility_steps.specs.Steps.{asked, cleared}
 use Rattle.protector.specs.Writes.{putPlaces}
 use Rattle.call_refusals.specs.Refusals.{pageRefusal, firstRefusal}
-use Rattle.history.proofs.Bits.{Has, clash, among-own, in-part, clear-kept, clear-gone, clear-same, not-among, none-among, was-private, was-shared}
+use Rattle.change_claims.proofs.Made.{among-take, among-pick}
+use Rattle.history.specs.Marks.{Has}
+use Rattle.history.proofs.Bits.{clash, in-part, clear-kept, clear-gone, clear-same, not-among, none-among, was-private, was-shared}
 use Rattle.history.proofs.Right.{opened, Right}
 
 -- ---- a part of a list, and what is picked of it
-
-pub among-take : (k : ℕ) (ps : List ℕ) (q : ℕ) → among (take k ps) q ≡ true → among ps q ≡ true
-unfolding among
-among-take zero ps q e = clash false e refl
-among-take (suc k) [] q e = e
-among-take (suc k) (p ∷ ps) q e = go (eqb q p) (among-take k ps q) e
-  where
-    go : (b : Bool) → (among (take k ps) q ≡ true → among ps q ≡ true) → (b || among (take k ps) q) ≡ true → (b || among ps q) ≡ true
-    go true r e = refl
-    go false r e = r e
 
 pub repeats-take : (k : ℕ) (ps : List ℕ) → repeats ps ≡ false → repeats (take k ps) ≡ false
 unfolding repeats
@@ -49,23 +42,6 @@ repeats-take (suc k) (p ∷ ps) e =
     go : (b : Bool) → (b ≡ true → ⊥) → repeats (take k ps) ≡ false → (b || repeats (take k ps)) ≡ false
     go true f r = absurd (f refl)
     go false f r = r
-
-pub among-pick : (P : ℕ → Bool) (ps : List ℕ) (q : ℕ) → among (pick P ps) q ≡ true → among ps q ≡ true
-unfolding among pick
-among-pick P [] q e = e
-among-pick P (p ∷ ps) q e = go (P p) (eqb q p) (among-pick P ps q) e
-  where
-    pass : (b x y : Bool) → (x ≡ true → y ≡ true) → (b || x) ≡ true → (b || y) ≡ true
-    pass true x y r e = refl
-    pass false x y r e = r e
-
-    wide : (b y : Bool) → y ≡ true → (b || y) ≡ true
-    wide true y e = refl
-    wide false y e = e
-
-    go : (c b : Bool) → (among (pick P ps) q ≡ true → among ps q ≡ true) → among (cond c (p ∷ pick P ps) (pick P ps)) q ≡ true → (eqb q p || among ps q) ≡ true
-    go true b r e = pass (eqb q p) (among (pick P ps) q) (among ps q) r e
-    go false b r e = wide (eqb q p) (among ps q) (r e)
 
 pub repeats-pick : (P : ℕ → Bool) (ps : List ℕ) → repeats ps ≡ false → repeats (pick P ps) ≡ false
 unfolding repeats pick
@@ -99,9 +75,9 @@ unfolding repeats
 places-apart [] e i j a b d = absurd (omega arith)
 places-apart (p ∷ l) e zero zero a b d = refl
 places-apart (p ∷ l) e zero (suc j) a b d =
-    let z = or-false (among l p) (repeats l) e in clash (among l p) (ap (among l) d ∙ among-own l j (omega arith)) (z .0)
+    let z = or-false (among l p) (repeats l) e in clash (among l p) (ap (among l) d ∙ among-at l j (omega arith)) (z .0)
 places-apart (p ∷ l) e (suc i) zero a b d =
-    let z = or-false (among l p) (repeats l) e in clash (among l p) (ap (among l) (sym d) ∙ among-own l i (omega arith)) (z .0)
+    let z = or-false (among l p) (repeats l) e in clash (among l p) (ap (among l) (sym d) ∙ among-at l i (omega arith)) (z .0)
 places-apart (p ∷ l) e (suc i) (suc j) a b d =
     let z = or-false (among l p) (repeats l) e in ap suc (places-apart l (z .1) i j (omega arith) (omega arith) d)
 

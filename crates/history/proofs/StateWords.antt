@@ -22,9 +22,9 @@ use Rattle.call_refusals.specs.Refusals.{visibilityRefusal, answerRefusal}
 use Rattle.protection_entries.specs.Calls.{storedDefault, protectionRefusal, protectionTaken, protectionOf, defaultRefusal, stored, barred, renewedIn, defaultStarted, defaultTaken, defaultOf}
 use Rattle.overlay_refusals.specs.Refusals.{unregisterRefusal, registerRefusal}
 use Rattle.overlay_entries.specs.Calls.{entryIn, counting, unregisterTaken, unregisterOf, currentIn, registerTaken, registerOf}
-use Rattle.visibility_claims.specs.Whole.{Given, Succeeds, Fails}
+use Rattle.visibility_claims.specs.Whole.{BackendAnswer, Succeeds, Fails}
 use Rattle.visibility_claims.specs.Calls.{answerOf}
-use Rattle.history.specs.Seen.{Seen}
+use Rattle.history.specs.Observed.{Observed}
 use Rattle.history.specs.Call.{Writer, Visibility, Protection, Default, Register, Unregister, Lock, Unlock, Enable, Call, Write, Read, Answer, givesWriter, gives}
 use Rattle.history.proofs.Passed.{passed-in}
 use Rattle.history.proofs.Deciding.{decides, either}
@@ -73,7 +73,7 @@ module _ (K : List ℕ → Type 0) (f : Words K) where
     set-writer (Unlock vtl list) = k
     set-writer Enable = setter-frame K (w .state) k (λ tracked long. f .enabling (w .state) tracked long k)
 
-    set-answer : (g : Given) → S (answerOf g w .world)
+    set-answer : (g : BackendAnswer) → S (answerOf g w .world)
     unfolding answerDone answerFailed
     set-answer Succeeds =
         decides S w (answerRefusal (w .state) (fits w) false) _ k (λ _. either S (isChanging (w .state)) (changeDone w) (visibilityDone w) (carried w (w .pages) _ k) (stepped w (w .pages) _ k))
@@ -85,5 +85,5 @@ module _ (K : List ℕ → Type 0) (f : Words K) where
     words-step (Read q) = k
     words-step (Answer g) = set-answer g
 
-  pub words-kept : (P : World → Seen → Type 0) → KeepsWith P (InWorld S)
+  pub words-kept : (P : World → Observed → Type 0) → KeepsWith P (InWorld S)
   words-kept P c w o _ k = words-step w k c

@@ -26,10 +26,10 @@ use Rattle.visibility_steps.specs.declared.Step.{Step}
 use Rattle.visibility_steps.specs.Steps.{isSnp, isCca, releases, noWrites, setShared, setPrivate, setPermissions, operationOf, ask, step, noRequest, end, halt, shareRun, defaultRun, returnRun, afterFlush, afterWait, afterModify, afterAccept, afterDefault0, cutAt, failedModify, doneOf, failedOf}
 use Rattle.protector_state.specs.Reply.{askedOf, flatOf}
 use Rattle.call_refusals.specs.World.{statusOf, takes}
-use Rattle.visibility_claims.specs.Whole.{Given, Succeeds, Fails}
-use Rattle.history.specs.Seen.{processed}
+use Rattle.visibility_claims.specs.Whole.{BackendAnswer, Succeeds, Fails}
+use Rattle.history.specs.Observed.{processed}
 use Rattle.history.proofs.Bits.{clash, of-part, in-part, less-among}
-use Rattle.history.proofs.Right.{opened, dir, Tells, Wrote, Fits, Moves}
+use Rattle.history.proofs.Right.{opened, dir, Tells, Wrote, Fits, StaysBut, Moves}
 
 -- ---- what a step tells
 
@@ -38,30 +38,30 @@ module _ (s : Settings) (t : List ℕ) where
   unfolding ask operationOf flatOf askedOf
   ask-tells at.Idle q a w e = false≢true e
   ask-tells at.Halted q a w e = false≢true e
-  ask-tells at.Wait q a w e = record { not4 = refl; not21 = refl; halts = refl; waits = refl; stays = λ _. refl; names = refl }
-  ask-tells at.FlushAll q a w e = record { not4 = refl; not21 = refl; halts = refl; waits = refl; stays = λ _. refl; names = refl }
-  ask-tells at.ProtectNone0 q a w e = record { not4 = refl; not21 = refl; halts = refl; waits = refl; stays = λ _. refl; names = refl }
-  ask-tells at.ProtectNone1 q a w e = record { not4 = refl; not21 = refl; halts = refl; waits = refl; stays = λ _. refl; names = refl }
-  ask-tells at.Invalidate q a w e = record { not4 = refl; not21 = refl; halts = refl; waits = refl; stays = λ _. refl; names = refl }
-  ask-tells at.Release q a w e = record { not4 = refl; not21 = refl; halts = refl; waits = refl; stays = λ _. refl; names = refl }
-  ask-tells at.Modify q a w e = record { not4 = refl; not21 = refl; halts = refl; waits = refl; stays = λ _. refl; names = refl }
-  ask-tells at.Accept q a w e = record { not4 = refl; not21 = refl; halts = refl; waits = refl; stays = λ _. refl; names = refl }
-  ask-tells at.Zero q a w e = record { not4 = refl; not21 = refl; halts = refl; waits = refl; stays = λ _. refl; names = refl }
-  ask-tells at.ProtectDefault0 q a w e = record { not4 = refl; not21 = refl; halts = refl; waits = refl; stays = λ _. refl; names = refl }
-  ask-tells at.ProtectDefault1 q a w e = record { not4 = refl; not21 = refl; halts = refl; waits = refl; stays = λ _. refl; names = refl }
+  ask-tells at.Wait q a w e = record { taken = record { not4 = refl; not21 = refl }; halts = refl; waits = refl; stays = λ _. refl; names = refl }
+  ask-tells at.FlushAll q a w e = record { taken = record { not4 = refl; not21 = refl }; halts = refl; waits = refl; stays = λ _. refl; names = refl }
+  ask-tells at.ProtectNone0 q a w e = record { taken = record { not4 = refl; not21 = refl }; halts = refl; waits = refl; stays = λ _. refl; names = refl }
+  ask-tells at.ProtectNone1 q a w e = record { taken = record { not4 = refl; not21 = refl }; halts = refl; waits = refl; stays = λ _. refl; names = refl }
+  ask-tells at.Invalidate q a w e = record { taken = record { not4 = refl; not21 = refl }; halts = refl; waits = refl; stays = λ _. refl; names = refl }
+  ask-tells at.Release q a w e = record { taken = record { not4 = refl; not21 = refl }; halts = refl; waits = refl; stays = λ _. refl; names = refl }
+  ask-tells at.Modify q a w e = record { taken = record { not4 = refl; not21 = refl }; halts = refl; waits = refl; stays = λ _. refl; names = refl }
+  ask-tells at.Accept q a w e = record { taken = record { not4 = refl; not21 = refl }; halts = refl; waits = refl; stays = λ _. refl; names = refl }
+  ask-tells at.Zero q a w e = record { taken = record { not4 = refl; not21 = refl }; halts = refl; waits = refl; stays = λ _. refl; names = refl }
+  ask-tells at.ProtectDefault0 q a w e = record { taken = record { not4 = refl; not21 = refl }; halts = refl; waits = refl; stays = λ _. refl; names = refl }
+  ask-tells at.ProtectDefault1 q a w e = record { taken = record { not4 = refl; not21 = refl }; halts = refl; waits = refl; stays = λ _. refl; names = refl }
 
   end-tells : (q : Request) (w : Writes) → Tells (s .isolation) t (end q w)
   unfolding end flatOf
   end-tells q w = go (q .stopped) (q .failed)
     where
       go : (a b : Bool) → Tells (s .isolation) t (step at.Idle noRequest (cond a (AccessDenied (q .index) (q .count)) (cond b (Failed (q .code) (q .index) (q .count)) (Done (q .count)))) w)
-      go true b = record { not4 = refl; not21 = refl; halts = refl; waits = refl; stays = λ e. false≢true e; names = refl }
-      go false true = record { not4 = refl; not21 = refl; halts = refl; waits = refl; stays = λ e. false≢true e; names = refl }
-      go false false = record { not4 = refl; not21 = refl; halts = refl; waits = refl; stays = λ e. false≢true e; names = refl }
+      go true b = record { taken = record { not4 = refl; not21 = refl }; halts = refl; waits = refl; stays = λ e. false≢true e; names = refl }
+      go false true = record { taken = record { not4 = refl; not21 = refl }; halts = refl; waits = refl; stays = λ e. false≢true e; names = refl }
+      go false false = record { taken = record { not4 = refl; not21 = refl }; halts = refl; waits = refl; stays = λ e. false≢true e; names = refl }
 
   halt-tells : (q : Request) → Tells (s .isolation) t (halt q)
   unfolding halt flatOf
-  halt-tells q = record { not4 = refl; not21 = refl; halts = refl; waits = refl; stays = λ e. false≢true e; names = refl }
+  halt-tells q = record { taken = record { not4 = refl; not21 = refl }; halts = refl; waits = refl; stays = λ e. false≢true e; names = refl }
 
 -- ---- what it writes
 
@@ -306,7 +306,7 @@ module _ (s : Settings) (t : List ℕ) (last : ℕ → Bool) where
     shut-default (Some f) = shut-ask at.ProtectDefault1 (q .at) noWrites refl refl (omega arith)
     shut-default None = shut-run (runEnd t (q .n) (q .at))
 
-  halt-moves : (p : Phase) (q : Request) (now : ℕ → Bool) → (opened p ≡ false → (z : ℕ) → now z ≡ last z) → ((z : ℕ) → among (part t (q .n) 0) z ≡ false → now z ≡ last z) → Moves p q t last now (halt q)
+  halt-moves : (p : Phase) (q : Request) (now : ℕ → Bool) → (opened p ≡ false → (z : ℕ) → now z ≡ last z) → StaysBut t (q .n) last now → Moves p q t last now (halt q)
   unfolding halt
   halt-moves p q now same kept = record {
     same = same;
@@ -318,10 +318,10 @@ module _ (s : Settings) (t : List ℕ) (last : ℕ → Bool) where
   }
 
 -- what an answer lets the hypervisor have taken: by Modify, all of its pages, or where it failed the first k
-abbrev pub modified : Request → List ℕ → Given → (ℕ → Bool) → ℕ → Bool
+abbrev pub modified : Request → List ℕ → BackendAnswer → (ℕ → Bool) → ℕ → Bool
 modified q t g last z = cond (among (part t (processed g (q .n)) 0) z) (q .share) (last z)
 
-abbrev pub after : Phase → Request → List ℕ → Given → (ℕ → Bool) → ℕ → Bool
+abbrev pub after : Phase → Request → List ℕ → BackendAnswer → (ℕ → Bool) → ℕ → Bool
 after at.Idle q t g last z = last z
 after at.Halted q t g last z = last z
 after at.Wait q t g last z = last z
@@ -337,6 +337,9 @@ after at.ProtectDefault0 q t g last z = last z
 after at.ProtectDefault1 q t g last z = last z
 
 module _ (s : Settings) (t : List ℕ) (last : ℕ → Bool) (q : Request) (tw : (j : ℕ) → j < q .n → j < length t → last (getD t j 0) ≡ not (q .share)) where
+  others : (g : BackendAnswer) → processed g (q .n) ≤ q .n → StaysBut t (q .n) last (modified q t g last)
+  others g h z e = ap (λ (c : Bool). cond c (q .share) (last z)) (less-among (processed g (q .n)) (q .n) t z h e)
+
   modify-done : Moves at.Modify q t last (modified q t Succeeds last) (afterModify s q t)
   unfolding afterModify
   modify-done = go (q .share) refl
@@ -347,12 +350,9 @@ module _ (s : Settings) (t : List ℕ) (last : ℕ → Bool) (q : Request) (tw :
       mine : (j : ℕ) → j < q .n → j < length t → now (getD t j 0) ≡ q .share
       mine j b d = ap (λ (c : Bool). cond c (q .share) (last (getD t j 0))) (in-part (q .n) t j b d)
 
-      others : (z : ℕ) → among (part t (q .n) 0) z ≡ false → now z ≡ last z
-      others z e = ap (λ (c : Bool). cond c (q .share) (last z)) e
-
       go : (c : Bool) → q .share ≡ c → Moves at.Modify q t last now (cond c (end q (setShared noWrites 0 (q .n))) (returnRun s q t 0 noWrites))
-      go true e = closed-end s t last at.Modify q q (setShared noWrites 0 (q .n)) now refl others (λ j a b d. mine j b d ∙ e) (λ j b d. absurd (omega arith)) (λ j b. inr (omega arith, b))
-      go false e = return-moves s t last at.Modify q q 0 noWrites now refl others (λ j a b d. absurd (omega arith)) refl (λ j b nl. absurd (nl b)) (λ j b d. mine j b d ∙ e)
+      go true e = closed-end s t last at.Modify q q (setShared noWrites 0 (q .n)) now refl (others Succeeds (omega arith)) (λ j a b d. mine j b d ∙ e) (λ j b d. absurd (omega arith)) (λ j b. inr (omega arith, b))
+      go false e = return-moves s t last at.Modify q q 0 noWrites now refl (others Succeeds (omega arith)) (λ j a b d. absurd (omega arith)) refl (λ j b nl. absurd (nl b)) (λ j b d. mine j b d ∙ e)
 
   modify-failed : (code k : ℕ) → ((i j : ℕ) → i < q .n → j < q .n → i < length t → j < length t → getD t i 0 ≡ getD t j 0 → i ≡ j) → Moves at.Modify q t last (modified q t (Fails code k) last) (failedModify s q t code k)
   unfolding failedModify
@@ -367,9 +367,6 @@ module _ (s : Settings) (t : List ℕ) (last : ℕ → Bool) (q : Request) (tw :
       i : ℕ
       i = getD t (512 + k) 0
 
-      others : (z : ℕ) → among (part t (q .n) 0) z ≡ false → now z ≡ last z
-      others z e = ap (λ (c : Bool). cond c (q .share) (last z)) (less-among m (q .n) t z (omega arith) e)
-
       mine : (j : ℕ) → j < m → j < length t → now (getD t j 0) ≡ q .share
       mine j b d = ap (λ (c : Bool). cond c (q .share) (last (getD t j 0))) (in-part m t j b d)
 
@@ -381,11 +378,11 @@ module _ (s : Settings) (t : List ℕ) (last : ℕ → Bool) (q : Request) (tw :
           no true e = absurd (of-part 0 m t (getD t j 0) e (λ h _ u v y. let x : h ≡ j = once h j (omega arith) b v d y in omega arith))
 
       go : (c : Bool) → q .share ≡ c → (l : Bool) → leb (q .n) k ≡ l → Moves at.Modify q t last now (cond c (halt q) (cond l (halt q) (returnRun s (cutAt q k code i) t 0 (setShared noWrites k (q .n)))))
-      go true e l f = halt-moves s t last at.Modify q now (λ o. clash true refl o) others
-      go false e true f = halt-moves s t last at.Modify q now (λ o. clash true refl o) others
+      go true e l f = halt-moves s t last at.Modify q now (λ o. clash true refl o) (others (Fails code k) (omega arith))
+      go false e true f = halt-moves s t last at.Modify q now (λ o. clash true refl o) (others (Fails code k) (omega arith))
       go false e false f =
           let lt : k < q .n = leb-false (q .n) k f in
-          return-moves s t last at.Modify q (cutAt q k code i) 0 (setShared noWrites k (q .n)) now refl others
+          return-moves s t last at.Modify q (cutAt q k code i) 0 (setShared noWrites k (q .n)) now refl (others (Fails code k) (omega arith))
           (λ j a b d. rest j (omega arith) b d ∙ ap not e) refl (λ j b nl. (elim (decLt j k) [ yes h ↦ absurd (nl h) | no h ↦ omega arith ], b)) (λ j b d. mine j (omega arith) d ∙ e)
 
 module _ (s : Settings) (q : Request) (t : List ℕ) (last : ℕ → Bool) where

@@ -1,7 +1,7 @@
 -- Every call, taken or not, keeps the tables. Assumes nothing.
 use native.Mathlib.Omega.{arith}
 use mathlib.Core.Path.{_≡_, refl, sym, ap, _∙_}
-use mathlib.Core.Bool.{Bool, true, false, cond, not}
+use mathlib.Core.Bool.{Bool, true, false, cond}
 use mathlib.Core.List.{List}
 use Prim.Native.Nat.{ℕ, _+_, _-_, _≤_, _<_}
 use lib.Dec.{eqb, ltb}
@@ -33,7 +33,7 @@ use Rattle.overlay_refusals.specs.Refusals.{unregisterRefusal, registerRefusal,
 use Rattle.overlay_refusals.proofs.Laws.{call-passed, flags-passed}
 use Rattle.overlay_entries.specs.Calls.{entryIn, counting, unregisterTaken, unregisterOf, currentIn, registerTaken, registerOf}
 use Rattle.setting_entries.specs.Calls.{enableOf}
-use Rattle.visibility_claims.specs.Whole.{Given, Succeeds, Fails}
+use Rattle.visibility_claims.specs.Whole.{BackendAnswer, Succeeds, Fails}
 use Rattle.visibility_claims.specs.Calls.{answerOf}
 use Rattle.history.specs.Call.{Writer, Visibility, Protection, Default, Register, Unregister, Lock, Unlock, Enable, Call, Write, Read, Answer, givesWriter, gives}
 use Rattle.history.specs.Tables.{Tables, TablesFit}
@@ -121,7 +121,7 @@ module _ (es : List MemoryRangeWithNode) where
     unfolding visibilityOf visibilityTaken
     visibility-tabled vtl share l = decides (TablesFit es) w (visibilityRefusal (w .state) (fits w) (w .tables) vtl share l) _ k (λ _. asked w _ _ (k .tables))
 
-    answer-tabled : (g : Given) → TablesFit es (answerOf g w .world)
+    answer-tabled : (g : BackendAnswer) → TablesFit es (answerOf g w .world)
     unfolding answerDone answerFailed afterDone afterFailed
     answer-tabled Succeeds =
         decides (TablesFit es) w (answerRefusal (w .state) (fits w) false) _ k

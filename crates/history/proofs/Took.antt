@@ -3,13 +3,13 @@ use Prim.Native.Nat.{ℕ}
 use mathlib.Core.Path.{_≡_, refl, sym}
 use mathlib.Core.Bool.{Bool, true, false, cond}
 use Rattle.laws.specs.Bools.{false≢true}
-use Rattle.history.specs.Seen.{Seen, Took, Private, Shared, tookAs}
+use Rattle.history.specs.Observed.{Observed, Took, Private, Shared, tookAs}
 
 abbrev pub isShared : Took → Bool
 isShared Private = false
 isShared Shared = true
 
-abbrev pub sharedIn : Seen → ℕ → Bool
+abbrev pub sharedIn : Observed → ℕ → Bool
 sharedIn o z = isShared (o .last z)
 
 pub shared-as : (b : Bool) → isShared (tookAs b) ≡ b

@@ -26,15 +26,16 @@ use Rattle.protector_state.specs.State.{firstPhases, phaseOf, phaseIn, requestO
 use Rattle.protector_state.specs.Reply.{modifies}
 use Rattle.protector_state.specs.Changing.{stageNumber, isChanging, withChange}
 use Rattle.call_refusals.specs.World.{World, world, statusOf, statusIn, takes}
-use Rattle.visibility_claims.specs.Whole.{Given}
+use Rattle.visibility_claims.specs.Whole.{BackendAnswer}
 use Rattle.visibility_claims.proofs.Calls.{phase-read, request-read, no-change}
-use Rattle.history.specs.Seen.{Seen, tookAs, isWaiting, isModify, processed, lastAfter}
+use Rattle.visibility_claims.proofs.Ends.{change-entries}
+use Rattle.history.specs.Observed.{Observed, tookAs, isWaiting, isModify, processed, lastAfter}
 use Rattle.history.proofs.Took.{isShared, sharedIn, shared-either}
 use Rattle.history.proofs.Bits.{clash}
 use Rattle.history.proofs.Right.{opened, isHalted, isQuiet, Names, Right}
 use Rattle.history.proofs.Steps.{after}
 
-pub record Stands (es : List MemoryRangeWithNode) (w : World) (o : Seen) : Type 0 where
+pub record Stands (es : List MemoryRangeWithNode) (w : World) (o : Observed) : Type 0 where
   pub layout : entriesIn (w .state) ≡ es
   pub right : Right (isRam es) (w .maps .private) (w .maps .shared) (phaseIn (w .state)) (requestOf (w .state)) (w .pages) (o .halted) (o .listed) (sharedIn o)
   pub halts : o .halted ≡ eqb (statusIn (w .state)) refusal.halted
@@ -94,17 +95,17 @@ quiet-modify r h = go (isModify r) refl
     go false e = e
     go true e = false≢true (sym (ap (λ (k : ℕ). isQuiet (record { number = r .number; code = r .code; index = r .index; count = r .count; operation = k; vtl = r .vtl; flags = r .flags; operand = r .operand; first = r .first; pages = r .pages; shared = r .shared })) (eqb-true (r .operation) 6 e)) ∙ h)
 
-pub quiet-last : (g : Given) (o : Seen) → isQuiet (o .op) ≡ true → (z : ℕ) → isShared (lastAfter g o z) ≡ sharedIn o z
+pub quiet-last : (g : BackendAnswer) (o : Observed) → isQuiet (o .op) ≡ true → (z : ℕ) → isShared (lastAfter g o z) ≡ sharedIn o z
 quiet-last g o h z = ap (λ (b : Bool). isShared (cond (b && among (take (processed g (o .op .pages)) (o .table)) z) (tookAs (eqb (o .op .shared) 1)) (o .last z))) (quiet-modify (o .op) h)
 
-modify-last : (g : Given) (o : Seen) (q : Request) (t : List ℕ) → o .op ≡ modifies (q .share) (q .n) → o .table ≡ t → (z : ℕ)
+modify-last : (g : BackendAnswer) (o : Observed) (q : Request) (t : List ℕ) → o .op ≡ modifies (q .share) (q .n) → o .table ≡ t → (z : ℕ)
     → isShared (lastAfter g o z) ≡ cond (among (part t (processed g (q .n)) 0) z) (q .share) (sharedIn o z)
 modify-last g o q t e d z = rw (e, d, digit-read (q .share)) (shared-either (among (part t (processed g (q .n)) 0) z) (q .share) (o .last z))
 
-run-last : (g : Given) (o : Seen) (r : Reply) → o .op ≡ r → isModify r ≡ false → (z : ℕ) → isShared (lastAfter g o z) ≡ sharedIn o z
+run-last : (g : BackendAnswer) (o : Observed) (r : Reply) → o .op ≡ r → isModify r ≡ false → (z : ℕ) → isShared (lastAfter g o z) ≡ sharedIn o z
 run-last g o r e h z = ap (λ (b : Bool). isShared (cond (b && among (take (processed g (o .op .pages)) (o .table)) z) (tookAs (eqb (o .op .shared) 1)) (o .last z))) (ap (λ (x : Reply). isModify x) e ∙ h)
 
-pub seen-last : (p : Phase) (g : Given) (o : Seen) (q : Request) (t : List ℕ) → Names p q t (o .op) → (opened p ≡ true → o .table ≡ t) → (z : ℕ) → isShared (lastAfter g o z) ≡ after p q t g (sharedIn o) z
+pub seen-last : (p : Phase) (g : BackendAnswer) (o : Observed) (q : Request) (t : List ℕ) → Names p q t (o .op) → (opened p ≡ true → o .table ≡ t) → (z : ℕ) → isShared (lastAfter g o z) ≡ after p q t g (sharedIn o) z
 seen-last at.Idle g o q t n d z = quiet-last g o n z
 seen-last at.Halted g o q t n d z = quiet-last g o n z
 seen-last at.Wait g o q t n d z = quiet-last g o n z
@@ -123,9 +124,6 @@ seen-last at.ProtectDefault1 g o q t n d z = quiet-last g o n z
 
 pub request-entries : (p : Phase) (q : Request) (s : List ℕ) → entriesIn (withRequest p q s) ≡ entriesIn s
 request-entries p q s = rw (getD-drop 10 s 21 0, drop-drop 22 10 s)
-
-pub change-entries : (g : Stage) (q : Change) (s : List ℕ) → entriesIn (withChange g q s) ≡ entriesIn s
-change-entries g q s = rw (getD-drop 14 s 17 0, drop-drop 18 14 s)
 
 pub request-status : (p : Phase) (q : Request) (s : List ℕ) → statusIn (withRequest p q s) ≡ statusOf p
 request-status p q s = rw (no-change p, phase-read p)
@@ -260,7 +258,7 @@ changing-shut s h = between-phase (getD s 0 0) (leb-true 13 _ (and-left _ _ h))
 
 -- ---- what stands, once a step is made
 
-module _ (es : List MemoryRangeWithNode) (m : Maps) (s t tables : List ℕ) (o : Seen) where
+module _ (es : List MemoryRangeWithNode) (m : Maps) (s t tables : List ℕ) (o : Observed) where
   pub stands-step : (p : Phase) (q : Request) → q .n ≤ 512 → entriesIn s ≡ es → Right (isRam es) (m .private) (m .shared) p q t (o .halted) (o .listed) (sharedIn o) → o .halted ≡ isHalted p
       → isWaiting o ≡ eqb (statusOf p) refusal.busy → Names p q t (o .op) → (opened p ≡ true → o .table ≡ t) → Stands es (world m (withRequest p q s) t tables) o
   stands-step p q few e r h a n d =

@@ -4,22 +4,22 @@ use mathlib.Core.Path.{_≡_}
 use Rattle.protector_state.specs.declared.Reply.{Reply}
 use Rattle.call_refusals.specs.World.{World, Outcome}
 use Rattle.protector.specs.Calls.{buildOf}
-use Rattle.history.specs.Seen.{Seen}
+use Rattle.history.specs.Observed.{Observed}
 use Rattle.history.specs.Call.{effect, gives}
-use Rattle.history.specs.History.{History, none, call, stray, refusedBuild}
+use Rattle.history.specs.History.{History, none, call, callWithOtherLengths, refusedBuild}
 
 abbrev pub given : World → Reply → Outcome
 given v r = record { world = v; reply = r }
 
-unfoldable pub Answered : {w v : World} {a o : Seen} → History w a v o → Type 0
+unfoldable pub Answered : {w v : World} {a o : Observed} → History w a v o → Type 0
 Answered none = Unit {0}
 Answered (call {u} {v} h c r m) = Answered h × (effect v r ≡ gives c u)
-Answered (stray {u} {x} {y} h c r m s) = Answered h × (effect y r ≡ gives c x) × (y ≡ x)
+Answered (callWithOtherLengths {u} {x} {y} h c r m s) = Answered h × (effect y r ≡ gives c x) × (y ≡ x)
 Answered (refusedBuild {u} {x} {y} h ram isolation tracked release r m f) = Answered h × (given y r ≡ buildOf x ram isolation tracked release) × (y ≡ x)
 
 -- the definitions' steps one after another: what a list of calls from w leaves
-unfoldable pub leaves : {w v : World} {a o : Seen} → History w a v o → World
+unfoldable pub leaves : {w v : World} {a o : Observed} → History w a v o → World
 leaves {w} none = w
 leaves (call h c r m) = gives c (leaves h) .world
-leaves (stray h c r m s) = leaves h
+leaves (callWithOtherLengths h c r m s) = leaves h
 leaves (refusedBuild h ram isolation tracked release r m f) = leaves h

@@ -12,9 +12,9 @@ use Rattle.setting_entries.specs.Calls.{Enabled, enableOf, enabledIn, defaultIn
 use Rattle.protector_state.specs.declared.Value.{Value}
 use Rattle.queries.specs.Queries as queries
 use Rattle.queries.specs.Queries.{queryOf, faultIn, lowerIn, accessIn}
-use Rattle.visibility_claims.specs.Whole.{Given}
+use Rattle.visibility_claims.specs.Whole.{BackendAnswer}
 use Rattle.visibility_claims.specs.Calls.{answerOf}
-use Rattle.history.specs.Seen.{Seen, seesCall, seesAnswer}
+use Rattle.history.specs.Observed.{Observed, seesCall, seesAnswer}
 
 -- a call that may write, and is no answer
 pub data Writer : Type 0 where
@@ -41,7 +41,7 @@ pub data Reader : Type 0 where
 pub data Call : Type 0 where
   Write : Writer → Call
   Read : Reader → Call
-  Answer : Given → Call
+  Answer : BackendAnswer → Call
 
 -- ---- what a call answers: a reply; or the value told, or the output as it is filled and a reply
 
@@ -104,7 +104,7 @@ gives (Answer g) w = replied (answerOf g w)
 
 -- ---- what is seen of a call that gave r and left the pages run p
 
-abbrev pub seesWriter : Writer → Reply → List ℕ → Seen → Seen
+abbrev pub seesWriter : Writer → Reply → List ℕ → Observed → Observed
 seesWriter (Visibility vtl share list) r p o = seesCall (pagesOf list) r p o
 seesWriter (Protection vtl flags list) r p o = seesCall [] r p o
 seesWriter (Default vtl flags) r p o = seesCall [] r p o
@@ -114,7 +114,7 @@ seesWriter (Lock vtl list) r p o = o
 seesWriter (Unlock vtl list) r p o = o
 seesWriter Enable r p o = o
 
-abbrev pub sees : (c : Call) → Result c → List ℕ → Seen → Seen
+abbrev pub sees : (c : Call) → Result c → List ℕ → Observed → Observed
 sees (Write a) r p o = seesWriter a r p o
 sees (Read q) r p o = o
 sees (Answer g) r p o = seesAnswer g r p o

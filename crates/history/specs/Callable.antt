@@ -9,7 +9,7 @@ use Rattle.call_refusals.specs.World.{World, world}
 use Rattle.protector.specs.Calls.{buildOf}
 use Rattle.history.specs.Call.{Call, gives}
 use Rattle.history.specs.Made.{Made, Built}
-use Rattle.history.specs.History.{Stray, StrayLock, IsRefusal}
+use Rattle.history.specs.History.{OtherLengths, OtherLockLengths, IsRefusal}
 
 -- every call, of a world of any lengths; and a build that is refused, as for any isolation outside the domain
 pub record Callable (w : World) : Type 0 where
@@ -18,8 +18,8 @@ pub record Callable (w : World) : Type 0 where
   pub refused : (ram : List ℕ) (isolation tracked release : ℕ) → fitIsolation isolation ≡ false → IsRefusal (buildOf w ram isolation tracked release .reply)
 
 -- something of another length: no state block at all; or, beside the state block as it was left, no pages run, or no tables
-pub record Strays (u : World) : Type 0 where
-  pub no-block : Stray u (world (u .maps) [] (u .pages) (u .tables))
-  pub no-pages : Stray u (world (u .maps) (u .state) [] (u .tables))
-  pub no-lock-block : StrayLock u (world (u .maps) [] (u .pages) (u .tables))
-  pub no-lock-tables : StrayLock u (world (u .maps) (u .state) (u .pages) [])
+pub record AnyOtherLengths (u : World) : Type 0 where
+  pub no-block : OtherLengths u (world (u .maps) [] (u .pages) (u .tables))
+  pub no-pages : OtherLengths u (world (u .maps) (u .state) [] (u .tables))
+  pub no-lock-block : OtherLockLengths u (world (u .maps) [] (u .pages) (u .tables))
+  pub no-lock-tables : OtherLockLengths u (world (u .maps) (u .state) (u .pages) [])

@@ -11,7 +11,7 @@ use Rattle.protector_state.specs.declared.Reply.{Reply}
 use Rattle.protector_state.specs.State.{stateLen, settingsOf, entriesIn}
 use Rattle.call_refusals.specs.World.{World, fits}
 use Rattle.protector.specs.Calls.{buildOf}
-use Rattle.history.specs.Seen.{Seen, unseen}
+use Rattle.history.specs.Observed.{Observed, unseen}
 use Rattle.history.specs.Marks.{Holds}
 use Rattle.history.specs.Tables.{TablesFit}
 use Rattle.history.specs.Settings.{firstSettings, SettingsFit}
@@ -23,7 +23,7 @@ use Rattle.history.specs.Requests.{Asked}
 
 -- ---- of a list of calls h from any world, of the layout es and these settings
 
-pub record ClaimFrom (es : List MemoryRangeWithNode) (isolation tracked release : ℕ) {w v : World} {a o : Seen} (h : History w a v o) : Type 0 where
+pub record ClaimFrom (es : List MemoryRangeWithNode) (isolation tracked release : ℕ) {w v : World} {a o : Observed} (h : History w a v o) : Type 0 where
   -- no entry asks anything of its arguments
   pub unasked : Unasked
   -- each call gave what its definition gives of what it was lent, and what is lent now is these definitions composed
@@ -42,7 +42,7 @@ pub record ClaimFrom (es : List MemoryRangeWithNode) (isolation tracked release 
   pub permitted : Permitted es v
 
 -- and from a build that was lent u, left w and replied r: the build too gave what its definition gives, and left these settings
-pub record Claim (ram : List ℕ) (isolation tracked release : ℕ) (u : World) (r : Reply) {w v : World} {o : Seen} (h : History w unseen v o) : Type 0 where
+pub record Claim (ram : List ℕ) (isolation tracked release : ℕ) (u : World) (r : Reply) {w v : World} {o : Observed} (h : History w unseen v o) : Type 0 where
   pub built : given w r ≡ buildOf u ram isolation tracked release
   pub first : settingsOf (w .state) ≡ firstSettings isolation tracked release
   pub calls : ClaimFrom (entriesOf ram) isolation tracked release h

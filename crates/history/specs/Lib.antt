@@ -1,6 +1,6 @@
-pub mod Seen
+pub mod Observed
 pub mod Marks
-pub mod SeenTable
+pub mod ObservedTable
 pub mod Tables
 pub mod Settings
 pub mod Permitted

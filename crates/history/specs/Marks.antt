@@ -14,27 +14,27 @@ use lib.ListN.{length}
 use Rattle.protector_state.specs.State.{stateLen, ramOf, entriesIn}
 use Rattle.protector_state.specs.Reply.{finished}
 use Rattle.call_refusals.specs.World.{World, fits, statusIn}
-use Rattle.history.specs.Seen.{Seen, isWaiting, Private, Shared, tookAs, Age, Never, Returned, Validated, Zeroed}
+use Rattle.history.specs.Observed.{Observed, isWaiting, Private, Shared, tookAs, ReturnState, Never, Returned, Validated, Zeroed}
 
 -- a page's mark in a map
 abbrev pub Has : List ℕ → ℕ → Type 0
 Has m z = bitAt 8 m z ≡ true
 
 -- a page that was never returned, or validated and then zeroed since it was
-abbrev pub isSettled : Age → Bool
+abbrev pub isSettled : ReturnState → Bool
 isSettled Never = true
 isSettled Returned = false
 isSettled Validated = false
 isSettled Zeroed = true
 
 -- both marks of a page say as what it was last taken
-pub record Exact (m : Maps) (o : Seen) (z : ℕ) : Type 0 where
+pub record Exact (m : Maps) (o : Observed) (z : ℕ) : Type 0 where
   pub private : o .last z ≡ Private → Has (m .private) z
   pub private-only : Has (m .private) z → o .last z ≡ Private
   pub shared : o .last z ≡ Shared → Has (m .shared) z
   pub shared-only : Has (m .shared) z → o .last z ≡ Shared
 
-pub record Marked (es : List MemoryRangeWithNode) (m : Maps) (o : Seen) : Type 0 where
+pub record Marked (es : List MemoryRangeWithNode) (m : Maps) (o : Observed) : Type 0 where
   -- a RAM page not listed by the visibility change under way, nor by the one that halted
   pub exact : (z : ℕ) → isRam es z ≡ true → among (o .listed) z ≡ false → Exact m o z
   -- and so every RAM page, with nothing under way and nothing halted
@@ -47,13 +47,13 @@ pub record Marked (es : List MemoryRangeWithNode) (m : Maps) (o : Seen) : Type 0
   pub shared-ram : (z : ℕ) → Has (m .shared) z → isRam es z ≡ true
 
 -- the whole claim at a stop: the marks, and on SNP a page is marked private only if it was never returned, or validated and then zeroed since its return
-pub record Holds (es : List MemoryRangeWithNode) (i : IsolationType) (m : Maps) (o : Seen) : Type 0 where
+pub record Holds (es : List MemoryRangeWithNode) (i : IsolationType) (m : Maps) (o : Observed) : Type 0 where
   pub marks : Marked es m o
   pub settled : isSnp i ≡ true → (z : ℕ) → Has (m .private) z → isSettled (o .age z) ≡ true
 
 -- ---- a list may begin where nothing is under way and each RAM page has one mark, as after a build: what was last taken is then read off the marks
 
-abbrev pub readOff : Maps → Seen
+abbrev pub readOff : Maps → Observed
 readOff m = record { op = finished 0 0 0 0; table = []; halted = false; listed = []; last = λ z. tookAs (bitAt 8 (m .shared) z); age = λ z. Never }
 
 pub record Settled (w : World) : Type 0 where

@@ -6,6 +6,8 @@ use mathlib.Core.List.{List, [], _∷_}
 use Prim.Native.Nat.{ℕ, _≤_, _<_}
 use lib.Dec.{eqb}
 use lib.ListN.{length}
+use Rattle.abi.specs.Flags.{flagsEnd}
+use Rattle.abi.specs.Limits as limit
 use Rattle.layout.specs.declared.MemoryRangeWithNode.{MemoryRangeWithNode}
 use Rattle.layout.specs.Layout.{isRam}
 use Rattle.permissions.specs.declared.GuestVtl.{GuestVtl}
@@ -25,9 +27,9 @@ use Rattle.call_refusals.specs.World.{World, tablesLen, overlaysOf, locksOf}
 -- counted at least once and at most 65,535 times; its flags are flags; of guest memory (0) on a RAM page, of Dma (1) on one that isn't
 pub record EntryFits (es : List MemoryRangeWithNode) (e : OverlayPage) : Type 0 where
   pub counted : 1 ≤ e .«ref_count»
-  pub most : e .«ref_count» ≤ 65535
-  pub previous : e .«previous_permissions» < 16
-  pub own : e .«overlay_permissions» < 16
+  pub most : e .«ref_count» ≤ limit.refCount
+  pub previous : e .«previous_permissions» < flagsEnd
+  pub own : e .«overlay_permissions» < flagsEnd
   pub source : e .«gpn_source» < 2
   pub page : isRam es (e .gpn) ≡ eqb (e .«gpn_source») 0
 
@@ -39,7 +41,7 @@ EachFits es (e ∷ os) = EntryFits es e × (knows os (e .gpn) ≡ false) × Each
 -- words that are the table of such entries, at most 128
 pub record Overlays (es : List MemoryRangeWithNode) (t : List ℕ) : Type 0 where
   pub entries : List OverlayPage
-  pub few : length entries ≤ 128
+  pub few : length entries ≤ limit.overlays
   pub fit : EachFits es entries
   pub words : t ≡ overlays.tableOf entries
 
@@ -47,7 +49,7 @@ pub record Overlays (es : List MemoryRangeWithNode) (t : List ℕ) : Type 0 wher
 
 unfoldable pub EachShort : List (List ℕ) → Type 0
 EachShort [] = Unit {0}
-EachShort (l ∷ ls) = (length l ≤ 512) × EachShort ls
+EachShort (l ∷ ls) = (length l ≤ limit.listedPages) × EachShort ls
 
 pub record Locked (t : List ℕ) : Type 0 where
   pub lists : List (List ℕ)
@@ -68,7 +70,7 @@ pub record Tables (es : List MemoryRangeWithNode) (t : List ℕ) : Type 0 where
 pub record New (es : List MemoryRangeWithNode) (e : OverlayPage) (o : List ℕ) : Type 0 where
   pub fits : EntryFits es e
   pub none : isOverlay o (e .gpn) ≡ false
-  pub room : used o < 128
+  pub room : used o < limit.overlays
 
 pub record Old (e : OverlayPage) (o : List ℕ) : Type 0 where
   pub has : isOverlay o (e .gpn) ≡ true

@@ -40,7 +40,7 @@ use Rattle.protector.specs.Writes.{applied}
 use Rattle.protector.specs.Calls.{refusedBy, decided, carriedOut, stopOf, askedFor, tableFor, visibilityTaken, visibilityOf, answerDone, answerFailed}
 use Rattle.call_refusals.specs.Refusals.{ready, visibilityRefusal, answerRefusal}
 use Rattle.call_refusals.proofs.Laws.{is-ready, fits-pages, untaken-refused}
-use Rattle.visibility_claims.specs.Whole.{Operation, Given, Succeeds, Fails, Stand, Denied, stands, wholeShare, wholeReturn}
+use Rattle.visibility_claims.specs.Whole.{Operation, BackendAnswer, Succeeds, Fails, Status, Denied, stands, wholeShare, wholeReturn}
 use Rattle.visibility_claims.specs.Requested.{denial, requestedOf, storedIn}
 use Rattle.visibility_claims.specs.Runs.{Ran, named, askedBy, lastOf, before, run, whole}
 use Rattle.visibility_claims.specs.Calls.{inputRefusal, wholeOn, takenBy, asksIn, Told, follow, crossing, replies, NamesAll, Says, Match, VisibilityIsWhole, VisibilityRefused}
@@ -336,7 +336,7 @@ module _ (tail t tables : List ℕ) (long : length tail ≡ 118) (wide : 512 ≤
   answered a true false r r₀ x x₀ h e f g = false≢true e
   answered a false true r r₀ x x₀ h e f g = false≢true (sym e)
 
-  followed : (gs : List Given) (x : Step) (m : Maps) → Few x → fit m ≡ true → Same (run settings t x m gs) (follow (left x m) gs)
+  followed : (gs : List BackendAnswer) (x : Step) (m : Maps) → Few x → fit m ≡ true → Same (run settings t x m gs) (follow (left x m) gs)
   unfolding run follow
   followed [] x m h f =
       record {
@@ -481,13 +481,13 @@ module _ (w : World) (v : GuestVtl) (l : List ℕ) (k : Taken w l) where
   abbrev start : Bool → Step
   start share = startOf (settingsOf (w .state)) v share (length (askedFor w v share l)) (stopOf w v share l) (ltb (stopOf w v share l) (length (pagesOf l)))
 
-  steps-whole : (share : Bool) (gs : List Given)
+  steps-whole : (share : Bool) (gs : List BackendAnswer)
       → run (settingsOf (w .state)) (tableFor w v share l) (start share) (w .maps) gs ≡ whole (wholeOn w v share (requestedOf w v share l) gs)
   steps-whole true gs =
       let s : Settings = settingsOf (w .state) in
       let stop : ℕ = stopOf w v true l in
       share-is-whole s v (length (askedFor w v true l)) stop (ltb stop (length (pagesOf l))) (tableFor w v true l) (w .maps) gs (omega (arith, table-long true, few-asked true)) (few-asked true)
-      ∙ ap₂ (λ (ps : List ℕ) (end : Stand). whole (wholeShare s v ps end (w .maps) gs)) (modify-pages w v true l ∙ sym (same-pages w v true l)) (sym (same-end w v true l))
+      ∙ ap₂ (λ (ps : List ℕ) (end : Status). whole (wholeShare s v ps end (w .maps) gs)) (modify-pages w v true l ∙ sym (same-pages w v true l)) (sym (same-end w v true l))
   steps-whole false gs =
       let s : Settings = settingsOf (w .state) in
       let stop : ℕ = stopOf w v false l in
@@ -502,7 +502,7 @@ module _ (w : World) (v : GuestVtl) (l : List ℕ) (k : Taken w l) where
   abbrev Whole-of : Bool → List ℕ → Ran → Told → Type 0
   Whole-of share t r x = Match (w .tables) (drop 10 (w .state)) t (settingsOf (w .state) .isolation) r x
 
-  taken-whole : (share : Bool) (gs : List Given)
+  taken-whole : (share : Bool) (gs : List BackendAnswer)
       → Whole-of share (storedIn (requestedOf w v share l .listed) (w .pages)) (whole (wholeOn w v share (requestedOf w v share l) gs)) (follow (visibilityTaken w v share l) gs)
   unfolding visibilityTaken carriedOut startOf
   taken-whole share gs =
@@ -522,16 +522,16 @@ module _ (w : World) (v : GuestVtl) (l : List ℕ) (k : Taken w l) where
   none : (b : Bool) → eqb (answerRefusal (w .state) (fits w) b) 0 ≡ false
   none b = untaken-refused (w .state) (fits w) b (idle-takes (w .state) b (k .idle))
 
-  untaken : (g : Given) → takenBy g w ≡ false
+  untaken : (g : BackendAnswer) → takenBy g w ≡ false
   untaken Succeeds = none false
   untaken (Fails code j) = none true
 
-  denied-follow : (n : ℕ) (gs : List Given) → follow (refusedBy w n) gs ≡ record { asked = []; last = refusedBy w n }
+  denied-follow : (n : ℕ) (gs : List BackendAnswer) → follow (refusedBy w n) gs ≡ record { asked = []; last = refusedBy w n }
   unfolding follow
   denied-follow n [] = refl
   denied-follow n (g ∷ gs) = rw (untaken g) (denied-follow n gs)
 
-  denied-whole : (share : Bool) (n : ℕ) (gs : List Given) → Whole-of share (w .pages) (whole (stands (w .maps) (Denied n))) (follow (refusedBy w n) gs)
+  denied-whole : (share : Bool) (n : ℕ) (gs : List BackendAnswer) → Whole-of share (w .pages) (whole (stands (w .maps) (Denied n))) (follow (refusedBy w n) gs)
   unfolding replies NamesAll flatOf
   denied-whole share n gs =
       subst (Whole-of share (w .pages) (whole (stands (w .maps) (Denied n)))) (sym (denied-follow n gs))

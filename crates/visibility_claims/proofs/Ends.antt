@@ -4,7 +4,7 @@ use mathlib.Core.Path.{_≡_, refl, sym, ap, ap₂, _∙_, subst}
 use mathlib.Core.Logic.{⊎-elim}
 use mathlib.Core.Bool.{Bool, true, false, cond, _&&_}
 use mathlib.Core.List.{List, [], _∷_}
-use Prim.Native.Nat.{ℕ, zero, suc, _+_, _-_, _*_, _≤_, _<_, min, max}
+use Prim.Native.Nat.{ℕ, suc, _+_, _-_, _*_, _≤_, _<_, min, max}
 use native.Mathlib.Decide.{decLt}
 use lib.Dec.{eqb, ltb, leb}
 use lib.ListN.{length, getD, drop}
@@ -17,6 +17,7 @@ use Rattle.permissions.specs.declared.OptionFlags.the-variants.{Some, None}
 use Rattle.layout.specs.declared.MemoryRangeWithNode.{MemoryRangeWithNode}
 use Rattle.page_list.specs.declared.PageRun.{PageRun}
 use Rattle.default_change.specs.Pieces.{span, non, pieceOf, pageUp, pieceIn, nextOf, wanted}
+use Rattle.default_change.proofs.Spans.{span-le}
 use Rattle.request_pages.specs.Request.{runEnd}
 use Rattle.request_pages.proofs.Runs.{end-none, end-after}
 use Rattle.visibility_steps.specs.declared.Phase.{Phase}
@@ -38,7 +39,7 @@ use Rattle.protector_state.specs.Changing.{stageNumber, stageOf, stageIn, isCha
 use Rattle.call_refusals.specs.World.{World, overlaysOf, fits, statusOf, takes, takesAt}
 use Rattle.protector.specs.Calls.{carriedOut, carriedChange, pieceAfter, nextIn, afterDone, afterFailed, visibilityDone, visibilityFailed, changeDone, changeFailed, answerDone, answerFailed}
 use Rattle.call_refusals.specs.Refusals.{answerRefusal}
-use Rattle.visibility_claims.specs.Whole.{Given, Succeeds, Fails}
+use Rattle.visibility_claims.specs.Whole.{BackendAnswer, Succeeds, Fails}
 use Rattle.visibility_claims.specs.Calls.{answerOf, takenBy}
 use Rattle.visibility_claims.specs.Ends.{left, leftAt, pageEnd, leftIn, underWay, afterAll, takenOf, unrefused, TakenLowers, UntakenKeeps, TakenEnd, EveryRequestEnds, DoneTaken}
 use Rattle.visibility_claims.proofs.Calls.{few-done, few-failed, no-change, phase-read, request-read}
@@ -242,15 +243,6 @@ choose : (end k : ℕ) (x y : ChangeStep) (b : Bool) → (b ≡ true → Least e
 choose end k x y true f g = f refl
 choose end k x y false f g = g refl
 
-span-within : (P : ℕ → Bool) (k a : ℕ) → span P a k ≤ k
-unfolding span
-span-within P zero a = omega arith
-span-within P (suc k) a = go (P a) (span-within P k (suc a))
-  where
-    go : (b : Bool) → span P (suc a) k ≤ k → cond b (suc (span P (suc a) k)) 0 ≤ suc k
-    go true h = omega arith
-    go false h = omega arith
-
 -- a piece lies from page a on, and ends no later than RAM
 record Ahead (a end : ℕ) (r : PageRun) : Type 0 where
   from : a ≤ r .first
@@ -263,7 +255,7 @@ in-entry P m a end h d =
     record {
       from = omega (arith, h);
       to = elim (decLt 0 (span P (m + s) (k - s))) [
-        | yes x ↦ omega (arith, x, span-within (non P) k m, span-within P (k - s) (m + s))
+        | yes x ↦ omega (arith, x, span-le (non P) k m, span-le P (k - s) (m + s))
         | no x ↦ absurd (d (omega (arith, x)))
       ];
     }
@@ -349,8 +341,8 @@ carried-left w t x h =
     rw (no-change (x .phase))
     (ap₂ (λ (p : Phase) (q : Request). left p (q .n) (q .at)) (phase-read (x .phase)) (request-read (x .phase) (x .request) (drop 10 (w .state)) h))
 
-entries-kept : (g : Stage) (q : Change) (s : List ℕ) → entriesIn (withChange g q s) ≡ entriesIn s
-entries-kept g q s = rw (getD-drop 14 s 17 0, drop-drop 18 14 s)
+pub change-entries : (g : Stage) (q : Change) (s : List ℕ) → entriesIn (withChange g q s) ≡ entriesIn s
+change-entries g q s = rw (getD-drop 14 s 17 0, drop-drop 18 14 s)
 
 changed-left : (w : World) (t : List ℕ) (x : ChangeStep) → x .change .n ≤ 512
     → leftIn (carriedChange w t x .world) ≡ leftAt (x .stage) (x .change .n) (x .change .at) (pageEnd (entriesIn (w .state)))
@@ -366,7 +358,7 @@ changed-left w t x h = go (leb 13 (stageNumber g) && ltb (stageNumber g) 20) ref
     go : (b : Bool) → (leb 13 (stageNumber g) && ltb (stageNumber g) 20) ≡ b
         → cond b (leftAt (stageOf (stageNumber g)) (min (q .n) 512) (q .at) (pageEnd (entriesIn (withChange g q (w .state))))) (left (phaseOf (stageNumber g)) (min (q .n) 512) (q .at))
         ≡ leftAt g (q .n) (q .at) (pageEnd (entriesIn (w .state)))
-    go true e = let m : min (q .n) 512 ≡ q .n = omega (arith, h) in rw (stage-read g e, m, entries-kept g q (w .state))
+    go true e = let m : min (q .n) 512 ≡ q .n = omega (arith, h) in rw (stage-read g e, m, change-entries g q (w .state))
     go false e = stage-over g (q .n) (q .at) (pageEnd (entriesIn (w .state))) (min (q .n) 512) (q .at) e
 
 lower : (l : ℕ) (w′ : World) (x : Step) → leftIn w′ ≡ left (x .phase) (x .request .n) (x .request .at) → Within (l - 1) x → 0 < l → leftIn w′ < l
@@ -447,7 +439,7 @@ unfolding answerDone answerFailed
 untaken-keeps w Succeeds e = rw e
 untaken-keeps w (Fails code k) e = rw e
 
-all-lower : (w : World) (gs : List Given) → leftIn (afterAll w gs) + takenOf w gs ≤ leftIn w
+all-lower : (w : World) (gs : List BackendAnswer) → leftIn (afterAll w gs) + takenOf w gs ≤ leftIn w
 unfolding afterAll takenOf
 all-lower w [] = omega arith
 all-lower w (g ∷ gs) = go (takenBy g w) refl (all-lower (answerOf g w .world) gs)

@@ -17,7 +17,10 @@ use Rattle.visibility_claims.specs.Calls.{follow}
 use Rattle.visibility_claims.specs.Table.{Replies}
 
 pub replies : Replies
-unfolding word writtenFrom entriesOf ramByte numberOf numberAt numbersFrom among repeats neighbours runAt pick pickPlaces tableOf stopAt runEnd put placeFrom listsFrom held operationOf ask end halt keep shareRun defaultRun returnRun afterFlush afterWait afterModify afterAccept failedModify doneOf failedOf cleared startOf firstPhases phaseOf askedOf flatOf applied carriedOut firstRefusal ready visibilityRefusal visibilityTaken visibilityOf answerRefusal answerDone answerFailed follow
+unfolding word writtenFrom entriesOf ramByte numberOf numberAt numbersFrom among repeats neighbours runAt pick pickPlaces tableOf stopAt runEnd put placeFrom
+    listsFrom held operationOf ask end halt keep shareRun defaultRun returnRun afterFlush afterWait afterModify afterAccept failedModify doneOf failedOf cleared
+    startOf firstPhases phaseOf askedOf flatOf applied carriedOut firstRefusal ready visibilityRefusal visibilityTaken visibilityOf answerRefusal answerDone
+    answerFailed follow
 replies =
     record {
       P2-told = refl;

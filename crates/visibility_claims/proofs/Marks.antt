@@ -20,7 +20,7 @@ use Rattle.page_list.specs.Runs.{runsOf}
 use Rattle.visibility_steps.specs.declared.Settings.{Settings}
 use Rattle.protector_state.specs.State.{settingsOf}
 use Rattle.call_refusals.specs.World.{World}
-use Rattle.visibility_claims.specs.Whole.{Operation, Wait, FlushAll, Protect, Invalidate, Release, Modify, Accept, Zero, Flush, TlbWait, Given, Succeeds, Fails, Stand, Denied, Ok, FailedAt, Halts, Whole, stands, asking, fails}
+use Rattle.visibility_claims.specs.Whole.{Operation, Wait, FlushAll, Protect, Invalidate, Release, Modify, Accept, Zero, Flush, TlbWait, BackendAnswer, Succeeds, Fails, Status, Denied, Ok, FailedAt, Halts, Whole, stands, asking, fails}
 use Rattle.visibility_claims.specs.Whole.{one, inTurn, perRun, flushes, accepts, defaults, shareOperations, marked, withPrivate, withShared, protecting, writingNone, clearedBy, wholeShare, returned, modified, wholeReturn}
 use Rattle.visibility_claims.specs.Calls.{wholeOn, wholeOf, follow}
 use Rattle.visibility_claims.specs.Requested.{denial, Requested, requestedOf, pagesIn, placesIn}
@@ -71,22 +71,22 @@ protect-same tracked (TlbWait v) m = same m
 
 -- ---- a part of a call that starts at m: its marks are only set, whatever answers come, and more answers only set more
 
-record Sets (m : Maps) (f : List Given → Whole) : Type 0 where
-  starts : (gs : List Given) → Grows m (f gs .maps)
-  goes : (gs hs : List Given) → Grows (f gs .maps) (f (gs ++ hs) .maps)
+record Sets (m : Maps) (f : List BackendAnswer → Whole) : Type 0 where
+  starts : (gs : List BackendAnswer) → Grows m (f gs .maps)
+  goes : (gs hs : List BackendAnswer) → Grows (f gs .maps) (f (gs ++ hs) .maps)
 
-from : (m n : Maps) (f : List Given → Whole) → Grows m n → Sets n f → Sets m f
+from : (m n : Maps) (f : List BackendAnswer → Whole) → Grows m n → Sets n f → Sets m f
 from m n f a b = record { starts = λ gs. join a (b .starts gs); goes = b .goes }
 
-sets-stand : (m : Maps) (x : Stand) → Sets m (λ gs. stands m x)
+sets-stand : (m : Maps) (x : Status) → Sets m (λ gs. stands m x)
 sets-stand m x = record { starts = λ gs. same m; goes = λ gs hs. same m }
 
-sets-one : (o : Operation) (m : Maps) (next : List Given → Whole) (failed : ℕ → ℕ → List Given → Whole) → Sets m next → ((code k : ℕ) → Sets m (failed code k))
+sets-one : (o : Operation) (m : Maps) (next : List BackendAnswer → Whole) (failed : ℕ → ℕ → List BackendAnswer → Whole) → Sets m next → ((code k : ℕ) → Sets m (failed code k))
     → Sets m (λ gs. one o m gs next failed)
 unfolding one
 sets-one o m next failed a b = record { starts = first; goes = on }
   where
-    first : (gs : List Given) → Grows m (one o m gs next failed .maps)
+    first : (gs : List BackendAnswer) → Grows m (one o m gs next failed .maps)
     first [] = same m
     first (Succeeds ∷ gs) = a .starts gs
     first (Fails code k ∷ gs) = go (fails o) (b code k .starts gs) (first gs)
@@ -95,7 +95,7 @@ sets-one o m next failed a b = record { starts = first; goes = on }
         go true h i = h
         go false h i = i
 
-    on : (gs hs : List Given) → Grows (one o m gs next failed .maps) (one o m (gs ++ hs) next failed .maps)
+    on : (gs hs : List BackendAnswer) → Grows (one o m gs next failed .maps) (one o m (gs ++ hs) next failed .maps)
     on [] hs = first hs
     on (Succeeds ∷ gs) hs = a .goes gs hs
     on (Fails code k ∷ gs) hs = go (fails o) (b code k .goes gs hs) (on gs hs)
@@ -105,7 +105,7 @@ sets-one o m next failed a b = record { starts = first; goes = on }
         go true h i = h
         go false h i = i
 
-sets-turn : (before : Operation → Maps → Maps) → ((o : Operation) (m : Maps) → Grows m (before o m)) → (os : List Operation) (m : Maps) (next : Maps → List Given → Whole)
+sets-turn : (before : Operation → Maps → Maps) → ((o : Operation) (m : Maps) → Grows m (before o m)) → (os : List Operation) (m : Maps) (next : Maps → List BackendAnswer → Whole)
     → ((m : Maps) → Sets m (next m)) → Sets m (λ gs. inTurn before os m gs next)
 unfolding inTurn
 sets-turn before b [] m next f = f m
@@ -113,7 +113,7 @@ sets-turn before b (o ∷ os) m next f =
     from m (before o m) _ (b o m)
     (sets-one o (before o m) (λ gs. inTurn before os (before o m) gs next) (λ code k gs. stands (before o m) Halts) (sets-turn before b os (before o m) next f) (λ code k. sets-stand (before o m) Halts))
 
-sets-returned : (s : Settings) (ps : List ℕ) (m : Maps) (end : Stand) → Sets m (λ gs. returned s ps m gs end)
+sets-returned : (s : Settings) (ps : List ℕ) (m : Maps) (end : Status) → Sets m (λ gs. returned s ps m gs end)
 unfolding returned
 sets-returned s ps m end =
     sets-turn writingNone (λ o m. same m) (perRun (accepts (s .isolation)) (runsOf ps)) m _
@@ -128,7 +128,7 @@ sets-modified s ps their m = sets-one (Modify false ps) m (λ gs. returned s ps 
     go code k true = from m (withShared (drop k ps) true m) _ (set-shared (drop k ps) m) (sets-returned s (take k ps) (withShared (drop k ps) true m) (FailedAt code (getD their k 0)))
     go code k false = sets-stand m Halts
 
-sets-share : (s : Settings) (v : GuestVtl) (ps : List ℕ) (end : Stand) (m : Maps) → Sets (clearedBy (s .tracked) v m ps) (λ gs. wholeShare s v ps end m gs)
+sets-share : (s : Settings) (v : GuestVtl) (ps : List ℕ) (end : Status) (m : Maps) → Sets (clearedBy (s .tracked) v m ps) (λ gs. wholeShare s v ps end m gs)
 unfolding wholeShare
 sets-share s v ps end m =
     sets-turn writingNone (λ o m. same m) (shareOperations s ps) (clearedBy (s .tracked) v m ps) (λ m gs. stands (withShared ps true m) end)
@@ -138,7 +138,7 @@ sets-return : (s : Settings) (ps their : List ℕ) (m : Maps) → Sets (withShar
 unfolding wholeReturn
 sets-return s ps their m = sets-turn writingNone (λ o m. same m) (Wait ∷ flushes (s .isolation)) (withShared ps false m) (λ m gs. modified s ps their m gs) (λ m. sets-modified s ps their m)
 
-share-clears : (s : Settings) (v : GuestVtl) (ps : List ℕ) (end : Stand) (m : Maps) → Grows (wholeShare s v ps end m [] .maps) m
+share-clears : (s : Settings) (v : GuestVtl) (ps : List ℕ) (end : Status) (m : Maps) → Grows (wholeShare s v ps end m [] .maps) m
 unfolding wholeShare inTurn one
 share-clears s Vtl0 ps end m = record { private = clear-less ps (m .private); shared = λ p e. e }
 share-clears s Vtl1 ps end m = record { private = clear-less ps (m .private); shared = λ p e. e }
@@ -157,7 +157,7 @@ call-clears w v share l = go share (eqb (denial w v share (pagesOf l)) 0) (denia
     go share false n x = same (w .maps)
 
 -- and after it they are only set, by any answers gs and any more hs
-answers-set : (w : World) (v : GuestVtl) (share : Bool) (l : List ℕ) (gs hs : List Given) → Grows (wholeOf w v share l gs .maps) (wholeOf w v share l (gs ++ hs) .maps)
+answers-set : (w : World) (v : GuestVtl) (share : Bool) (l : List ℕ) (gs hs : List BackendAnswer) → Grows (wholeOf w v share l gs .maps) (wholeOf w v share l (gs ++ hs) .maps)
 answers-set w v share l gs hs = go share (eqb (denial w v share (pagesOf l)) 0) (denial w v share (pagesOf l)) (requestedOf w v share l)
   where
     go : (share b : Bool) (n : ℕ) (x : Requested)
@@ -182,8 +182,8 @@ visibility-sets w vtl visibility l z gs hs =
 -- ---- which marks are set again: f reads the private or the shared marks
 
 module _ (f : Maps → List ℕ) (x : List ℕ) where
-  kept-one : (o : Operation) (m : Maps) (gs : List Given) (next : List Given → Whole) (failed : ℕ → ℕ → List Given → Whole) → f m ≡ x
-      → ((gs : List Given) → f (next gs .maps) ≡ x) → ((code k : ℕ) (gs : List Given) → f (failed code k gs .maps) ≡ x) → f (one o m gs next failed .maps) ≡ x
+  kept-one : (o : Operation) (m : Maps) (gs : List BackendAnswer) (next : List BackendAnswer → Whole) (failed : ℕ → ℕ → List BackendAnswer → Whole) → f m ≡ x
+      → ((gs : List BackendAnswer) → f (next gs .maps) ≡ x) → ((code k : ℕ) (gs : List BackendAnswer) → f (failed code k gs .maps) ≡ x) → f (one o m gs next failed .maps) ≡ x
   unfolding one
   kept-one o m [] next failed e a b = e
   kept-one o m (Succeeds ∷ gs) next failed e a b = a gs
@@ -193,8 +193,8 @@ module _ (f : Maps → List ℕ) (x : List ℕ) where
       go true h i = h
       go false h i = i
 
-  kept-turn : (before : Operation → Maps → Maps) → ((o : Operation) (m : Maps) → f (before o m) ≡ f m) → (os : List Operation) (m : Maps) (gs : List Given) (next : Maps → List Given → Whole)
-      → f m ≡ x → ((m : Maps) (gs : List Given) → f m ≡ x → f (next m gs .maps) ≡ x) → f (inTurn before os m gs next .maps) ≡ x
+  kept-turn : (before : Operation → Maps → Maps) → ((o : Operation) (m : Maps) → f (before o m) ≡ f m) → (os : List Operation) (m : Maps) (gs : List BackendAnswer) (next : Maps → List BackendAnswer → Whole)
+      → f m ≡ x → ((m : Maps) (gs : List BackendAnswer) → f m ≡ x → f (next m gs .maps) ≡ x) → f (inTurn before os m gs next .maps) ≡ x
   unfolding inTurn
   kept-turn before b [] m gs next e a = a m gs e
   kept-turn before b (o ∷ os) m gs next e a =
@@ -226,14 +226,14 @@ protect-shared tracked (Zero r) m = refl
 protect-shared tracked (Flush v) m = refl
 protect-shared tracked (TlbWait v) m = refl
 
-shared-returned : (s : Settings) (ps : List ℕ) (m : Maps) (gs : List Given) (end : Stand) → returned s ps m gs end .maps .shared ≡ m .shared
+shared-returned : (s : Settings) (ps : List ℕ) (m : Maps) (gs : List BackendAnswer) (end : Status) → returned s ps m gs end .maps .shared ≡ m .shared
 unfolding returned
 shared-returned s ps m gs end =
     kept-turn (λ m. m .shared) (m .shared) writingNone (λ o m. refl) (perRun (accepts (s .isolation)) (runsOf ps)) m gs _ refl
     (λ n gs e. kept-turn (λ m. m .shared) (m .shared) (protecting (s .tracked)) (protect-shared (s .tracked)) (perRun (defaults (s .defaults .vtl0) (s .defaults .vtl1)) (runsOf ps)) (withPrivate ps true n) gs
     (λ m gs. stands m end) e (λ n gs e. e))
 
-shared-modified : (s : Settings) (ps their : List ℕ) (m : Maps) (gs : List Given) → modified s ps their m gs .maps .shared ≡ restored ps gs (m .shared)
+shared-modified : (s : Settings) (ps their : List ℕ) (m : Maps) (gs : List BackendAnswer) → modified s ps their m gs .maps .shared ≡ restored ps gs (m .shared)
 unfolding modified one
 shared-modified s ps their m [] = refl
 shared-modified s ps their m (Succeeds ∷ gs) = shared-returned s ps m gs Ok
@@ -244,8 +244,8 @@ shared-modified s ps their m (Fails code k ∷ gs) = go (ltb k (length ps))
     go false = refl
 
 -- Wait and the flush leave the answers after theirs
-wait-one : (o : Operation) → fails o ≡ false → (os : List Operation) (m : Maps) (gs : List Given) (next : Maps → List Given → Whole) (F : List Given → List ℕ) → F [] ≡ m .shared
-    → ((gs : List Given) → inTurn writingNone os m gs next .maps .shared ≡ F (past os gs)) → inTurn writingNone (o ∷ os) m gs next .maps .shared ≡ F (past (o ∷ os) gs)
+wait-one : (o : Operation) → fails o ≡ false → (os : List Operation) (m : Maps) (gs : List BackendAnswer) (next : Maps → List BackendAnswer → Whole) (F : List BackendAnswer → List ℕ) → F [] ≡ m .shared
+    → ((gs : List BackendAnswer) → inTurn writingNone os m gs next .maps .shared ≡ F (past os gs)) → inTurn writingNone (o ∷ os) m gs next .maps .shared ≡ F (past (o ∷ os) gs)
 unfolding inTurn one past
 wait-one o z os m [] next F e a = sym e
 wait-one o z os m (Succeeds ∷ gs) next F e a = a gs
@@ -256,13 +256,13 @@ pub return-shared : ReturnShared
 unfolding wholeReturn inTurn past
 return-shared s ps their m gs = go (s .isolation)
   where
-    F : List Given → List ℕ
+    F : List BackendAnswer → List ℕ
     F gs = restored ps gs (marked ps false (m .shared))
 
     n : Maps
     n = withShared ps false m
 
-    next : Maps → List Given → Whole
+    next : Maps → List BackendAnswer → Whole
     next m gs = modified s ps their m gs
 
     go : (i : IsolationType) → inTurn writingNone (Wait ∷ flushes i) n gs next .maps .shared ≡ F (past (Wait ∷ flushes i) gs)

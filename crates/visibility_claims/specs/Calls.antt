@@ -5,6 +5,7 @@ use mathlib.Core.List.{List, [], _∷_, _++_}
 use Prim.Native.Nat.{ℕ}
 use lib.Dec.{eqb}
 use lib.ListN.{length, drop, take}
+use Rattle.abi.specs.Places as place
 use Rattle.abi.specs.Refusals as refusal
 use Rattle.laws.specs.Refusal.{unless, when}
 use Rattle.permissions.specs.declared.GuestVtl.{GuestVtl}
@@ -19,7 +20,7 @@ use Rattle.protector_state.specs.Reply.{askedOf, flatOf}
 use Rattle.call_refusals.specs.World.{World, Outcome, fits}
 use Rattle.protector.specs.Calls.{refusedBy, visibilityOf, answerDone, answerFailed}
 use Rattle.call_refusals.specs.Refusals.{ready, answerRefusal}
-use Rattle.visibility_claims.specs.Whole.{Operation, Wait, FlushAll, Protect, Invalidate, Release, Modify, Accept, Zero, Flush, TlbWait, Given, Succeeds, Fails, Denied, Whole, stands, wholeShare, wholeReturn}
+use Rattle.visibility_claims.specs.Whole.{Operation, Wait, FlushAll, Protect, Invalidate, Release, Modify, Accept, Zero, Flush, TlbWait, BackendAnswer, Succeeds, Fails, Denied, Whole, stands, wholeShare, wholeReturn}
 use Rattle.visibility_claims.specs.Requested.{denial, Requested, requestedOf, pagesIn, placesIn, storedIn}
 use Rattle.visibility_claims.specs.Runs.{Last, Outstanding, Gives, Ran, whole}
 
@@ -35,12 +36,12 @@ inputRefusal w vtl visibility l =
     0)))
 
 -- none of its pages refused: to shared or to private, of those that it asks for
-abbrev pub wholeOn : World → GuestVtl → Bool → Requested → List Given → Whole
+abbrev pub wholeOn : World → GuestVtl → Bool → Requested → List BackendAnswer → Whole
 wholeOn w v true x gs = wholeShare (settingsOf (w .state)) v (pagesIn (x .listed)) (x .end) (w .maps) gs
 wholeOn w v false x gs = wholeReturn (settingsOf (w .state)) (pagesIn (x .listed)) (placesIn (x .listed)) (w .maps) gs
 
 -- a page that is refused (7, 10, 11) ends it: nothing is asked for and nothing changes
-abbrev pub wholeOf : World → GuestVtl → Bool → List ℕ → List Given → Whole
+abbrev pub wholeOf : World → GuestVtl → Bool → List ℕ → List BackendAnswer → Whole
 wholeOf w v share l gs =
     cond (eqb (denial w v share (pagesOf l)) 0) (wholeOn w v share (requestedOf w v share l) gs)
     (stands (w .maps) (Denied (denial w v share (pagesOf l))))
@@ -51,24 +52,28 @@ pagesFor w v share l = cond (eqb (denial w v share (pagesOf l)) 0) (storedIn (re
 
 -- ---- the calls, each answer given in turn
 
-abbrev pub answerOf : Given → World → Outcome
+abbrev pub answerOf : BackendAnswer → World → Outcome
 answerOf Succeeds w = answerDone w
 answerOf (Fails code k) w = answerFailed w code k
 
-abbrev pub takenBy : Given → World → Bool
+abbrev pub takenBy : BackendAnswer → World → Bool
 takenBy Succeeds w = eqb (answerRefusal (w .state) (fits w) false) 0
 takenBy (Fails code k) w = eqb (answerRefusal (w .state) (fits w) true) 0
 
+-- in the place of an operation's number: none is asked for
+abbrev pub noOperation : ℕ
+noOperation = 0
+
 -- a reply that asks for an operation
 abbrev pub asksIn : Reply → List Reply
-asksIn r = cond (eqb (r .operation) 0) [] (r ∷ [])
+asksIn r = cond (eqb (r .operation) noOperation) [] (r ∷ [])
 
 -- the replies that asked for one, in order, and what was given last by a call or a taken answer
 pub record Told : Type 0 where
   pub asked : List Reply
   pub last : Outcome
 
-unfoldable pub follow : Outcome → List Given → Told
+unfoldable pub follow : Outcome → List BackendAnswer → Told
 follow o [] = record { asked = asksIn (o .reply); last = o }
 follow o (g ∷ gs) =
     let r = follow (answerOf g (o .world)) gs in
@@ -112,7 +117,7 @@ NamesAll t [] = Unit {0}
 NamesAll t (o ∷ os) = Names t o × NamesAll t os
 
 abbrev pub Says : IsolationType → Last → Reply → Type 0
-Says i Outstanding r = eqb (r .operation) 0 ≡ false
+Says i Outstanding r = eqb (r .operation) noOperation ≡ false
 Says i (Gives a) r = r ≡ flatOf i a
 
 -- the same operations, maps and answer, and the run `pages` names the pages of Modify; this run stays t, overlays and locks as in `tables`, settings and layout
@@ -124,15 +129,15 @@ pub record Match (tables rest t : List ℕ) (i : IsolationType) (r : Ran) (x : T
   pub same-reply : Says i (r .last) (x .last .reply)
   pub same-pages : x .last .world .pages ≡ t
   pub same-tables : x .last .world .tables ≡ tables
-  pub same-rest : drop 10 (x .last .world .state) ≡ rest
+  pub same-rest : drop place.afterRequest (x .last .world .state) ≡ rest
 
 -- ---- THE CLAIMS: a visibility change that isn't refused before its pages are looked at, with its answers in turn, is the whole call; Modify being the last
 -- operation asked for, the run `pages` names its pages then
 
 abbrev pub VisibilityIsWhole : Type 0
 VisibilityIsWhole =
-    (w : World) (vtl visibility : ℕ) (l : List ℕ) (gs : List Given) → inputRefusal w vtl visibility l ≡ 0
-    → Match (w .tables) (drop 10 (w .state)) (pagesFor w (vtlOf vtl) (boolOf visibility) l) (settingsOf (w .state) .isolation)
+    (w : World) (vtl visibility : ℕ) (l : List ℕ) (gs : List BackendAnswer) → inputRefusal w vtl visibility l ≡ 0
+    → Match (w .tables) (drop place.afterRequest (w .state)) (pagesFor w (vtlOf vtl) (boolOf visibility) l) (settingsOf (w .state) .isolation)
     (whole (wholeOf w (vtlOf vtl) (boolOf visibility) l gs)) (follow (visibilityOf w vtl visibility l) gs)
 
 -- one that is refused before gives that number, and changes nothing

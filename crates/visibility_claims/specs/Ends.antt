@@ -5,6 +5,7 @@ use mathlib.Core.List.{List, [], _∷_}
 use Prim.Native.Nat.{ℕ, suc, _+_, _-_, _*_, _≤_, _<_, max}
 use lib.Dec.{eqb}
 use lib.ListN.{length}
+use Rattle.abi.specs.Refusals as refusal
 use Rattle.visibility_steps.specs.declared.Phase.{Phase}
 use Rattle.visibility_steps.specs.declared.Phase.the-variants.{Idle, Halted, Wait, FlushAll, ProtectNone0, ProtectNone1, Invalidate, Release, Modify, Accept, Zero, ProtectDefault0, ProtectDefault1}
 use Rattle.layout.specs.declared.MemoryRangeWithNode.{MemoryRangeWithNode}
@@ -14,7 +15,7 @@ use Rattle.change_steps.specs.declared.Stage.the-variants as stage
 use Rattle.protector_state.specs.State.{stateLen, phaseIn, requestOf, entriesIn}
 use Rattle.protector_state.specs.Changing.{stageIn, isChanging, changeIn}
 use Rattle.call_refusals.specs.World.{World, fits, statusIn}
-use Rattle.visibility_claims.specs.Whole.{Given, Succeeds}
+use Rattle.visibility_claims.specs.Whole.{BackendAnswer, Succeeds}
 use Rattle.visibility_claims.specs.Calls.{answerOf, takenBy}
 
 -- no fewer than the operations to come, with the one outstanding: of n pages, the run at place a being under way
@@ -57,19 +58,19 @@ leftIn w =
 
 -- an operation waits for its answer (19)
 abbrev pub underWay : World → Bool
-underWay w = eqb (statusIn (w .state)) 19
+underWay w = eqb (statusIn (w .state)) refusal.busy
 
 -- the world once answers were given in turn, and how many of them were taken
-unfoldable pub afterAll : World → List Given → World
+unfoldable pub afterAll : World → List BackendAnswer → World
 afterAll w [] = w
 afterAll w (g ∷ gs) = afterAll (answerOf g w .world) gs
 
-unfoldable pub takenOf : World → List Given → ℕ
+unfoldable pub takenOf : World → List BackendAnswer → ℕ
 takenOf w [] = 0
 takenOf w (g ∷ gs) = cond (takenBy g w) 1 0 + takenOf (answerOf g w .world) gs
 
 -- while a request is under way, none of the answers is refused
-unfoldable pub unrefused : World → List Given → Type 0
+unfoldable pub unrefused : World → List BackendAnswer → Type 0
 unrefused w [] = Unit {0}
 unrefused w (g ∷ gs) = (underWay w ≡ true → takenBy g w ≡ true) × unrefused (answerOf g w .world) gs
 
@@ -77,19 +78,19 @@ unrefused w (g ∷ gs) = (underWay w ≡ true → takenBy g w ≡ true) × unref
 
 -- a taken answer, done or failed, lowers the number
 abbrev pub TakenLowers : Type 0
-TakenLowers = (w : World) (g : Given) → takenBy g w ≡ true → leftIn (answerOf g w .world) < leftIn w
+TakenLowers = (w : World) (g : BackendAnswer) → takenBy g w ≡ true → leftIn (answerOf g w .world) < leftIn w
 
 -- an answer that isn't taken changes nothing
 abbrev pub UntakenKeeps : Type 0
-UntakenKeeps = (w : World) (g : Given) → takenBy g w ≡ false → answerOf g w .world ≡ w
+UntakenKeeps = (w : World) (g : BackendAnswer) → takenBy g w ≡ false → answerOf g w .world ≡ w
 
 -- once so many answers were taken as the number says, nothing is under way
 abbrev pub TakenEnd : Type 0
-TakenEnd = (w : World) (gs : List Given) → leftIn w ≤ takenOf w gs → underWay (afterAll w gs) ≡ false
+TakenEnd = (w : World) (gs : List BackendAnswer) → leftIn w ≤ takenOf w gs → underWay (afterAll w gs) ≡ false
 
 -- as many answers as the number says, none of them refused while the request is under way, end it
 abbrev pub EveryRequestEnds : Type 0
-EveryRequestEnds = (w : World) (gs : List Given) → unrefused w gs → leftIn w ≤ length gs → underWay (afterAll w gs) ≡ false
+EveryRequestEnds = (w : World) (gs : List BackendAnswer) → unrefused w gs → leftIn w ≤ length gs → underWay (afterAll w gs) ≡ false
 
 -- done is refused by no request that is under way, where what is lent has its lengths
 abbrev pub DoneTaken : Type 0

@@ -12,7 +12,7 @@ use Rattle.mapping.specs.Maps.{Maps}
 use Rattle.visibility_steps.specs.declared.Settings.{Settings}
 use Rattle.call_refusals.specs.World.{World}
 use Rattle.protector.specs.Calls.{visibilityOf}
-use Rattle.visibility_claims.specs.Whole.{Operation, Wait, Given, Succeeds, Fails, Stand, flushes, marked, wholeShare, wholeReturn}
+use Rattle.visibility_claims.specs.Whole.{Operation, Wait, BackendAnswer, Succeeds, Fails, Status, flushes, marked, wholeShare, wholeReturn}
 use Rattle.visibility_claims.specs.Calls.{inputRefusal, follow}
 
 -- every mark of m is one of n
@@ -21,14 +21,14 @@ pub record Grows (m n : Maps) : Type 0 where
   pub shared : (p : ℕ) → bitAt 8 (m .shared) p ≡ true → bitAt 8 (n .shared) p ≡ true
 
 -- the answers that are left once operations that cannot fail are done
-unfoldable pub past : List Operation → List Given → List Given
+unfoldable pub past : List Operation → List BackendAnswer → List BackendAnswer
 past [] gs = gs
 past (o ∷ os) [] = []
 past (o ∷ os) (Succeeds ∷ gs) = past os gs
 past (o ∷ os) (Fails code k ∷ gs) = past (o ∷ os) gs
 
 -- the shared marks of a return, by the answer that Modify took: those of the pages not processed are set again
-abbrev pub restored : List ℕ → List Given → List ℕ → List ℕ
+abbrev pub restored : List ℕ → List BackendAnswer → List ℕ → List ℕ
 restored ps [] m = m
 restored ps (Succeeds ∷ gs) m = m
 restored ps (Fails code k ∷ gs) m = cond (ltb k (length ps)) (marked (drop k ps) true m) m
@@ -39,22 +39,22 @@ abbrev pub VisibilityClears : Type 0
 VisibilityClears =
     (w : World) (vtl visibility : ℕ) (l : List ℕ) → inputRefusal w vtl visibility l ≡ 0 → Grows (visibilityOf w vtl visibility l .world .maps) (w .maps)
 
-abbrev pub mapsAfter : World → ℕ → ℕ → List ℕ → List Given → Maps
+abbrev pub mapsAfter : World → ℕ → ℕ → List ℕ → List BackendAnswer → Maps
 mapsAfter w vtl visibility l gs = follow (visibilityOf w vtl visibility l) gs .last .world .maps
 
 abbrev pub VisibilitySets : Type 0
 VisibilitySets =
-    (w : World) (vtl visibility : ℕ) (l : List ℕ) → inputRefusal w vtl visibility l ≡ 0 → (gs hs : List Given)
+    (w : World) (vtl visibility : ℕ) (l : List ℕ) → inputRefusal w vtl visibility l ≡ 0 → (gs hs : List BackendAnswer)
     → Grows (mapsAfter w vtl visibility l gs) (mapsAfter w vtl visibility l (gs ++ hs))
 
 -- ---- and on the marks that are set again: of a share none, its private marks stay as the call left them
 
 abbrev pub SharePrivate : Type 0
 SharePrivate =
-    (s : Settings) (v : GuestVtl) (ps : List ℕ) (end : Stand) (m : Maps) (gs : List Given) → wholeShare s v ps end m gs .maps .private ≡ marked ps false (m .private)
+    (s : Settings) (v : GuestVtl) (ps : List ℕ) (end : Status) (m : Maps) (gs : List BackendAnswer) → wholeShare s v ps end m gs .maps .private ≡ marked ps false (m .private)
 
 -- of a return the shared ones of the pages not processed
 abbrev pub ReturnShared : Type 0
 ReturnShared =
-    (s : Settings) (ps their : List ℕ) (m : Maps) (gs : List Given)
+    (s : Settings) (ps their : List ℕ) (m : Maps) (gs : List BackendAnswer)
     → wholeReturn s ps their m gs .maps .shared ≡ restored ps (past (Wait ∷ flushes (s .isolation)) gs) (marked ps false (m .shared))

@@ -5,6 +5,7 @@ use mathlib.Core.List.{List}
 use Prim.Native.Nat.{ℕ}
 use lib.Dec.{eqb, ltb}
 use lib.ListN.{length}
+use Rattle.abi.specs.Refusals as refusals
 use Rattle.layout.specs.Layout.{entriesOf, mapLen}
 use Rattle.page_list.specs.Pages.{pagesOf}
 use Rattle.protector_state.specs.declared.Reply.{Reply}
@@ -12,13 +13,13 @@ use Rattle.call_refusals.specs.World.{World, Outcome, fits, lengthsIn}
 use Rattle.call_refusals.specs.Refusals.{buildFits, buildRefusal, visibilityRefusal, answerRefusal}
 use Rattle.protector.specs.Calls.{buildOf, visibilityOf}
 use Rattle.queries.specs.Queries.{queryRefusal, ramBefore, queryOf}
-use Rattle.visibility_claims.specs.Whole.{Given, Succeeds, Fails}
+use Rattle.visibility_claims.specs.Whole.{BackendAnswer, Succeeds, Fails}
 use Rattle.visibility_claims.specs.Calls.{answerOf}
 
 pub data Call : Type 0 where
   Build : List ℕ → ℕ → ℕ → ℕ → Call
   ChangeVisibility : ℕ → ℕ → List ℕ → Call
-  AnswerWith : Given → Call
+  AnswerWith : BackendAnswer → Call
   QueryVisibility : List ℕ → Call
 
 -- what is lent: the protector's own, and the output of a query
@@ -49,11 +50,11 @@ refusal x (AnswerWith Succeeds) = answerRefusal (x .world .state) (fits (x .worl
 refusal x (AnswerWith (Fails code k)) = answerRefusal (x .world .state) (fits (x .world)) true
 refusal x (QueryVisibility l) =
     let n = queryRefusal (x .world .state) (length (x .world .maps .shared)) l in
-    cond (eqb n 0) (cond (ltb (ramBefore (x .world .state) l) (length (pagesOf l))) 7 0) n
+    cond (eqb n 0) (cond (ltb (ramBefore (x .world .state) l) (length (pagesOf l))) refusals.notRam 0) n
 
 -- Ok or an operation asked for, 15, 16, 20: every other number changes nothing
 abbrev pub mayChange : ℕ → Bool
-mayChange n = eqb n 0 || (eqb n 15 || (eqb n 16 || eqb n 20))
+mayChange n = eqb n 0 || (eqb n refusals.accessDenied || (eqb n refusals.backendFailed || eqb n refusals.halted))
 
 -- ---- THE CLAIMS: a call that is refused changes nothing
 

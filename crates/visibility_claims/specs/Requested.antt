@@ -5,6 +5,8 @@ use mathlib.Core.List.{List, [], _∷_, _++_}
 use mathlib.Core.Path.{_≡_}
 use Prim.Native.Nat.{ℕ, suc, _<_}
 use lib.ListN.{length, getD, take, drop}
+use Rattle.abi.specs.Lengths.{placesStart}
+use Rattle.abi.specs.Refusals as refusal
 use Rattle.bitmap.specs.Pages.{bitAt}
 use Rattle.layout.specs.Layout.{isRam}
 use Rattle.permissions.specs.declared.GuestVtl.{GuestVtl}
@@ -15,7 +17,7 @@ use Rattle.lock_table.specs.Locks.{listsOf, held}
 use Rattle.request_pages.specs.Request.{over}
 use Rattle.protector_state.specs.State.{settingsOf, entriesIn}
 use Rattle.call_refusals.specs.World.{World, overlaysOf, locksOf}
-use Rattle.visibility_claims.specs.Whole.{Stand, Ok, StoppedAt}
+use Rattle.visibility_claims.specs.Whole.{Status, Ok, StoppedAt}
 
 -- ---- before anything is changed each page is looked at, in list order: 7 where it is no RAM, 10 where it is locked, 11 where an overlay is to be shared. Overlays
 -- and locks are those of the calling VTL
@@ -31,9 +33,9 @@ isLockedPage w v p = cond (isOverlayPage w v p) false (held (listsOf (locksOf (w
 unfoldable pub denial : World → GuestVtl → Bool → List ℕ → ℕ
 denial w v share [] = 0
 denial w v share (p ∷ ps) =
-    cond (not (isRam (entriesIn (w .state)) p)) 7
-    (cond (isLockedPage w v p) 10
-    (cond (share && isOverlayPage w v p) 11
+    cond (not (isRam (entriesIn (w .state)) p)) refusal.notRam
+    (cond (isLockedPage w v p) refusal.locked
+    (cond (share && isOverlayPage w v p) refusal.overlay
     (denial w v share ps)))
 
 -- ---- then the list is gone through from its first page on
@@ -58,9 +60,9 @@ pub record Listed : Type 0 where
 -- the pages asked for, in list order, and how the call ends once they are done: Ok, or 15 at the place where the list stopped
 pub record Requested : Type 0 where
   pub listed : List Listed
-  pub end : Stand
+  pub end : Status
 
-abbrev pub noMore : Stand → Requested
+abbrev pub noMore : Status → Requested
 noMore end = record { listed = []; end = end }
 
 abbrev pub withPage : ℕ → ℕ → Requested → Requested
@@ -87,7 +89,7 @@ placesIn (x ∷ xs) = x .place ∷ placesIn xs
 
 -- the lent run `pages` while the call is under way: the pages asked for from word 0 on, their places from word 512 on, every other word as it was
 abbrev pub storedIn : List Listed → List ℕ → List ℕ
-storedIn xs t = over (pagesIn xs) (take 512 t) ++ over (placesIn xs) (drop 512 t)
+storedIn xs t = over (pagesIn xs) (take placesStart t) ++ over (placesIn xs) (drop placesStart t)
 
 -- ---- THE CLAIM on places: each holds its page in the list as sent, and they ascend
 

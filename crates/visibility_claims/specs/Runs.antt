@@ -13,7 +13,7 @@ use Rattle.visibility_steps.specs.declared.Step.{Step}
 use Rattle.visibility_steps.specs.Steps.{doneOf, failedOf}
 use Rattle.call_refusals.specs.World.{takes}
 use Rattle.protector.specs.Writes.{applied}
-use Rattle.visibility_claims.specs.Whole.{Operation, Wait, FlushAll, Protect, Invalidate, Release, Modify, Accept, Zero, Flush, TlbWait, Given, Succeeds, Fails, Stand, Denied, Waits, Ok, StoppedAt, FailedAt, Halts, Whole}
+use Rattle.visibility_claims.specs.Whole.{Operation, Wait, FlushAll, Protect, Invalidate, Release, Modify, Accept, Zero, Flush, TlbWait, BackendAnswer, Succeeds, Fails, Status, Denied, Waits, Ok, StoppedAt, FailedAt, Halts, Whole}
 
 -- what the steps gave last: an operation that waits for its answer, or the call's answer
 pub data Last : Type 0 where
@@ -59,7 +59,7 @@ abbrev pub before : List Operation → Ran → Ran
 before os r = record { asked = os ++ r .asked; maps = r .maps; last = r .last }
 
 -- from a step on, with the maps before it: an answer that isn't taken changes nothing
-unfoldable pub run : Settings → List ℕ → Step → Maps → List Given → Ran
+unfoldable pub run : Settings → List ℕ → Step → Maps → List BackendAnswer → Ran
 run s t x m [] = record { asked = askedBy t (x .answer); maps = applied t (x .writes) m; last = lastOf (x .answer) }
 run s t x m (Succeeds ∷ gs) =
     cond (takes (x .phase) false) (before (askedBy t (x .answer)) (run s t (doneOf s (x .phase) (x .request) t) (applied t (x .writes) m) gs)) (run s t x m gs)
@@ -68,7 +68,7 @@ run s t x m (Fails code k ∷ gs) =
 
 -- ---- what the whole call gives, after c operations asked for before it
 
-abbrev pub told : ℕ → Stand → Last
+abbrev pub told : ℕ → Status → Last
 told n (Denied k) = Gives (Refused k)
 told n Waits = Outstanding
 told n Ok = Gives (Done n)
@@ -77,8 +77,8 @@ told n (FailedAt code i) = Gives (Failed code i n)
 told n Halts = Gives (Halted n)
 
 abbrev pub after : ℕ → Whole → Ran
-after c w = record { asked = w .asked; maps = w .maps; last = told ((c + length (w .asked)) % 2 ^ 64) (w .stand) }
+after c w = record { asked = w .asked; maps = w .maps; last = told ((c + length (w .asked)) % 2 ^ 64) (w .status) }
 
 -- and the whole call: what it tells is counted by its operations
 abbrev pub whole : Whole → Ran
-whole w = record { asked = w .asked; maps = w .maps; last = told (length (w .asked)) (w .stand) }
+whole w = record { asked = w .asked; maps = w .maps; last = told (length (w .asked)) (w .status) }

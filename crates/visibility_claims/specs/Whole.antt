@@ -33,30 +33,30 @@ pub data Operation : Type 0 where
   TlbWait : GuestVtl → Operation
 
 -- an answer of the backend: done, or failed with a code and the number of pages processed
-pub data Given : Type 0 where
-  Succeeds : Given
-  Fails : ℕ → ℕ → Given
+pub data BackendAnswer : Type 0 where
+  Succeeds : BackendAnswer
+  Fails : ℕ → ℕ → BackendAnswer
 
 -- how a call stands once the answers are used up: it was refused by a number, waits for an answer, is Ok, or ended with 15, 16 or 20
-pub data Stand : Type 0 where
-  Denied : ℕ → Stand
-  Waits : Stand
-  Ok : Stand
-  StoppedAt : ℕ → Stand
-  FailedAt : ℕ → ℕ → Stand
-  Halts : Stand
+pub data Status : Type 0 where
+  Denied : ℕ → Status
+  Waits : Status
+  Ok : Status
+  StoppedAt : ℕ → Status
+  FailedAt : ℕ → ℕ → Status
+  Halts : Status
 
 -- the operations that it asked for, in order, the maps that it leaves, and how it stands; its count is the number of operations
 pub record Whole : Type 0 where
   pub asked : List Operation
   pub maps : Maps
-  pub stand : Stand
+  pub status : Status
 
-abbrev pub stands : Maps → Stand → Whole
-stands m x = record { asked = []; maps = m; stand = x }
+abbrev pub stands : Maps → Status → Whole
+stands m x = record { asked = []; maps = m; status = x }
 
 abbrev pub asking : Operation → Whole → Whole
-asking o w = record { asked = o ∷ w .asked; maps = w .maps; stand = w .stand }
+asking o w = record { asked = o ∷ w .asked; maps = w .maps; status = w .status }
 
 -- "From the state" 21: Wait, TlbWait and a flush cannot fail
 abbrev pub fails : Operation → Bool
@@ -72,13 +72,13 @@ fails (Flush v) = false
 fails (TlbWait v) = false
 
 -- one operation: it waits for its answer, and goes on by it; a failure that isn't taken leaves it as it is
-unfoldable pub one : Operation → Maps → List Given → (List Given → Whole) → (ℕ → ℕ → List Given → Whole) → Whole
+unfoldable pub one : Operation → Maps → List BackendAnswer → (List BackendAnswer → Whole) → (ℕ → ℕ → List BackendAnswer → Whole) → Whole
 one o m [] next failed = asking o (stands m Waits)
 one o m (Succeeds ∷ gs) next failed = asking o (next gs)
 one o m (Fails code k ∷ gs) next failed = cond (fails o) (asking o (failed code k gs)) (one o m gs next failed)
 
 -- operations in turn, each after what is written before it (20: a failure halts)
-unfoldable pub inTurn : (Operation → Maps → Maps) → List Operation → Maps → List Given → (Maps → List Given → Whole) → Whole
+unfoldable pub inTurn : (Operation → Maps → Maps) → List Operation → Maps → List BackendAnswer → (Maps → List BackendAnswer → Whole) → Whole
 inTurn before [] m gs next = next m gs
 inTurn before (o ∷ os) m gs next =
     one o (before o m) gs (λ gs. inTurn before os (before o m) gs next) (λ code k gs. stands (before o m) Halts)
@@ -155,7 +155,7 @@ abbrev pub clearedBy : Bool → GuestVtl → Maps → List ℕ → Maps
 clearedBy tracked Vtl0 m ps = withPrivate ps false (withPermissions (cond tracked (forbidden ps (m .permissions)) (m .permissions)) m)
 clearedBy tracked Vtl1 m ps = withPrivate ps false m
 
-unfoldable pub wholeShare : Settings → GuestVtl → List ℕ → Stand → Maps → List Given → Whole
+unfoldable pub wholeShare : Settings → GuestVtl → List ℕ → Status → Maps → List BackendAnswer → Whole
 wholeShare s v ps end m gs =
     inTurn writingNone (shareOperations s ps) (clearedBy (s .tracked) v m ps) gs
     (λ m gs. stands (withShared ps true m) end)
@@ -163,19 +163,19 @@ wholeShare s v ps end m gs =
 -- ---- To private: ps are the pages asked for, at these places of the list
 
 -- once Modify took ps
-unfoldable pub returned : Settings → List ℕ → Maps → List Given → Stand → Whole
+unfoldable pub returned : Settings → List ℕ → Maps → List BackendAnswer → Status → Whole
 returned s ps m gs end =
     inTurn writingNone (perRun (accepts (s .isolation)) (runsOf ps)) m gs
     (λ m gs. inTurn (protecting (s .tracked)) (perRun (defaults (s .defaults .vtl0) (s .defaults .vtl1)) (runsOf ps)) (withPrivate ps true m) gs
     (λ m gs. stands m end))
 
 -- Modify: what it didn't process is marked shared again, and the call ends with 16 at the place of the first such page
-unfoldable pub modified : Settings → List ℕ → List ℕ → Maps → List Given → Whole
+unfoldable pub modified : Settings → List ℕ → List ℕ → Maps → List BackendAnswer → Whole
 modified s ps places m gs =
     one (Modify false ps) m gs (λ gs. returned s ps m gs Ok)
     (λ code k gs. cond (ltb k (length ps)) (returned s (take k ps) (withShared (drop k ps) true m) gs (FailedAt code (getD places k 0)))
     (stands m Halts))
 
-unfoldable pub wholeReturn : Settings → List ℕ → List ℕ → Maps → List Given → Whole
+unfoldable pub wholeReturn : Settings → List ℕ → List ℕ → Maps → List BackendAnswer → Whole
 wholeReturn s ps places m gs =
     inTurn writingNone (Wait ∷ flushes (s .isolation)) (withShared ps false m) gs (λ m gs. modified s ps places m gs)

@@ -54,9 +54,9 @@ begun : (l : List ℕ) → visibilityTaken wide Vtl0 true l .reply ≡ waits
 unfolding visibilityTaken startOf carriedOut flatOf askedOf
 begun l = refl
 
-taken-512 : visibilityOf wide 0 1 (listed 0 512) .reply ≡ waits
+taken : (l : List ℕ) → visibilityRefusal (wide .state) (fits wide) (wide .tables) 0 1 l ≡ 0 → visibilityOf wide 0 1 l .reply ≡ waits
 unfolding visibilityOf
-taken-512 = ap (λ (n : ℕ). decided wide n (visibilityTaken wide Vtl0 true (listed 0 512)) .reply) accepted ∙ begun (listed 0 512)
+taken l e = ap (λ (n : ℕ). decided wide n (visibilityTaken wide Vtl0 true l) .reply) e ∙ begun l
 
 pub lists : Lists
 unfolding word writtenFrom closed closedTo swapped entriesOf ramByte operandOf numberOf numberAt numbersFrom among repeats neighbours runAt pick
@@ -68,7 +68,7 @@ unfolding word writtenFrom closed closedTo swapped entriesOf ramByte operandOf n
     defaultTaken defaultOf lockRefusal lockOf unlockOf queryRefusal visibilities filledBy queryOf follow listed
 lists =
     record {
-      taken-512 = taken-512;
+      taken-512 = taken (listed 0 512) accepted;
       refused-513 = refl;
       share-4097 = refl;
       share-4103 = refl;

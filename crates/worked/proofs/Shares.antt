@@ -95,7 +95,6 @@ stops =
       five-off = refl;
       five-vtl1 = refl;
       closed-on = refl;
-      closed-again = refl;
       closed-off = refl;
       hole-first = refl;
       returned = refl;

@@ -11,7 +11,7 @@ use Rattle.setting_entries.specs.Calls.{enableOf, enabledIn, defaultIn}
 use Rattle.setting_entries.specs.Calls as calls
 use Rattle.protector_state.specs.Reply.{value}
 use Rattle.visibility_claims.specs.Table.{ram, lent, fresh, enabled}
-use Rattle.worked.specs.Crossing.{ok, refused, keeps, first, whole, clear, settings, noTables, rest}
+use Rattle.worked.specs.Crossing.{ok, refused, keeps, first, allRam, clear, settings, noTables, rest}
 
 -- bytes and words of any content, and maps of these lengths
 abbrev pub dirty : Maps → World
@@ -34,8 +34,8 @@ told w layout isolation tracked release = buildOf w layout isolation tracked rel
 
 pub record Builds : Type 0 where
   -- RAM private, none shared, every permission; no request, protections off, VTL0's default all four flags, VTL1's none given (16); no overlay, no lock
-  pub P1 : buildOf unbuilt ram 2 1 0 ≡ outcome (maps whole clear whole whole whole whole) (settings 2 1 0 0 15 16) (replicate 1024 0) noTables (ok 0)
-  pub P1-untracked : buildOf unbuilt-untracked ram 4 0 1 ≡ outcome (maps whole clear [] [] [] []) (settings 4 0 1 0 15 16) (replicate 1024 0) noTables (ok 0)
+  pub P1 : buildOf unbuilt ram 2 1 0 ≡ outcome (maps allRam clear allRam allRam allRam allRam) (settings 2 1 0 0 15 16) (replicate 1024 0) noTables (ok 0)
+  pub P1-untracked : buildOf unbuilt-untracked ram 4 0 1 ≡ outcome (maps allRam clear [] [] [] []) (settings 4 0 1 0 15 16) (replicate 1024 0) noTables (ok 0)
   -- what the other rows begin from
   pub is-fresh : fresh ≡ rest first (settings 2 1 0 0 15 16) noTables
   pub is-enabled : enabled ≡ rest first (settings 2 1 0 1 15 16) noTables

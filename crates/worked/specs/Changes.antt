@@ -13,7 +13,7 @@ use Rattle.protection_entries.specs.Calls.{protectionOf, defaultOf}
 use Rattle.visibility_claims.specs.Whole.{Succeeds, Fails}
 use Rattle.visibility_claims.specs.Calls.{follow}
 use Rattle.visibility_claims.specs.Table.{page, dones, fresh}
-use Rattle.worked.specs.Crossing.{ok, refused, keeps, waits, flushesAll, protects, invalidates, shares, flushes, tlbWaits, replies, after, low, whole, only, clear, first, untracked, settings, tables, noTables, rest, forgotten}
+use Rattle.worked.specs.Crossing.{ok, refused, keeps, waits, flushesAll, protects, invalidates, shares, flushes, tlbWaits, replies, after, low, allRam, only, clear, first, untracked, settings, tables, noTables, rest, forgotten}
 use Rattle.worked.specs.Faults.{split}
 use Rattle.worked.specs.Shares.{on, off, closed, read-only}
 
@@ -40,9 +40,9 @@ pub record Protections : Type 0 where
   pub tdx-vtl1 : replies (protectionOf (on 3 1 first) 1 8 (page 3 [])) (dones 4) ≡ protects 1 8 0 3 1 ∷ waits ∷ flushes 0 ∷ tlbWaits 1 ∷ ok 4 ∷ []
   pub cca-vtl0 : replies (protectionOf (on 4 1 first) 0 4 (page 3 [])) (dones 4) ≡ protects 0 4 0 3 1 ∷ waits ∷ flushes 0 ∷ tlbWaits 0 ∷ ok 4 ∷ []
   -- each flag to its map, before the Protect of its run is answered; of VTL1 none, nor where none are tracked
-  pub kernel-asked : protectionOf fresh 0 4 apart .world .maps ≡ maps whole clear (low 0xe7) (low 0xe7) whole (low 0xe7)
-  pub kernel-left : forgotten (after 5 (protectionOf fresh 0 4 apart)) ≡ off (maps whole clear others others whole others)
-  pub user-left : forgotten (after 4 (protectionOf fresh 0 8 (page 3 []))) ≡ off (maps whole clear (low 0xf7) (low 0xf7) (low 0xf7) whole)
+  pub kernel-asked : protectionOf fresh 0 4 apart .world .maps ≡ maps allRam clear (low 0xe7) (low 0xe7) allRam (low 0xe7)
+  pub kernel-left : forgotten (after 5 (protectionOf fresh 0 4 apart)) ≡ off (maps allRam clear others others allRam others)
+  pub user-left : forgotten (after 4 (protectionOf fresh 0 8 (page 3 []))) ≡ off (maps allRam clear (low 0xf7) (low 0xf7) (low 0xf7) allRam)
   pub vtl1-left : forgotten (after 4 (protectionOf fresh 1 8 (page 3 []))) ≡ fresh
   pub untracked-left : after 4 (protectionOf (rest untracked (settings 2 0 0 0 15 16) noTables) 0 4 (page 3 [])) .maps ≡ untracked
   -- the maps that the rows on faults begin from
@@ -54,7 +54,7 @@ pub record Protections : Type 0 where
   pub flags-16 : protectionOf fresh 0 16 (page 16 []) .reply ≡ refused 8 0
   -- a failed Protect halts; its own run is written, later ones aren't
   pub fails : replies (protectionOf fresh 0 4 apart) (Fails 77 0 ∷ []) ≡ protects 0 4 2050 3 2 ∷ finished 20 0 0 1 ∷ []
-  pub fails-left : follow (protectionOf fresh 0 4 apart) (Fails 77 0 ∷ []) .last .world .maps ≡ maps whole clear (low 0xe7) (low 0xe7) whole (low 0xe7)
+  pub fails-left : follow (protectionOf fresh 0 4 apart) (Fails 77 0 ∷ []) .last .world .maps ≡ maps allRam clear (low 0xe7) (low 0xe7) allRam (low 0xe7)
   -- Wait, Flush and TlbWait cannot fail: each is asked until it is done
   pub cannot-fail : replies (protectionOf fresh 1 4 []) (Fails 1 0 ∷ Succeeds ∷ Fails 1 0 ∷ Succeeds ∷ Fails 1 0 ∷ Succeeds ∷ []) ≡ waits ∷ flushes 0 ∷ tlbWaits 1 ∷ ok 3 ∷ []
 
@@ -68,7 +68,7 @@ abbrev pub overlaid : World
 overlaid = rest read-only (settings 2 1 0 0 15 16) (overlay5 15)
 
 abbrev pub overlaid-shared : World
-overlaid-shared = rest (maps (low 0xdf) (only 0x20) whole (low 0xdf) (low 0xdf) (low 0xdf)) (settings 2 1 0 0 15 16) (overlay5 15)
+overlaid-shared = rest (maps (low 0xdf) (only 0x20) allRam (low 0xdf) (low 0xdf) (low 0xdf)) (settings 2 1 0 0 15 16) (overlay5 15)
 
 -- a Dma overlay of VTL0 on page 16, which is no RAM
 abbrev pub dma : World
@@ -84,8 +84,8 @@ touching = rest (maps full clear full full full full) (builtState (0 ∷ 65536 �
 pub record DefaultChanges : Type 0 where
   -- all private RAM; VTL0 is flushed, the target is waited on; the default is stored, its maps have its flags
   pub vtl0-kernel : replies (defaultOf fresh 0 4) (dones 5) ≡ protects 0 4 2050 0 16 ∷ protects 0 4 2050 32 8 ∷ waits ∷ flushes 0 ∷ tlbWaits 0 ∷ ok 5 ∷ []
-  pub vtl0-left : forgotten (after 5 (defaultOf fresh 0 4)) ≡ rest (maps whole clear clear clear whole clear) (settings 2 1 0 0 4 16) noTables
-  pub vtl0-user-left : after 5 (defaultOf fresh 0 8) .maps ≡ maps whole clear clear clear clear whole
+  pub vtl0-left : forgotten (after 5 (defaultOf fresh 0 4)) ≡ rest (maps allRam clear clear clear allRam clear) (settings 2 1 0 0 4 16) noTables
+  pub vtl0-user-left : after 5 (defaultOf fresh 0 8) .maps ≡ maps allRam clear clear clear clear allRam
   pub vtl1-user : replies (defaultOf fresh 1 8) (dones 5) ≡ protects 1 8 1025 0 16 ∷ protects 1 8 1025 32 8 ∷ waits ∷ flushes 0 ∷ tlbWaits 1 ∷ ok 5 ∷ []
   -- the protectors that the rows on operations begin from
   pub vtl1-given : forgotten (after 5 (defaultOf (rest first (settings 2 1 1 0 15 16) noTables) 1 5)) ≡ on 2 1 first

@@ -8,7 +8,7 @@ use Rattle.mapping.specs.Maps.{Maps, maps}
 use Rattle.protector_state.specs.declared.Reply.{Reply}
 use Rattle.protector_state.specs.Reply.{finished}
 use Rattle.call_refusals.specs.World.{World, world, Outcome}
-use Rattle.visibility_claims.specs.Whole.{Given}
+use Rattle.visibility_claims.specs.Whole.{BackendAnswer}
 use Rattle.visibility_claims.specs.Calls.{Told, follow}
 use Rattle.visibility_claims.specs.Table.{ram, dones}
 
@@ -70,7 +70,7 @@ tlbWaits vtl = asks 10 vtl 0 0 0 0 0
 abbrev pub heard : Told → List Reply
 heard t = t .asked ++ (t .last .reply ∷ [])
 
-abbrev pub replies : Outcome → List Given → List Reply
+abbrev pub replies : Outcome → List BackendAnswer → List Reply
 replies o gs = heard (follow o gs)
 
 -- what is lent once n operations are done
@@ -86,8 +86,8 @@ named n w = take n (w .pages) ++ take n (drop 512 (w .pages))
 abbrev pub low : ℕ → List ℕ
 low b = b ∷ 0xff ∷ 0x00 ∷ 0x00 ∷ 0xff ∷ []
 
-abbrev pub whole : List ℕ
-whole = low 0xff
+abbrev pub allRam : List ℕ
+allRam = low 0xff
 
 abbrev pub only : ℕ → List ℕ
 only b = b ∷ 0x00 ∷ 0x00 ∷ 0x00 ∷ 0x00 ∷ []
@@ -97,10 +97,10 @@ clear = only 0x00
 
 -- as a build leaves them, tracked and not
 abbrev pub first : Maps
-first = maps whole clear whole whole whole whole
+first = maps allRam clear allRam allRam allRam allRam
 
 abbrev pub untracked : Maps
-untracked = maps whole clear [] [] [] []
+untracked = maps allRam clear [] [] [] []
 
 -- ---- the state block where nothing waits: isolation, tracked, release flag, protections enabled, the defaults of VTL0 and VTL1
 

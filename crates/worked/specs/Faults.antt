@@ -12,11 +12,11 @@ use Rattle.protector_state.specs.declared.Value.{Value}
 use Rattle.queries.specs.Queries.{faultIn, lowerIn, accessIn}
 use Rattle.protector_state.specs.Reply.{value}
 use Rattle.visibility_claims.specs.Table.{page, fresh, P2}
-use Rattle.worked.specs.Crossing.{low, whole, clear, untracked, settings}
+use Rattle.worked.specs.Crossing.{low, allRam, clear, untracked, settings}
 
 -- pages 3, 4, 5 and 6 have one flag each, 1, 2, 4 and 8: four protection changes leave them so (`Changes`, `split-made`)
 abbrev pub split : Maps
-split = maps whole clear (low 0x8f) (low 0x97) (low 0xa7) (low 0xc7)
+split = maps allRam clear (low 0x8f) (low 0x97) (low 0xa7) (low 0xc7)
 
 abbrev pub tracks : List ℕ
 tracks = settings 2 1 0 0 15 16

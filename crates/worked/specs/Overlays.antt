@@ -12,7 +12,7 @@ use Rattle.protector_state.specs.Reply.{value}
 use Rattle.visibility_claims.specs.Whole.{Fails}
 use Rattle.visibility_claims.specs.Calls.{follow}
 use Rattle.visibility_claims.specs.Table.{dones, fresh}
-use Rattle.worked.specs.Crossing.{ok, refused, keeps, waits, protects, flushes, tlbWaits, replies, after, low, whole, clear, first, untracked, settings, tables, noTables, rest, forgotten}
+use Rattle.worked.specs.Crossing.{ok, refused, keeps, waits, protects, flushes, tlbWaits, replies, after, low, allRam, clear, first, untracked, settings, tables, noTables, rest, forgotten}
 use Rattle.worked.specs.Faults.{split}
 use Rattle.worked.specs.Shares.{on, off, closed}
 use Rattle.worked.specs.Changes.{overlaid, dma}
@@ -26,14 +26,14 @@ in1 o = tables [] o [] []
 
 -- page 5 only executable in kernel mode (4)
 abbrev pub kernel-only : World
-kernel-only = off (maps whole clear (low 0xdf) (low 0xdf) whole (low 0xdf))
+kernel-only = off (maps allRam clear (low 0xdf) (low 0xdf) allRam (low 0xdf))
 
 abbrev pub without : World
 without = rest untracked (settings 2 0 0 0 15 16) noTables
 
 -- VTL0 has page 5 as an overlay, readable and executable in kernel mode (5), counted n times
 abbrev pub counted : ℕ → World
-counted n = rest (maps whole clear whole (low 0xdf) whole (low 0xdf)) (settings 2 1 0 0 15 16) (in0 (1 ∷ 5 ∷ 15 ∷ 5 ∷ n ∷ 0 ∷ []))
+counted n = rest (maps allRam clear allRam (low 0xdf) allRam (low 0xdf)) (settings 2 1 0 0 15 16) (in0 (1 ∷ 5 ∷ 15 ∷ 5 ∷ n ∷ 0 ∷ []))
 
 -- these maps, with pages 3, 5 and 16 locked by VTL0
 abbrev pub locking : Maps → World

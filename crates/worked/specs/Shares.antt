@@ -9,10 +9,10 @@ use Rattle.protector_state.specs.Reply.{finished}
 use Rattle.call_refusals.specs.World.{World}
 use Rattle.protector.specs.Calls.{visibilityOf, answerDone, answerFailed}
 use Rattle.protection_entries.specs.Calls.{protectionOf}
-use Rattle.visibility_claims.specs.Whole.{Given, Succeeds, Fails}
+use Rattle.visibility_claims.specs.Whole.{BackendAnswer, Succeeds, Fails}
 use Rattle.visibility_claims.specs.Calls.{follow}
 use Rattle.visibility_claims.specs.Table.{page, dones, fresh, enabled}
-use Rattle.worked.specs.Crossing.{ok, refused, keeps, waits, flushesAll, protects, invalidates, releases, shares, returns, accepts, zeroes, replies, after, named, low, whole, only, clear, first, untracked, settings, noTables, rest, forgotten}
+use Rattle.worked.specs.Crossing.{ok, refused, keeps, waits, flushesAll, protects, invalidates, releases, shares, returns, accepts, zeroes, replies, after, named, low, allRam, only, clear, first, untracked, settings, noTables, rest, forgotten}
 
 -- ---- operations: VTL0's default is all four flags, VTL1's is read and kernel execute (5)
 
@@ -81,17 +81,17 @@ pub record Moves : Type 0 where
   pub share-modifies : share-after 0 8 ≡ maps less clear less less less less
   pub share-done : share-after 0 9 ≡ shared
   -- VTL1 clears no permission, and neither does anyone where none are tracked
-  pub share-vtl1 : share-after 1 9 ≡ maps less these whole whole whole whole
+  pub share-vtl1 : share-after 1 9 ≡ maps less these allRam allRam allRam allRam
   pub share-untracked : after 9 (visibilityOf (rest untracked (settings 2 0 0 0 15 16) noTables) 0 1 three) .maps ≡ maps less these [] [] [] []
   -- a return clears shared marks at the call; its private marks come after Zero on SNP, after Accept on TDX, after Modify on CCA; then a Protect of VTL0 writes permissions
   pub return-called : return-after 2 0 ≡ maps less clear less less less less
   pub snp-zeroing : return-after 2 6 ≡ maps less clear less less less less
-  pub snp-zeroed : return-after 2 7 ≡ maps whole clear (0xff ∷ 0xf9 ∷ 0x00 ∷ 0x00 ∷ 0xff ∷ []) (0xff ∷ 0xf9 ∷ 0x00 ∷ 0x00 ∷ 0xff ∷ []) (0xff ∷ 0xf9 ∷ 0x00 ∷ 0x00 ∷ 0xff ∷ []) (0xff ∷ 0xf9 ∷ 0x00 ∷ 0x00 ∷ 0xff ∷ [])
+  pub snp-zeroed : return-after 2 7 ≡ maps allRam clear (0xff ∷ 0xf9 ∷ 0x00 ∷ 0x00 ∷ 0xff ∷ []) (0xff ∷ 0xf9 ∷ 0x00 ∷ 0x00 ∷ 0xff ∷ []) (0xff ∷ 0xf9 ∷ 0x00 ∷ 0x00 ∷ 0xff ∷ []) (0xff ∷ 0xf9 ∷ 0x00 ∷ 0x00 ∷ 0xff ∷ [])
   pub snp-returned : return-after 2 11 ≡ first
   pub tdx-accepting : return-after 3 3 .private ≡ less
-  pub tdx-accepted : return-after 3 4 .private ≡ whole
+  pub tdx-accepted : return-after 3 4 .private ≡ allRam
   pub cca-modifying : return-after 4 1 .private ≡ less
-  pub cca-modified : return-after 4 2 .private ≡ whole
+  pub cca-modified : return-after 4 2 .private ≡ allRam
   -- each flag of VTL0's default to its map: write and kernel execute (6)
   pub default-6 : after 7 (visibilityOf (rest shared (settings 2 1 0 0 6 16) noTables) 1 0 (page 9 (page 10 []))) .maps
       ≡ maps (low 0xf7) (only 0x08) less (low 0xf7) (low 0xf7) less
@@ -100,14 +100,14 @@ pub record Moves : Type 0 where
 
 -- page 5 read-only, and write-only
 abbrev pub read-only : Maps
-read-only = maps whole clear whole (low 0xdf) (low 0xdf) (low 0xdf)
+read-only = maps allRam clear allRam (low 0xdf) (low 0xdf) (low 0xdf)
 
 abbrev pub write-only : Maps
-write-only = maps whole clear (low 0xdf) whole (low 0xdf) (low 0xdf)
+write-only = maps allRam clear (low 0xdf) allRam (low 0xdf) (low 0xdf)
 
 -- page 3 is shared already, by VTL1, page 5 is read-only; and shared by VTL0
 abbrev pub mixed : Maps
-mixed = maps (low 0xf7) (only 0x08) whole (low 0xdf) (low 0xdf) (low 0xdf)
+mixed = maps (low 0xf7) (only 0x08) allRam (low 0xdf) (low 0xdf) (low 0xdf)
 
 abbrev pub closed : Maps
 closed = maps (low 0xf7) (only 0x08) (low 0xf7) (low 0xf7) (low 0xf7) (low 0xf7)
@@ -143,9 +143,8 @@ pub record Stops : Type 0 where
   pub five-left : after 6 (visibilityOf (guarded mixed) 0 1 five) .maps ≡ maps (low 0x37) (only 0xc8) (low 0x3f) (low 0x1f) (low 0x1f) (low 0x1f)
   pub five-off : last (off mixed) 0 five ≡ ok 12
   pub five-vtl1 : last (guarded mixed) 1 five ≡ ok 12
-  -- the stop is looked for before what drops out: a page that VTL0 shared has no permission left
+  -- the stop is looked for before what drops out: a page that VTL0 shared has no permission left (alone in its list: `P5-second`)
   pub closed-on : last (guarded closed) 0 five ≡ finished 15 6 1 6
-  pub closed-again : last (guarded closed) 0 (page 3 []) ≡ finished 15 6 0 3
   pub closed-off : last (off closed) 0 (page 3 []) ≡ ok 3
   -- 7, 10 and 11 of any page come first; a return has no stop
   pub hole-first : visibilityOf (guarded closed) 0 1 (page 3 (page 16 [])) .reply ≡ refused 7 8
@@ -166,15 +165,15 @@ pub record Calls : Type 0 where
   pub P5-left : forgotten (after 6 (visibilityOf enabled 0 1 (page 3 []))) ≡ guarded closed
   pub P5-second : last (guarded closed) 0 (page 3 []) ≡ finished 15 6 0 3
   pub P5-vtl1-first : last enabled 1 (page 3 []) ≡ ok 6
-  pub P5-vtl1-left : forgotten (after 6 (visibilityOf enabled 1 1 (page 3 []))) ≡ guarded (maps (low 0xf7) (only 0x08) whole whole whole whole)
-  pub P5-vtl1-second : last (guarded (maps (low 0xf7) (only 0x08) whole whole whole whole)) 1 (page 3 []) ≡ ok 3
+  pub P5-vtl1-left : forgotten (after 6 (visibilityOf enabled 1 1 (page 3 []))) ≡ guarded (maps (low 0xf7) (only 0x08) allRam allRam allRam allRam)
+  pub P5-vtl1-second : last (guarded (maps (low 0xf7) (only 0x08) allRam allRam allRam allRam)) 1 (page 3 []) ≡ ok 3
 
 -- ---- failures, of a return of 4, 3, 9 and 10, of which 4 is private already
 
 abbrev pub four : List ℕ
 four = page 4 three
 
-abbrev pub failing : ℕ → List Given
+abbrev pub failing : ℕ → List BackendAnswer
 failing k = Succeeds ∷ Succeeds ∷ Fails 77 k ∷ dones 9
 
 abbrev pub failed : ℕ → List Reply

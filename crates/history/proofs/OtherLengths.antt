@@ -12,31 +12,31 @@ use Rattle.protector_state.specs.State.{stateLen}
 use Rattle.call_refusals.specs.World.{World, Outcome, tablesLen, fits, statusIn, takesIn}
 use Rattle.protector.specs.Calls.{refusedBy, decided}
 use Rattle.call_refusals.specs.Refusals.{answerRefusal}
-use Rattle.visibility_claims.specs.Whole.{Given}
-use Rattle.history.specs.Seen.{Seen, isTaken, seesTaken, seesAnswer}
-use Rattle.history.specs.History.{Stray, block, other, StrayLock, lockBlock, lockTables}
-use Rattle.history.proofs.Passed.{Passed, Whole}
+use Rattle.visibility_claims.specs.Whole.{BackendAnswer}
+use Rattle.history.specs.Observed.{Observed, isTaken, seesTaken, seesAnswer}
+use Rattle.history.specs.History.{OtherLengths, block, other, OtherLockLengths, lockBlock, lockTables}
+use Rattle.history.proofs.Passed.{Passed, Fitting}
 use Rattle.history.proofs.Bits.{clash}
 use Rattle.history.proofs.Answers.{chain, counts, chain-untaken}
 
--- nothing is of another length where the state block is whole and what else is lent fits
-pub not-whole : (u x : World) → Stray u x → Whole x → ⊥
-not-whole u x (block f) k = f (k .long)
-not-whole u x (other e f) k = clash (fits x) (k .fit) f
+-- nothing is of another length where the state block has its length and what else is lent fits
+pub not-fitting : (u x : World) → OtherLengths u x → Fitting x → ⊥
+not-fitting u x (block f) k = f (k .long)
+not-fitting u x (other e f) k = clash (fits x) (k .fit) f
 
-pub not-lent : (u x : World) → StrayLock u x → Passed x (eqb (length (x .tables)) tablesLen) → ⊥
+pub not-lent : (u x : World) → OtherLockLengths u x → Passed x (eqb (length (x .tables)) tablesLen) → ⊥
 not-lent u x (lockBlock f) k = f (k .long)
 not-lent u x (lockTables _ f) k = f (eqb-true _ _ (k .fits))
 
-pub answer-whole : (x : World) (failed : Bool) → answerRefusal (x .state) (fits x) failed ≡ 0 → Whole x
+pub answer-fitting : (x : World) (failed : Bool) → answerRefusal (x .state) (fits x) failed ≡ 0 → Fitting x
 unfolding answerRefusal
-answer-whole x failed z =
+answer-fitting x failed z =
     let a = passed (eqb (length (x .state)) stateLen) 3 _ z in
     let b = when-passed (eqb (statusIn (x .state)) refusal.halted) 19 _ (a .1) in
     record { long = eqb-true _ _ (a .0); fit = passed (fits x) 3 _ (b .1) .0 }
 
 -- an answer refused so
-module _ (u x : World) (o : Seen) (halts : o .halted ≡ eqb (statusIn (u .state)) refusal.halted) (failed : Bool) (T : Outcome) (s : Stray u x) where
+module _ (u x : World) (o : Observed) (halts : o .halted ≡ eqb (statusIn (u .state)) refusal.halted) (failed : Bool) (T : Outcome) (s : OtherLengths u x) where
   abbrev A : Bool
   A = eqb (length (x .state)) stateLen
 
@@ -53,7 +53,7 @@ module _ (u x : World) (o : Seen) (halts : o .halted ≡ eqb (statusIn (u .state
   nonzero true false true d f = absurd (f refl refl)
 
   -- it gives 4, or 20 where the state block says so
-  untaken : Stray u x → counts (o .halted) (chain A H (fits x) D) ≡ false
+  untaken : OtherLengths u x → counts (o .halted) (chain A H (fits x) D) ≡ false
   untaken (block f) = ap (λ (a : Bool). counts (o .halted) (chain a H (fits x) D)) (ne-eqb (length (x .state)) stateLen f) ∙ shut (o .halted)
     where
       shut : (h : Bool) → counts h refusal.wrongLength ≡ false
@@ -64,7 +64,7 @@ module _ (u x : World) (o : Seen) (halts : o .halted ≡ eqb (statusIn (u .state
       ∙ chain-untaken A H (fits x) D (nonzero A H (fits x) D (λ _ c. clash (fits x) c f))
 
   taken-not : eqb (chain A H (fits x) D) 0 ≡ false
-  taken-not = nonzero A H (fits x) D (λ a c. not-whole u x s (record { long = eqb-true _ _ a; fit = c }))
+  taken-not = nonzero A H (fits x) D (λ a c. not-fitting u x s (record { long = eqb-true _ _ a; fit = c }))
 
   pub refused-answer : decided x (answerRefusal (x .state) (fits x) failed) T ≡ refusedBy x (answerRefusal (x .state) (fits x) failed)
   unfolding answerRefusal
@@ -74,9 +74,9 @@ module _ (u x : World) (o : Seen) (halts : o .halted ≡ eqb (statusIn (u .state
   unfolding answerRefusal
   untaken-seen = ap (λ (X : Outcome). isTaken o (X .reply)) refused-answer ∙ untaken s
 
-  pub answer-stray : (K : Seen → Type 0) (g : Given) → K o
+  pub answer-other-lengths : (K : Observed → Type 0) (g : BackendAnswer) → K o
       → K (seesAnswer g (decided x (answerRefusal (x .state) (fits x) failed) T .reply) (decided x (answerRefusal (x .state) (fits x) failed) T .world .pages) o)
   unfolding answerRefusal
-  answer-stray K g k =
+  answer-other-lengths K g k =
       subst (λ (X : Outcome). K (seesAnswer g (X .reply) (X .world .pages) o)) (sym refused-answer)
       (subst (λ (b : Bool). K (cond b (seesTaken g (refusedBy x (chain A H (fits x) D) .reply) (x .pages) o) o)) (sym (untaken s)) k)

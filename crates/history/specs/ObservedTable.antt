@@ -17,15 +17,15 @@ use Rattle.protector_state.specs.Reply.{finished, plain, modifies, onRun, prote
 use Rattle.visibility_claims.specs.Whole.{Succeeds, Fails}
 use Rattle.visibility_claims.specs.Calls.{replies}
 use Rattle.visibility_claims.specs.Table.{P2}
-use Rattle.history.specs.Seen.{Seen, unseen, Private, Shared, Never, Returned, Validated, Zeroed, isWaiting, isTaken, seesCall, seesAnswer}
+use Rattle.history.specs.Observed.{Observed, unseen, Private, Shared, Never, Returned, Validated, Zeroed, isWaiting, isTaken, seesCall, seesAnswer}
 use Rattle.history.specs.Marks.{isSettled}
 
 -- replies that ask: Wait, FlushAll, and of a run of a share Protect VTL0, Protect VTL1, Invalidate
 abbrev waits : Reply
-waits = plain 1
+waits = plain operation.wait
 
 abbrev flushes : Reply
-flushes = plain 2
+flushes = plain operation.flushAll
 
 abbrev none0 : PageRun → Reply
 none0 r = protects Snp Vtl0 noFlags r
@@ -34,10 +34,10 @@ abbrev none1 : PageRun → Reply
 none1 r = protects Snp Vtl1 noFlags r
 
 abbrev invalidates : PageRun → Reply
-invalidates r = onRun 4 r
+invalidates r = onRun operation.invalidate r
 
 -- each answered by done in turn; the pages run is t
-unfoldable pub done : List ℕ → List Reply → Seen → Seen
+unfoldable pub done : List ℕ → List Reply → Observed → Observed
 done t [] o = o
 done t (r ∷ rs) o = done t rs (seesAnswer Succeeds r t o)
 
@@ -55,53 +55,53 @@ abbrev sharingReplies : List Reply
 sharingReplies =
     flushes ∷ none0 (run 3 1) ∷ none1 (run 3 1) ∷ invalidates (run 3 1) ∷ none0 (run 9 2) ∷ none1 (run 9 2) ∷ invalidates (run 9 2) ∷ modifies true 3 ∷ []
 
-abbrev pub sharing : Seen
+abbrev pub sharing : Observed
 sharing = done three sharingReplies (seesCall three waits three unseen)
 
-abbrev pub shared : Seen
+abbrev pub shared : Observed
 shared = seesAnswer Succeeds (finished 0 0 0 9) three sharing
 
 -- P3: a Wait that is said to have failed (21) and an answer with a short buffer (4) are not taken
-abbrev pub returning : Seen
+abbrev pub returning : Observed
 returning =
     done two (flushes ∷ modifies false 2 ∷ [])
     (seesAnswer Succeeds (finished refusal.wrongLength 0 0 0) [] (seesAnswer (Fails 1 1) (finished refusal.nothingAsked 0 0 0) two (seesCall two waits two shared)))
 
-abbrev pub returned : Seen
+abbrev pub returned : Observed
 returned = seesAnswer (Fails 77 1) (onRun operation.accept (run 9 1)) two returning
 
-abbrev pub validated : Seen
+abbrev pub validated : Observed
 validated = seesAnswer Succeeds (onRun operation.zero (run 9 1)) two returned
 
-abbrev pub cleared : Seen
+abbrev pub cleared : Observed
 cleared = seesAnswer Succeeds (protects Snp Vtl0 allFlags (run 9 1)) two validated
 
-abbrev pub ended : Seen
-ended = seesAnswer Succeeds (finished 16 77 1 6) two cleared
+abbrev pub ended : Observed
+ended = seesAnswer Succeeds (finished refusal.backendFailed 77 1 6) two cleared
 
 -- Zero asked for and done before Accept
-abbrev pub unordered : Seen
+abbrev pub unordered : Observed
 unordered = seesAnswer Succeeds (onRun operation.accept (run 9 1)) two (seesAnswer (Fails 77 1) (onRun operation.zero (run 9 1)) two returning)
 
 -- page 9 shared again
-abbrev pub again : Seen
+abbrev pub again : Observed
 again = done one (flushes ∷ none0 (run 9 1) ∷ none1 (run 9 1) ∷ invalidates (run 9 1) ∷ modifies true 1 ∷ finished 0 0 0 6 ∷ []) (seesCall one waits one ended)
 
 -- P2 with its first Protect failed: halted; and an answer after that
-abbrev pub halted : Seen
+abbrev pub halted : Observed
 halted = seesAnswer (Fails 5 0) (finished refusal.halted 0 0 3) three (done three (flushes ∷ none0 (run 3 1) ∷ []) (seesCall three waits three unseen))
 
-abbrev pub late : Seen
+abbrev pub late : Observed
 late = seesAnswer Succeeds (finished refusal.halted 0 0 0) three halted
 
 -- a Modify of P3 that is said to have failed with both its pages processed, and one of P2 with one of three: halted
-abbrev pub returned-halted : Seen
+abbrev pub returned-halted : Observed
 returned-halted = seesAnswer (Fails 77 2) (finished refusal.halted 0 0 3) two returning
 
-abbrev pub shared-halted : Seen
+abbrev pub shared-halted : Observed
 shared-halted = seesAnswer (Fails 77 1) (finished refusal.halted 0 0 9) three sharing
 
-pub record SeenTable : Type 0 where
+pub record ObservedTable : Type 0 where
   -- these are what the whole call asks for
   pub sharing-asks : replies Snp (P2 .asked) ≡ waits ∷ sharingReplies
   -- until Modify is answered nothing is taken, and the pages are listed

@@ -5,11 +5,11 @@ use Rattle.page_list.specs.Pages.{among}
 use Rattle.protector_state.specs.Reply.{askedOf}
 use Rattle.visibility_claims.specs.Calls.{replies}
 use Rattle.visibility_claims.proofs.Table.{visibility}
-use Rattle.history.specs.SeenTable.{done, SeenTable}
+use Rattle.history.specs.ObservedTable.{done, ObservedTable}
 
-pub seen-table : SeenTable
+pub observed-table : ObservedTable
 unfolding among askedOf replies done
-seen-table =
+observed-table =
     record {
       sharing-asks = ap (replies Snp) (visibility .P2-asked);
       sharing-waits = refl;

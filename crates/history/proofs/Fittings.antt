@@ -25,72 +25,73 @@ use Rattle.protection_entries.proofs.Laws.{protection-passed}
 use Rattle.overlay_refusals.specs.Refusals.{registerRefusal, unregisterRefusal}
 use Rattle.overlay_entries.specs.Calls.{currentIn, entryIn, counting, registerTaken, registerOf, unregisterTaken, unregisterOf}
 use Rattle.lock_entries.specs.Calls.{ended, lockRefusal, lockTaken, lockOf, unlockTaken, unlockOf}
-use Rattle.visibility_claims.specs.Whole.{Given, Succeeds, Fails}
+use Rattle.visibility_claims.specs.Whole.{BackendAnswer, Succeeds, Fails}
 use Rattle.visibility_claims.specs.Calls.{answerOf}
 use Rattle.call_refusals.proofs.Laws.{fits-pages}
+use Rattle.change_claims.proofs.Tables.{renewed-long}
 use Rattle.history.proofs.Calls.{taken}
 use Rattle.history.proofs.Deciding.{decides, either}
-use Rattle.history.proofs.Passed.{Whole}
-use Rattle.history.proofs.Lengths.{step-whole, change-whole, tables-whole, set-whole, replaced-long, renewed-long, lock-long, unlock-long}
+use Rattle.history.proofs.Passed.{Fitting}
+use Rattle.history.proofs.Lengths.{step-fitting, change-fitting, tables-fitting, set-fitting, replaced-long, lock-long, unlock-long}
 
-module _ (w : World) (k : Whole w) where
-  pub visibility-long : (vtl share : ℕ) (l : List ℕ) → Whole (visibilityOf w vtl share l .world)
+module _ (w : World) (k : Fitting w) where
+  pub visibility-long : (vtl share : ℕ) (l : List ℕ) → Fitting (visibilityOf w vtl share l .world)
   unfolding visibilityOf visibilityTaken
   visibility-long vtl share l =
       let v : GuestVtl = vtlOf vtl in
       let b : Bool = boolOf share in
       let p = fits-pages w (k .fit) in
-      decides Whole w (visibilityRefusal (w .state) (fits w) (w .tables) vtl share l) (visibilityTaken w v b l) k
-      (λ z. step-whole w (tableFor w v b l) _ (length-table (wanted (w .maps .shared) b) (take (stopOf w v b l) (pagesOf l)) (w .pages) p (omega (arith, length-take (stopOf w v b l) (pagesOf l), pages-few l (taken w vtl share l z .short))) ∙ sym p) k)
+      decides Fitting w (visibilityRefusal (w .state) (fits w) (w .tables) vtl share l) (visibilityTaken w v b l) k
+      (λ z. step-fitting w (tableFor w v b l) _ (length-table (wanted (w .maps .shared) b) (take (stopOf w v b l) (pagesOf l)) (w .pages) p (omega (arith, length-take (stopOf w v b l) (pagesOf l), pages-few l (taken w vtl share l z .short))) ∙ sym p) k)
 
-  pub answer-long : (g : Given) → Whole (answerOf g w .world)
+  pub answer-long : (g : BackendAnswer) → Fitting (answerOf g w .world)
   unfolding answerDone answerFailed
   answer-long Succeeds =
-      decides Whole w (answerRefusal (w .state) (fits w) false) _ k (λ _. either Whole (isChanging (w .state)) (changeDone w) (visibilityDone w) (change-whole w (w .pages) _ refl k) (step-whole w (w .pages) _ refl k))
+      decides Fitting w (answerRefusal (w .state) (fits w) false) _ k (λ _. either Fitting (isChanging (w .state)) (changeDone w) (visibilityDone w) (change-fitting w (w .pages) _ refl k) (step-fitting w (w .pages) _ refl k))
   answer-long (Fails code n) =
-      decides Whole w (answerRefusal (w .state) (fits w) true) _ k (λ _. either Whole (isChanging (w .state)) (changeFailed w) (visibilityFailed w code n) (change-whole w (w .pages) _ refl k) (step-whole w (w .pages) _ refl k))
+      decides Fitting w (answerRefusal (w .state) (fits w) true) _ k (λ _. either Fitting (isChanging (w .state)) (changeFailed w) (visibilityFailed w code n) (change-fitting w (w .pages) _ refl k) (step-fitting w (w .pages) _ refl k))
 
-  pub protection-long : (vtl flags : ℕ) (l : List ℕ) → Whole (protectionOf w vtl flags l .world)
+  pub protection-long : (vtl flags : ℕ) (l : List ℕ) → Fitting (protectionOf w vtl flags l .world)
   unfolding protectionOf protectionTaken
   protection-long vtl flags l =
       let p = fits-pages w (k .fit) in
-      decides Whole w (protectionRefusal (w .state) (fits w) (w .maps .shared) (w .tables) vtl flags l) (protectionTaken w (vtlOf vtl) flags l) k
-      (λ z. change-whole w (allListed l (w .pages)) _ (length-table (λ p. true) (pagesOf l) (w .pages) p (pages-few l (protection-passed w vtl flags l _ refl z .2)) ∙ sym p) k)
+      decides Fitting w (protectionRefusal (w .state) (fits w) (w .maps .shared) (w .tables) vtl flags l) (protectionTaken w (vtlOf vtl) flags l) k
+      (λ z. change-fitting w (allListed l (w .pages)) _ (length-table (λ p. true) (pagesOf l) (w .pages) p (pages-few l (protection-passed w vtl flags l _ refl z .2)) ∙ sym p) k)
 
-  counted : (v : GuestVtl) (p n : ℕ) → Whole (counting w v p n .world)
+  counted : (v : GuestVtl) (p n : ℕ) → Fitting (counting w v p n .world)
   counted v p n =
       let o : List ℕ = overlaysOf (w .tables) v in
-      tables-whole w _ (replaced-long (641 * vtlNumber v) 641 (w .tables) (countWords o (placeOf o p) n) (length-set o (placeOf o p + 3) n)) k
+      tables-fitting w _ (replaced-long (641 * vtlNumber v) 641 (w .tables) (countWords o (placeOf o p) n) (length-set o (placeOf o p + 3) n)) k
 
-  pub register-long : (vtl p source checked new : ℕ) → Whole (registerOf w vtl p source checked new .world)
+  pub register-long : (vtl p source checked new : ℕ) → Fitting (registerOf w vtl p source checked new .world)
   unfolding registerOf registerTaken
   register-long vtl p source checked new =
       let v : GuestVtl = vtlOf vtl in
-      decides Whole w (registerRefusal (w .state) (fits w) (w .maps .shared) (w .tables) (currentIn w v p source) vtl p source checked new) (registerTaken w v p source new) k
-      (λ _. either Whole (isOverlay (overlaysOf (w .tables) v) p) (counting w v p (entryIn (w .tables) v p .«ref_count» + 1)) _ (counted v p _) (change-whole w (w .pages) _ refl k))
+      decides Fitting w (registerRefusal (w .state) (fits w) (w .maps .shared) (w .tables) (currentIn w v p source) vtl p source checked new) (registerTaken w v p source new) k
+      (λ _. either Fitting (isOverlay (overlaysOf (w .tables) v) p) (counting w v p (entryIn (w .tables) v p .«ref_count» + 1)) _ (counted v p _) (change-fitting w (w .pages) _ refl k))
 
-  pub unregister-long : (vtl p : ℕ) → Whole (unregisterOf w vtl p .world)
+  pub unregister-long : (vtl p : ℕ) → Fitting (unregisterOf w vtl p .world)
   unfolding unregisterOf unregisterTaken
   unregister-long vtl p =
       let v : GuestVtl = vtlOf vtl in
-      decides Whole w (unregisterRefusal (w .state) (fits w) (w .tables) vtl p) (unregisterTaken w v p) k
-      (λ _. either Whole (ltb 1 (entryIn (w .tables) v p .«ref_count»)) (counting w v p (entryIn (w .tables) v p .«ref_count» - 1)) _ (counted v p _) (change-whole w (w .pages) _ refl k))
+      decides Fitting w (unregisterRefusal (w .state) (fits w) (w .tables) vtl p) (unregisterTaken w v p) k
+      (λ _. either Fitting (ltb 1 (entryIn (w .tables) v p .«ref_count»)) (counting w v p (entryIn (w .tables) v p .«ref_count» - 1)) _ (counted v p _) (change-fitting w (w .pages) _ refl k))
 
-  stored-long : (v : GuestVtl) (flags : ℕ) → Whole (stored w v flags)
-  stored-long Vtl0 flags = set-whole w 20 flags (omega arith) (omega arith) k
-  stored-long Vtl1 flags = set-whole w 21 flags (omega arith) (omega arith) k
+  stored-long : (v : GuestVtl) (flags : ℕ) → Fitting (stored w v flags)
+  stored-long Vtl0 flags = set-fitting w 20 flags (omega arith) (omega arith) k
+  stored-long Vtl1 flags = set-fitting w 21 flags (omega arith) (omega arith) k
 
-started-long : (w : World) (v : GuestVtl) (flags : ℕ) → Whole w → Whole (defaultTaken w v flags .world)
+started-long : (w : World) (v : GuestVtl) (flags : ℕ) → Fitting w → Fitting (defaultTaken w v flags .world)
 unfolding defaultTaken defaultStarted
 started-long w v flags k =
     let o : List ℕ = overlaysOf (w .tables) v in
-    let r = tables-whole w _ (replaced-long (641 * vtlNumber v) 641 (w .tables) (renewed (w .maps .private) (entriesIn (w .state)) flags o) (renewed-long (w .maps .private) (entriesIn (w .state)) flags o (used o) 1)) k in
-    either Whole (barred (w .maps .private) (w .state) (w .tables) v) (refusedBy w 10) (defaultStarted (renewedIn w v flags) v flags) k (change-whole (renewedIn w v flags) (w .pages) _ refl r)
+    let r = tables-fitting w _ (replaced-long (641 * vtlNumber v) 641 (w .tables) (renewed (w .maps .private) (entriesIn (w .state)) flags o) (renewed-long (w .maps .private) (entriesIn (w .state)) flags (used o) o 1)) k in
+    either Fitting (barred (w .maps .private) (w .state) (w .tables) v) (refusedBy w 10) (defaultStarted (renewedIn w v flags) v flags) k (change-fitting (renewedIn w v flags) (w .pages) _ refl r)
 
-pub default-long : (w : World) → Whole w → (vtl flags : ℕ) → Whole (defaultOf w vtl flags .world)
+pub default-long : (w : World) → Fitting w → (vtl flags : ℕ) → Fitting (defaultOf w vtl flags .world)
 unfolding defaultOf
 default-long w k vtl flags =
-    decides Whole w (defaultRefusal (w .state) (fits w) vtl flags) (defaultTaken (stored w (vtlOf vtl) flags) (vtlOf vtl) flags) k
+    decides Fitting w (defaultRefusal (w .state) (fits w) vtl flags) (defaultTaken (stored w (vtlOf vtl) flags) (vtlOf vtl) flags) k
     (λ _. started-long (stored w (vtlOf vtl) flags) (vtlOf vtl) flags (stored-long w k (vtlOf vtl) flags))
 
 -- locks keep the tables' length
