@@ -17,11 +17,11 @@ enum-told c = search needs
 sub-update-previous-permissions : tie.Need-sub-update-previous-permissions
 sub-update-previous-permissions c = search needs
 
-part-renew-start : tie.Need-part-renew-start
-part-renew-start c = search needs
+part-update-previous-permissions-start : tie.Need-part-update-previous-permissions-start
+part-update-previous-permissions-start c = search needs
 
-part-renew-end : tie.Need-part-renew-end
-part-renew-end c = search needs
+part-update-previous-permissions-end : tie.Need-part-update-previous-permissions-end
+part-update-previous-permissions-end c = search needs
 
 update-previous-permissions-requires : tie.Need-update-previous-permissions-requires
 update-previous-permissions-requires c κs = search needs
@@ -32,11 +32,11 @@ enum-told-2 c = search needs
 sub-update-previous-permissions-2 : tie.Need-sub-update-previous-permissions-2
 sub-update-previous-permissions-2 c = search needs
 
-part-renew-start-2 : tie.Need-part-renew-start-2
-part-renew-start-2 c = search needs
+part-update-previous-permissions-start-2 : tie.Need-part-update-previous-permissions-start-2
+part-update-previous-permissions-start-2 c = search needs
 
-part-renew-end-2 : tie.Need-part-renew-end-2
-part-renew-end-2 c = search needs
+part-update-previous-permissions-end-2 : tie.Need-part-update-previous-permissions-end-2
+part-update-previous-permissions-end-2 c = search needs
 
 update-previous-permissions-requires-2 : tie.Need-update-previous-permissions-requires-2
 update-previous-permissions-requires-2 c κs = search needs
@@ -68,13 +68,13 @@ update-previous-permissions-spec =
     ram-of-requires
     enum-told
     sub-update-previous-permissions
-    part-renew-start
-    part-renew-end
+    part-update-previous-permissions-start
+    part-update-previous-permissions-end
     update-previous-permissions-requires
     enum-told-2
     sub-update-previous-permissions-2
-    part-renew-start-2
-    part-renew-end-2
+    part-update-previous-permissions-start-2
+    part-update-previous-permissions-end-2
     update-previous-permissions-requires-2
     same-length
     returns
