@@ -168,27 +168,30 @@ fn pages_refusal(ram: &[u64], overlays: &[u64], locks: &[u64], share: bool, list
 }
 
 // The same, by the layout of the state and the tables of a VTL.
-pub fn listed_refusal(state: &[u64], tables: &[u64], vtl: GuestVtl, share: bool, list: &[u8]) -> u64
+fn each_refusal(state: &[u64], tables: &[u64], vtl: GuestVtl, share: bool, list: &[u8]) -> u64
     requires { ⌜ (length (now state) ≡ stateLen) × (length (now tables) ≡ tablesLen) ⌝ }
     ensures { λ r. ⌜ r ≡ firstRefusal (pageRefusal (entriesIn (now (state .entry))) (overlaysOf (now (tables .entry)) vtl) (locksOf (now (tables .entry)) vtl) share) (pagesOf (now (list .entry))) ⌝ }
 {
     let ram = protector_state::ram_of(state);
-    match vtl {
-        GuestVtl::Vtl0 => pages_refusal(
-            ram,
-            overlays_of(tables, GuestVtl::Vtl0),
-            locks_of(tables, GuestVtl::Vtl0),
-            share,
-            list,
-        ),
-        GuestVtl::Vtl1 => pages_refusal(
-            ram,
-            overlays_of(tables, GuestVtl::Vtl1),
-            locks_of(tables, GuestVtl::Vtl1),
-            share,
-            list,
-        ),
+    pages_refusal(
+        ram,
+        overlays_of(tables, vtl),
+        locks_of(tables, vtl),
+        share,
+        list,
+    )
+}
+
+// The same. Called from two places, the walk over the list stays a function of its own: inside an entry, beside nine lent runs,
+// it would have too few registers.
+pub fn listed_refusal(state: &[u64], tables: &[u64], vtl: GuestVtl, share: bool, list: &[u8]) -> u64
+    requires { ⌜ (length (now state) ≡ stateLen) × (length (now tables) ≡ tablesLen) ⌝ }
+    ensures { λ r. ⌜ r ≡ firstRefusal (pageRefusal (entriesIn (now (state .entry))) (overlaysOf (now (tables .entry)) vtl) (locksOf (now (tables .entry)) vtl) share) (pagesOf (now (list .entry))) ⌝ }
+{
+    if share {
+        return each_refusal(state, tables, vtl, true, list);
     }
+    each_refusal(state, tables, vtl, false, list)
 }
 
 // The number that refuses a visibility change: 0 where none does.

@@ -231,7 +231,8 @@ pub fn answer_done(
     tables: &mut [u64],
 ) -> Reply
     requires { ⌜ (length (now state) ≡ stateLen) × (length (now tables) ≡ tablesLen) ⌝ }
-    ensures { λ _. ⌜ perms (now (read .exit)) (now (write .exit)) (now (kernel .exit)) (now (user .exit)) ≡ permittedRun (afterDone (now (private .entry)) (now (state .entry)) (now (pages .entry)) (now (tables .entry)) .written) (flagsOf (afterDone (now (private .entry)) (now (state .entry)) (now (pages .entry)) (now (tables .entry)) .change .flags)) (perms (now (read .entry)) (now (write .entry)) (now (kernel .entry)) (now (user .entry))) ⌝ }
+    ensures { λ _. ⌜ perms (now (read .exit)) (now (write .exit)) (now (kernel .exit)) (now (user .exit))
+        ≡ permittedRun (afterDone (now (private .entry)) (now (state .entry)) (now (pages .entry)) (now (tables .entry)) .written) (flagsOf (afterDone (now (private .entry)) (now (state .entry)) (now (pages .entry)) (now (tables .entry)) .change .flags)) (perms (now (read .entry)) (now (write .entry)) (now (kernel .entry)) (now (user .entry))) ⌝ }
     ensures { λ _. ⌜ now (state .exit) ≡ withChange (afterDone (now (private .entry)) (now (state .entry)) (now (pages .entry)) (now (tables .entry)) .stage) (afterDone (now (private .entry)) (now (state .entry)) (now (pages .entry)) (now (tables .entry)) .change) (now (state .entry)) ⌝ }
     ensures { λ _. ⌜ now (tables .exit) ≡ entered (afterDone (now (private .entry)) (now (state .entry)) (now (pages .entry)) (now (tables .entry)) .entry) (afterDone (now (private .entry)) (now (state .entry)) (now (pages .entry)) (now (tables .entry)) .change) (now (tables .entry)) ⌝ }
     ensures { λ r. ⌜ r ≡ flatOf (settingsOf (now (state .entry)) .isolation) (afterDone (now (private .entry)) (now (state .entry)) (now (pages .entry)) (now (tables .entry)) .answer) ⌝ }

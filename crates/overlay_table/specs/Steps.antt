@@ -8,7 +8,6 @@ use mathlib.Core.List.{List}
 use lib.ListN.{length, getD, drop as dropL}
 use lib.Seq.{drop-cons, drop-length}
 use lib.Dec.{T as Holds, eqb}
-use borrow.Author.Tests.{eq-eqb, ne-eqb}
 use Rattle.overlay_table.specs.Search.{none, pick, findFrom}
 use Rattle.overlay_table.specs.declared.OverlayPage.{OverlayPage}
 use Rattle.overlay_table.specs.declared.Found.{Found}
@@ -35,12 +34,3 @@ past ys page i l miss = sym (step-is ys page i l ∙ on-false (eqb (getD ys i no
 pub none-left : (ys : List OverlayPage) (page : ℕ) → findFrom (dropL (length ys) ys) page (length ys) ≡ Nothing
 unfolding findFrom
 none-left ys page = rw drop-length
-
--- the same where the test is a fact of numbers, and what stands past the end is any overlay
-pub seen-at : (ys : List OverlayPage) (page i : ℕ) (d : OverlayPage) → i < length ys → getD ys i d .gpn ≡ page → At i ≡ findFrom (dropL i ys) page i
-unfolding findFrom
-seen-at ys page i d l e = rw (drop-cons ys i d l, eq-eqb (getD ys i d .gpn) page e)
-
-pub past-at : (ys : List OverlayPage) (page i : ℕ) (d : OverlayPage) → i < length ys → (getD ys i d .gpn ≡ page → ⊥) → findFrom (dropL (i + 1) ys) page (i + 1) ≡ findFrom (dropL i ys) page i
-unfolding findFrom
-past-at ys page i d l n = rw (drop-cons ys i d l, ne-eqb (getD ys i d .gpn) page n, add-one i)

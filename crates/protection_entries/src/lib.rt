@@ -159,7 +159,8 @@ pub extern "C" fn protector_change_default_vtl_protections(
     vtl: u64,
     flags: u64,
 ) -> Reply
-    ensures { λ r. ⌜ outcome (maps (now (private .entry)) (now (shared .entry)) (now (read .exit)) (now (write .exit)) (now (kernel .exit)) (now (user .exit))) (now (state .exit)) (now (pages .entry)) (now (tables .exit)) r ≡ defaultOf (world (maps (now (private .entry)) (now (shared .entry)) (now (read .entry)) (now (write .entry)) (now (kernel .entry)) (now (user .entry))) (now (state .entry)) (now (pages .entry)) (now (tables .entry))) vtl flags ⌝ }
+    ensures { λ r. ⌜ outcome (maps (now (private .entry)) (now (shared .entry)) (now (read .exit)) (now (write .exit)) (now (kernel .exit)) (now (user .exit))) (now (state .exit)) (now (pages .entry)) (now (tables .exit)) r
+        ≡ defaultOf (world (maps (now (private .entry)) (now (shared .entry)) (now (read .entry)) (now (write .entry)) (now (kernel .entry)) (now (user .entry))) (now (state .entry)) (now (pages .entry)) (now (tables .entry))) vtl flags ⌝ }
 {
     let lengths = Lengths {
         maps: MapLengths {
@@ -277,7 +278,8 @@ pub extern "C" fn protector_change_vtl_protections(
     flags: u64,
     list: &[u8],
 ) -> Reply
-    ensures { λ r. ⌜ outcome (maps (now (private .entry)) (now (shared .entry)) (now (read .exit)) (now (write .exit)) (now (kernel .exit)) (now (user .exit))) (now (state .exit)) (now (pages .exit)) (now (tables .entry)) r ≡ protectionOf (world (maps (now (private .entry)) (now (shared .entry)) (now (read .entry)) (now (write .entry)) (now (kernel .entry)) (now (user .entry))) (now (state .entry)) (now (pages .entry)) (now (tables .entry))) vtl flags (now (list .entry)) ⌝ }
+    ensures { λ r. ⌜ outcome (maps (now (private .entry)) (now (shared .entry)) (now (read .exit)) (now (write .exit)) (now (kernel .exit)) (now (user .exit))) (now (state .exit)) (now (pages .exit)) (now (tables .entry)) r
+        ≡ protectionOf (world (maps (now (private .entry)) (now (shared .entry)) (now (read .entry)) (now (write .entry)) (now (kernel .entry)) (now (user .entry))) (now (state .entry)) (now (pages .entry)) (now (tables .entry))) vtl flags (now (list .entry)) ⌝ }
 {
     let lengths = Lengths {
         maps: MapLengths {

@@ -8,7 +8,7 @@ use Rattle.abi.specs.Lengths.{overlaysLen}
 use Rattle.permissions.specs.declared.GuestVtl.{GuestVtl}
 use Rattle.permissions.specs.declared.HvMapGpaFlags.{HvMapGpaFlags}
 use Rattle.permissions.specs.Flags.{vtlNumber}
-use Rattle.mapping.specs.Maps.{Permissions, Maps, perms, permitted}
+use Rattle.mapping.specs.Maps.{Permissions, Maps, permitted}
 use Rattle.page_list.specs.declared.PageRun.{PageRun}
 use Rattle.overlay_table.specs.Overlays.{isOverlay, placeOf, entry, addWords, removeWords}
 use Rattle.request_pages.specs.Request.{put, putFlags}

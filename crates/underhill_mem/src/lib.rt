@@ -32,7 +32,8 @@ pub extern "C" fn protector_build(
     pages: &mut [u64],
     tables: &mut [u64],
 ) -> Reply
-    ensures { λ r. ⌜ outcome (maps (now (private .exit)) (now (shared .exit)) (now (read .exit)) (now (write .exit)) (now (kernel .exit)) (now (user .exit))) (now (state .exit)) (now (pages .exit)) (now (tables .exit)) r ≡ buildOf (world (maps (now (private .entry)) (now (shared .entry)) (now (read .entry)) (now (write .entry)) (now (kernel .entry)) (now (user .entry))) (now (state .entry)) (now (pages .entry)) (now (tables .entry))) (now (ram .entry)) isolation tracked release ⌝ }
+    ensures { λ r. ⌜ outcome (maps (now (private .exit)) (now (shared .exit)) (now (read .exit)) (now (write .exit)) (now (kernel .exit)) (now (user .exit))) (now (state .exit)) (now (pages .exit)) (now (tables .exit)) r
+        ≡ buildOf (world (maps (now (private .entry)) (now (shared .entry)) (now (read .entry)) (now (write .entry)) (now (kernel .entry)) (now (user .entry))) (now (state .entry)) (now (pages .entry)) (now (tables .entry))) (now (ram .entry)) isolation tracked release ⌝ }
 {
     let lengths = Lengths {
         maps: MapLengths {
@@ -81,7 +82,8 @@ pub extern "C" fn protector_change_host_visibility(
     visibility: u64,
     list: &[u8],
 ) -> Reply
-    ensures { λ r. ⌜ outcome (maps (now (private .exit)) (now (shared .exit)) (now (read .exit)) (now (write .exit)) (now (kernel .exit)) (now (user .exit))) (now (state .exit)) (now (pages .exit)) (now (tables .entry)) r ≡ visibilityOf (world (maps (now (private .entry)) (now (shared .entry)) (now (read .entry)) (now (write .entry)) (now (kernel .entry)) (now (user .entry))) (now (state .entry)) (now (pages .entry)) (now (tables .entry))) vtl visibility (now (list .entry)) ⌝ }
+    ensures { λ r. ⌜ outcome (maps (now (private .exit)) (now (shared .exit)) (now (read .exit)) (now (write .exit)) (now (kernel .exit)) (now (user .exit))) (now (state .exit)) (now (pages .exit)) (now (tables .entry)) r
+        ≡ visibilityOf (world (maps (now (private .entry)) (now (shared .entry)) (now (read .entry)) (now (write .entry)) (now (kernel .entry)) (now (user .entry))) (now (state .entry)) (now (pages .entry)) (now (tables .entry))) vtl visibility (now (list .entry)) ⌝ }
 {
     let lengths = Lengths {
         maps: MapLengths {
@@ -137,7 +139,8 @@ pub extern "C" fn protector_answer_done(
     pages: &mut [u64],
     tables: &mut [u64],
 ) -> Reply
-    ensures { λ r. ⌜ outcome (maps (now (private .exit)) (now (shared .exit)) (now (read .exit)) (now (write .exit)) (now (kernel .exit)) (now (user .exit))) (now (state .exit)) (now (pages .exit)) (now (tables .exit)) r ≡ answerDone (world (maps (now (private .entry)) (now (shared .entry)) (now (read .entry)) (now (write .entry)) (now (kernel .entry)) (now (user .entry))) (now (state .entry)) (now (pages .entry)) (now (tables .entry))) ⌝ }
+    ensures { λ r. ⌜ outcome (maps (now (private .exit)) (now (shared .exit)) (now (read .exit)) (now (write .exit)) (now (kernel .exit)) (now (user .exit))) (now (state .exit)) (now (pages .exit)) (now (tables .exit)) r
+        ≡ answerDone (world (maps (now (private .entry)) (now (shared .entry)) (now (read .entry)) (now (write .entry)) (now (kernel .entry)) (now (user .entry))) (now (state .entry)) (now (pages .entry)) (now (tables .entry))) ⌝ }
 {
     let lengths = Lengths {
         maps: MapLengths {
@@ -177,7 +180,8 @@ pub extern "C" fn protector_answer_failed(
     code: u16,
     processed: u64,
 ) -> Reply
-    ensures { λ r. ⌜ outcome (maps (now (private .exit)) (now (shared .exit)) (now (read .exit)) (now (write .exit)) (now (kernel .exit)) (now (user .exit))) (now (state .exit)) (now (pages .exit)) (now (tables .exit)) r ≡ answerFailed (world (maps (now (private .entry)) (now (shared .entry)) (now (read .entry)) (now (write .entry)) (now (kernel .entry)) (now (user .entry))) (now (state .entry)) (now (pages .entry)) (now (tables .entry))) code processed ⌝ }
+    ensures { λ r. ⌜ outcome (maps (now (private .exit)) (now (shared .exit)) (now (read .exit)) (now (write .exit)) (now (kernel .exit)) (now (user .exit))) (now (state .exit)) (now (pages .exit)) (now (tables .exit)) r
+        ≡ answerFailed (world (maps (now (private .entry)) (now (shared .entry)) (now (read .entry)) (now (write .entry)) (now (kernel .entry)) (now (user .entry))) (now (state .entry)) (now (pages .entry)) (now (tables .entry))) code processed ⌝ }
 {
     let lengths = Lengths {
         maps: MapLengths {
