@@ -168,7 +168,7 @@ fn pages_refusal(ram: &[u64], overlays: &[u64], locks: &[u64], share: bool, list
 }
 
 // The same, by the layout of the state and the tables of a VTL.
-fn each_refusal(state: &[u64], tables: &[u64], vtl: GuestVtl, share: bool, list: &[u8]) -> u64
+pub fn listed_refusal(state: &[u64], tables: &[u64], vtl: GuestVtl, share: bool, list: &[u8]) -> u64
     requires { ⌜ (length (now state) ≡ stateLen) × (length (now tables) ≡ tablesLen) ⌝ }
     ensures { λ r. ⌜ r ≡ firstRefusal (pageRefusal (entriesIn (now (state .entry))) (overlaysOf (now (tables .entry)) vtl) (locksOf (now (tables .entry)) vtl) share) (pagesOf (now (list .entry))) ⌝ }
 {
@@ -180,18 +180,6 @@ fn each_refusal(state: &[u64], tables: &[u64], vtl: GuestVtl, share: bool, list:
         share,
         list,
     )
-}
-
-// The same. Called from two places, the walk over the list stays a function of its own: inside an entry, beside nine lent runs,
-// it would have too few registers.
-pub fn listed_refusal(state: &[u64], tables: &[u64], vtl: GuestVtl, share: bool, list: &[u8]) -> u64
-    requires { ⌜ (length (now state) ≡ stateLen) × (length (now tables) ≡ tablesLen) ⌝ }
-    ensures { λ r. ⌜ r ≡ firstRefusal (pageRefusal (entriesIn (now (state .entry))) (overlaysOf (now (tables .entry)) vtl) (locksOf (now (tables .entry)) vtl) share) (pagesOf (now (list .entry))) ⌝ }
-{
-    if share {
-        return each_refusal(state, tables, vtl, true, list);
-    }
-    each_refusal(state, tables, vtl, false, list)
 }
 
 // The number that refuses a visibility change: 0 where none does.
@@ -224,6 +212,10 @@ pub fn visibility_refusal(
     }
     if page_list::is_ragged(list) {
         return refusal::UNFIT_NUMBER;
+    }
+    // One test more before the walk: so far down it is compiled as a function of its own, with the registers that it needs.
+    if page_list::page_count(list) == 0 {
+        return 0;
     }
     let v = permissions::vtl_of(vtl);
     listed_refusal(state, tables, v, visibility == 1, list)

@@ -10,7 +10,7 @@ use Rattle.page_list.specs.Pages.{pagesOf}
 use Rattle.protector_state.specs.State.{entriesIn}
 use Rattle.call_refusals.specs.World.{overlaysOf, locksOf}
 use Rattle.call_refusals.specs.Refusals.{visibilityRefusal, pageRefusal, firstRefusal}
-use Rattle.call_refusals.proofs.Laws.{lent-refuses, lent-ready, lent-passes, tables-fit}
+use Rattle.call_refusals.proofs.Laws.{lent-refuses, lent-ready, lent-passes, tables-fit, first-end}
 use Rattle.call_refusals.proofs.visibility_refusal.Statement.{statement}
 use Rattle.call_refusals.proofs.visibility_refusal.Tie as tie
 
@@ -69,23 +69,39 @@ returns-6 c =
     (when-passes _ _ _ _ (sym (c6 .has-repeat .ensures) ∙ c5 .if3 .left) (passes _ _ _ _ (sym (c4 .is-vtl .ensures) ∙ not-false _ (c3 .if4 .left))
     (passes _ _ _ _ (lt-ltb (c14 .args .visibility) 2 (omega (arith, c .before .before .if5 .left))) (when-refuses _ _ _ (sym (c .before .is-ragged .ensures) ∙ c .if6 .taken))))))
 
+page-count-requires : tie.Need-page-count-requires
+page-count-requires c κs = search needs
+
+returns-7 : tie.Need-returns-7
+unfolding visibilityRefusal
+returns-7 c =
+    let c2 = c .before .before in let c3 = c2 .before in let c4 = c3 .before in let c5 = c4 .before in let c6 = c5 .before in let c7 = c6 .before in let c8 = c7 .before in let c9 = c8 .before in let c10 = c9 .before in let c11 = c10 .before in let c12 = c11 .before in let c16 = c12 .before .before .before .before in
+    let a = c16 .args in
+    let none = first-end _ (pagesOf (a .list .now)) 0 (omega (arith, c .before .page-count .ensures, c .if7 .taken)) in
+    lent-passes _ _ _ (c12 .lent-refusal .ensures) (c11 .if1 .left) _ _ (when-passes _ _ _ _ (sym (c10 .is-long .ensures) ∙ c9 .if2 .left)
+    (when-passes _ _ _ _ (sym (c8 .has-repeat .ensures) ∙ c7 .if3 .left) (passes _ _ _ _ (sym (c6 .is-vtl .ensures) ∙ not-false _ (c5 .if4 .left))
+    (passes _ _ _ _ (lt-ltb (a .visibility) 2 (omega (arith, c4 .if5 .left))) (when-passes _ _ _ _ (sym (c3 .is-ragged .ensures) ∙ c2 .if6 .left)
+    (sym none))))))
+
 vtl-of-requires : tie.Need-vtl-of-requires
 vtl-of-requires c κs = search needs
 
 listed-refusal-requires : tie.Need-listed-refusal-requires
 listed-refusal-requires c κs =
-    let c10 = c .before .before .before .before .before .before .before .before .before .before in let c11 = c10 .before in let c15 = c11 .before .before .before .before in
-    let ok = lent-ready _ _ _ (c11 .lent-refusal .ensures) (c10 .if1 .left) in
-    (ok .long, sym (c15 .pre) ∙ tables-fit (c15 .args .state .now) (c15 .args .lengths) (ok .fits))
+    let c12 = c .before .before .before .before .before .before .before .before .before .before .before .before in let c13 = c12 .before in let c17 = c13 .before .before .before .before in
+    let ok = lent-ready _ _ _ (c13 .lent-refusal .ensures) (c12 .if1 .left) in (
+      ok .long,
+      sym (c17 .pre) ∙ tables-fit (c17 .args .state .now) (c17 .args .lengths) (ok .fits),
+    )
 
-returns-7 : tie.Need-returns-7
+returns-8 : tie.Need-returns-8
 unfolding visibilityRefusal
-returns-7 c =
-    let c3 = c .before .before .before in let c4 = c3 .before in let c5 = c4 .before in let c6 = c5 .before in let c7 = c6 .before in let c8 = c7 .before in let c9 = c8 .before in let c10 = c9 .before in let c11 = c10 .before in let c12 = c11 .before in let c16 = c12 .before .before .before .before in
-    let a = c16 .args in
-    lent-passes _ _ _ (c12 .lent-refusal .ensures) (c11 .if1 .left) _ _ (when-passes _ _ _ _ (sym (c10 .is-long .ensures) ∙ c9 .if2 .left)
-    (when-passes _ _ _ _ (sym (c8 .has-repeat .ensures) ∙ c7 .if3 .left) (passes _ _ _ _ (sym (c6 .is-vtl .ensures) ∙ not-false _ (c5 .if4 .left))
-    (passes _ _ _ _ (lt-ltb (a .visibility) 2 (omega (arith, c4 .if5 .left))) (when-passes _ _ _ _ (sym (c3 .is-ragged .ensures) ∙ c .before .before .if6 .left)
+returns-8 c =
+    let c4 = c .before .before .before .before in let c5 = c4 .before in let c6 = c5 .before in let c7 = c6 .before in let c8 = c7 .before in let c9 = c8 .before in let c10 = c9 .before in let c11 = c10 .before in let c12 = c11 .before in let c13 = c12 .before in let c14 = c13 .before in let c18 = c14 .before .before .before .before in
+    let a = c18 .args in
+    lent-passes _ _ _ (c14 .lent-refusal .ensures) (c13 .if1 .left) _ _ (when-passes _ _ _ _ (sym (c12 .is-long .ensures) ∙ c11 .if2 .left)
+    (when-passes _ _ _ _ (sym (c10 .has-repeat .ensures) ∙ c9 .if3 .left) (passes _ _ _ _ (sym (c8 .is-vtl .ensures) ∙ not-false _ (c7 .if4 .left))
+    (passes _ _ _ _ (lt-ltb (a .visibility) 2 (omega (arith, c6 .if5 .left))) (when-passes _ _ _ _ (sym (c5 .is-ragged .ensures) ∙ c4 .if6 .left)
     (c .listed-refusal .ensures ∙ ap (λ (v : GuestVtl). firstRefusal
     (pageRefusal (entriesIn (a .state .now)) (overlaysOf (a .tables .now) v) (locksOf (a .tables .now) v) (eqb (a .visibility) 1)) (pagesOf (a .list .now)))
     (c .before .vtl-of .ensures)))))))
@@ -105,6 +121,8 @@ visibility-refusal-spec =
     returns-5
     is-ragged-requires
     returns-6
+    page-count-requires
+    returns-7
     vtl-of-requires
     listed-refusal-requires
-    returns-7)
+    returns-8)
