@@ -27,7 +27,7 @@ pub fn fill_bytes(map: &mut [u8], from: u64, to: u64, state: bool)
 }
 
 // One page written; nothing past the end.
-pub fn set_page(map: &mut [u8], gpn: u64, state: bool)
+fn set_page(map: &mut [u8], gpn: u64, state: bool)
     ensures { λ _. ⌜ now (map .exit) ≡ written 8 (one gpn) state (now (map .entry)) ⌝ }
 {
     let i = (gpn / 8) as usize;
@@ -61,14 +61,14 @@ fn byte_up(gpn: u64) -> u64
 }
 
 // Of the pages from `from` to before `to`, those whose byte lies in that run with all its pages.
-pub fn update_whole(map: &mut [u8], from: u64, to: u64, state: bool)
+fn update_whole(map: &mut [u8], from: u64, to: u64, state: bool)
     ensures { λ _. ⌜ now (map .exit) ≡ written 8 (whole 8 from to) state (now (map .entry)) ⌝ }
 {
     fill_bytes(map, byte_up(from), to / 8, state);
 }
 
 // Of the same pages, the others: at most seven at each end.
-pub fn update_edges(map: &mut [u8], from: u64, to: u64, state: bool)
+fn update_edges(map: &mut [u8], from: u64, to: u64, state: bool)
     ensures { λ _. ⌜ now (map .exit) ≡ written 8 (edges 8 from to) state (now (map .entry)) ⌝ }
 {
     let a = byte_up(from);

@@ -13,7 +13,7 @@ use Rattle.permissions.specs.HvError.{codeOf}
 use Rattle.mapping.specs.Maps.{Maps, built}
 use Rattle.page_list.specs.declared.PageRun.{PageRun}
 use Rattle.page_list.specs.Pages.{pagesOf}
-use Rattle.request_pages.specs.Request.{pick, tableOf, stopAt, isOpen, wanted}
+use Rattle.request_pages.specs.Request.{pick, tableOf, stopAt, isReadableAndWritable, wanted}
 use Rattle.default_change.specs.Pieces.{nextPiece}
 use Rattle.visibility_steps.specs.declared.Settings.{Settings}
 use Rattle.visibility_steps.specs.declared.Step.{Step}
@@ -66,13 +66,13 @@ buildOf w ram isolation tracked release =
 -- ---- a visibility change
 
 -- whether the permission maps are looked at: a share that VTL0 asks for, once protections are enabled
-abbrev pub looksAt : Settings → GuestVtl → Bool → Bool
-looksAt s v share = share && (isVtl0 v && s .enabled)
+abbrev pub checksPermissions : Settings → GuestVtl → Bool → Bool
+checksPermissions s v share = share && (isVtl0 v && s .enabled)
 
--- where it stops (15): how many pages come before the first that isn't open
+-- where it stops (15): how many pages come before the first that isn't readable and writable
 abbrev pub stopOf : World → GuestVtl → Bool → List ℕ → ℕ
 stopOf w v share l =
-    stopAt (isOpen (w .maps .permissions .read) (w .maps .permissions .write) (looksAt (settingsOf (w .state)) v share)) (pagesOf l)
+    stopAt (isReadableAndWritable (w .maps .permissions .read) (w .maps .permissions .write) (checksPermissions (settingsOf (w .state)) v share)) (pagesOf l)
 
 -- the pages before the stop that aren't yet as asked, and the table that has them with their places in the list
 abbrev pub askedFor : World → GuestVtl → Bool → List ℕ → List ℕ

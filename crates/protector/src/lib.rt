@@ -11,7 +11,7 @@ ghost use Rattle.protector_state.specs.State.{stateLen, withRequest, settingsOf
 ghost use Rattle.protector_state.specs.Reply.{flatOf};
 ghost use Rattle.call_refusals.specs.World.{pagesLen};
 ghost use Rattle.protector.specs.Writes.{putPlaces, putPermissions, applied, isEmpty, isNothing};
-ghost use Rattle.protector.specs.Calls.{looksAt, doneIn};
+ghost use Rattle.protector.specs.Calls.{checksPermissions, doneIn};
 use abi::operation;
 use page_list::PageRun;
 use permissions::GuestVtl;
@@ -26,7 +26,7 @@ use visibility_steps::Writes;
 
 // Whether a visibility change looks at the permission maps.
 pub fn checks_permissions(set: Settings, vtl: GuestVtl, share: bool) -> bool
-    ensures { λ r. ⌜ r ≡ looksAt set vtl share ⌝ }
+    ensures { λ r. ⌜ r ≡ checksPermissions set vtl share ⌝ }
 {
     if !share {
         return false;
@@ -68,7 +68,7 @@ fn is_nothing(w: Writes) -> bool
 }
 
 // What a step writes. Places of no page write nothing.
-pub fn apply(
+fn apply(
     private: &mut [u8],
     shared: &mut [u8],
     read: &mut [u8],

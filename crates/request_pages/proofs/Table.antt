@@ -14,7 +14,7 @@ use Rattle.bitmap.specs.Pages.{bitAt}
 use Rattle.page_list.specs.Pages.{pagesOf}
 use Rattle.page_list.specs.Runs.{part}
 use Rattle.page_list.proofs.Laws.{count-numbers}
-use Rattle.request_pages.specs.Request.{pick, pickPlaces, over, tableOf, stopAt, isOpen}
+use Rattle.request_pages.specs.Request.{pick, pickPlaces, over, tableOf, stopAt, isReadableAndWritable}
 
 -- ---- where a list stops
 stop-all : (P : ℕ → Bool) (ps : List ℕ) → ((p : ℕ) → P p ≡ true) → stopAt P ps ≡ length ps
@@ -40,10 +40,10 @@ module _ (P : ℕ → Bool) (ps : List ℕ) where
     stop-miss f = rw f at stop-turn
 
 module _ (read write : List ℕ) (asked : Bool) where
-  pub stop-unasked : (ps : List ℕ) → asked ≡ false → stopAt (isOpen read write asked) ps ≡ length ps
-  stop-unasked ps e = stop-all (isOpen read write asked) ps (λ p. rw e)
+  pub stop-unasked : (ps : List ℕ) → asked ≡ false → stopAt (isReadableAndWritable read write asked) ps ≡ length ps
+  stop-unasked ps e = stop-all (isReadableAndWritable read write asked) ps (λ p. rw e)
 
-  pub open-asked : asked ≡ true → (p : ℕ) (b : Bool) → b ≡ (bitAt 8 read p && bitAt 8 write p) → b ≡ isOpen read write asked p
+  pub open-asked : asked ≡ true → (p : ℕ) (b : Bool) → b ≡ (bitAt 8 read p && bitAt 8 write p) → b ≡ isReadableAndWritable read write asked p
   open-asked a p b d = took asked _ _ b a d
 
 -- ---- the pages that are picked, and their places

@@ -35,8 +35,8 @@ stopAt P [] = 0
 stopAt P (p ∷ ps) = cond (P p) (suc (stopAt P ps)) 0
 
 -- readable and writable, where that is asked
-abbrev pub isOpen : List ℕ → List ℕ → Bool → ℕ → Bool
-isOpen read write asked p = cond asked (bitAt 8 read p && bitAt 8 write p) true
+abbrev pub isReadableAndWritable : List ℕ → List ℕ → Bool → ℕ → Bool
+isReadableAndWritable read write asked p = cond asked (bitAt 8 read p && bitAt 8 write p) true
 
 -- what doesn't drop out: its shared mark isn't yet as asked
 abbrev pub wanted : List ℕ → Bool → ℕ → Bool

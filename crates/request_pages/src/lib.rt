@@ -10,7 +10,7 @@ ghost use Rattle.bitmap.specs.Pages.{bitAt};
 ghost use Rattle.mapping.specs.Maps.{perms};
 ghost use Rattle.page_list.specs.Pages.{pagesOf};
 ghost use Rattle.page_list.specs.Runs.{runAt};
-ghost use Rattle.request_pages.specs.Request.{pick, tableOf, stopAt, isOpen, wanted, runEnd, put, putFlags};
+ghost use Rattle.request_pages.specs.Request.{pick, tableOf, stopAt, isReadableAndWritable, wanted, runEnd, put, putFlags};
 use abi::PLACES_START;
 use page_list::PageRun;
 use permissions::HvMapGpaFlags;
@@ -22,9 +22,9 @@ fn is_readable_and_writable(read: &[u8], write: &[u8], p: u64) -> bool
     bitmap::page_state(read, p) && bitmap::page_state(write, p)
 }
 
-// How many pages of a list come before the first that isn't open, where that is asked.
+// How many pages of a list come before the first that isn't readable and writable, where that is asked.
 pub fn stop_at(read: &[u8], write: &[u8], asked: bool, list: &[u8]) -> u64
-    ensures { λ r. ⌜ r ≡ stopAt (isOpen (now (read .entry)) (now (write .entry)) asked) (pagesOf (now (list .entry))) ⌝ }
+    ensures { λ r. ⌜ r ≡ stopAt (isReadableAndWritable (now (read .entry)) (now (write .entry)) asked) (pagesOf (now (list .entry))) ⌝ }
 {
     let n = page_list::page_count(list);
     if !asked {

@@ -17,7 +17,7 @@ use Rattle.permissions.specs.HvError.{codeOf}
 use Rattle.mapping.specs.Maps.{Maps, Permissions, maps, perms, built}
 use Rattle.page_list.specs.Pages.{pagesOf, isLong}
 use Rattle.page_list.proofs.Laws.{long-le}
-use Rattle.request_pages.specs.Request.{pick, tableOf, stopAt, isOpen, wanted}
+use Rattle.request_pages.specs.Request.{pick, tableOf, stopAt, isReadableAndWritable, wanted}
 use Rattle.visibility_steps.specs.declared.Settings.{Settings}
 use Rattle.visibility_steps.specs.declared.Step.{Step}
 use Rattle.visibility_steps.specs.Steps.{startOf}
@@ -30,7 +30,7 @@ use Rattle.call_refusals.specs.World.{World, outcome, lengthsIn, statusIn}
 use Rattle.call_refusals.proofs.Laws.{is-ready}
 use Rattle.protector.specs.Writes.{permittedRun, entered, applied}
 use Rattle.queries.specs.Queries.{queryRefusal, ramBefore, visibilities, filledBy, Query, query, queryTaken, queryOf}
-use Rattle.protector.specs.Calls.{carriedOut, withPermissions, carriedChange, buildTaken, looksAt, visibilityTaken}
+use Rattle.protector.specs.Calls.{carriedOut, withPermissions, carriedChange, buildTaken, checksPermissions, visibilityTaken}
 use Rattle.call_refusals.specs.Refusals.{buildFits, buildRefusal, visibilityRefusal, answerRefusal}
 
 -- ---- what a call that isn't refused knows of its lengths
@@ -88,8 +88,8 @@ module _ (w : World) (v : GuestVtl) (share : Bool) (l : List ℕ) where
   abbrev begun : ℕ → ℕ → ℕ → Step
   begun n stop k = startOf (settingsOf (w .state)) v share n stop (ltb stop k)
 
-  pub visibility-made : (set : Settings) (looks : Bool) (stop count pc : ℕ) (table : List ℕ) (m : Maps) (s : List ℕ) (r : Reply) → set ≡ settingsOf (w .state) → looks ≡ looksAt set v share
-      → stop ≡ stopAt (isOpen (w .maps .permissions .read) (w .maps .permissions .write) looks) (pagesOf l)
+  pub visibility-made : (set : Settings) (looks : Bool) (stop count pc : ℕ) (table : List ℕ) (m : Maps) (s : List ℕ) (r : Reply) → set ≡ settingsOf (w .state) → looks ≡ checksPermissions set v share
+      → stop ≡ stopAt (isReadableAndWritable (w .maps .permissions .read) (w .maps .permissions .write) looks) (pagesOf l)
       → count ≡ length (pick (wanted (w .maps .shared) share) (take stop (pagesOf l))) → table ≡ tableOf (wanted (w .maps .shared) share) (take stop (pagesOf l)) (w .pages)
       → pc ≡ length (pagesOf l) → m ≡ applied table (begun count stop pc .writes) (w .maps)
       → s ≡ withRequest (begun count stop pc .phase) (begun count stop pc .request) (w .state) → r ≡ flatOf (settingsOf (w .state) .isolation) (begun count stop pc .answer)
@@ -97,8 +97,8 @@ module _ (w : World) (v : GuestVtl) (share : Bool) (l : List ℕ) where
   unfolding visibilityTaken
   visibility-made set looks stop count pc table m s r e1 e2 e3 e4 e5 e6 a b c =
       let ps : List ℕ = pagesOf l in
-      let f : stop ≡ stopAt (isOpen (w .maps .permissions .read) (w .maps .permissions .write) (looksAt (settingsOf (w .state)) v share)) ps
-      = e3 ∙ ap (λ (y : Bool). stopAt (isOpen (w .maps .permissions .read) (w .maps .permissions .write) y) ps) (e2 ∙ ap (λ (y : Settings). looksAt y v share) e1) in
+      let f : stop ≡ stopAt (isReadableAndWritable (w .maps .permissions .read) (w .maps .permissions .write) (checksPermissions (settingsOf (w .state)) v share)) ps
+      = e3 ∙ ap (λ (y : Bool). stopAt (isReadableAndWritable (w .maps .permissions .read) (w .maps .permissions .write) y) ps) (e2 ∙ ap (λ (y : Settings). checksPermissions y v share) e1) in
       carried w table (settingsOf (w .state)) (begun count stop pc) _ m s r refl refl a b c
       ∙ ap₂ (carriedOut w) (e5 ∙ ap (λ (k : ℕ). tableOf (wanted (w .maps .shared) share) (take k ps) (w .pages)) f)
       (ap₂ (λ (n k : ℕ). begun n stop k) e4 e6 ∙ ap (λ (k : ℕ). begun (length (pick (wanted (w .maps .shared) share) (take k ps))) k (length ps)) f)

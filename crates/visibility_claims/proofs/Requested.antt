@@ -16,11 +16,11 @@ use Rattle.permissions.specs.declared.GuestVtl.{GuestVtl}
 use Rattle.permissions.specs.declared.GuestVtl.the-variants.{Vtl0, Vtl1}
 use Rattle.page_list.specs.Pages.{pagesOf, stepsFrom, strict}
 use Rattle.lock_table.specs.Locks.{listsOf, held}
-use Rattle.request_pages.specs.Request.{pick, pickPlaces, tableOf, stopAt, isOpen, wanted}
+use Rattle.request_pages.specs.Request.{pick, pickPlaces, tableOf, stopAt, isReadableAndWritable, wanted}
 use Rattle.protector_state.specs.State.{settingsOf, entriesIn}
 use Rattle.call_refusals.specs.World.{World, overlaysOf, locksOf}
 use Rattle.call_refusals.specs.Refusals.{pageRefusal, firstRefusal}
-use Rattle.protector.specs.Calls.{looksAt, stopOf, askedFor, tableFor}
+use Rattle.protector.specs.Calls.{checksPermissions, stopOf, askedFor, tableFor}
 use Rattle.visibility_claims.specs.Whole.{Ok, StoppedAt}
 use Rattle.visibility_claims.specs.Requested.{isOverlayPage, denial, accessDenied, isSoMarked, Listed, Requested, noMore, withPage, requestedFrom, requestedOf, pagesIn, placesIn, storedIn, PlacesHold}
 
@@ -95,7 +95,7 @@ module _ (w : World) (v : GuestVtl) (share : Bool) (O P : ℕ → Bool) (f : (p 
 
 module _ (w : World) (v : GuestVtl) (share : Bool) where
   abbrev O : ℕ → Bool
-  O = isOpen (w .maps .permissions .read) (w .maps .permissions .write) (looksAt (settingsOf (w .state)) v share)
+  O = isReadableAndWritable (w .maps .permissions .read) (w .maps .permissions .write) (checksPermissions (settingsOf (w .state)) v share)
 
   abbrev P : ℕ → Bool
   P = wanted (w .maps .shared) share
@@ -109,7 +109,7 @@ module _ (w : World) (v : GuestVtl) (share : Bool) where
       either true false = refl
       either false b = refl
 
-      go : (v : GuestVtl) (share : Bool) → isOpen (w .maps .permissions .read) (w .maps .permissions .write) (looksAt (settingsOf (w .state)) v share) p ≡ not (accessDenied w v share p)
+      go : (v : GuestVtl) (share : Bool) → isReadableAndWritable (w .maps .permissions .read) (w .maps .permissions .write) (checksPermissions (settingsOf (w .state)) v share) p ≡ not (accessDenied w v share p)
       go Vtl0 true = either (settingsOf (w .state) .enabled) (bitAt 8 (w .maps .permissions .read) p && bitAt 8 (w .maps .permissions .write) p)
       go Vtl0 false = refl
       go Vtl1 true = refl

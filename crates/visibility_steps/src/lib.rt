@@ -127,7 +127,7 @@ pub struct Next {
     pub marks: Marks,
 }
 
-pub fn is_snp(set: Settings) -> bool
+fn is_snp(set: Settings) -> bool
     ensures { λ r. ⌜ r ≡ isSnp (set .isolation) ⌝ }
 {
     let i = set.isolation;

@@ -24,7 +24,7 @@ pub fn clear(t: &mut [u64])
 }
 
 // The place n words after a place: the end where there are fewer.
-pub fn place_after(t: &[u64], place: u64, n: u64) -> u64
+fn place_after(t: &[u64], place: u64, n: u64) -> u64
     ensures { λ r. ⌜ r ≡ min (length (now (t .entry))) (place + n) ⌝ }
 {
     let end = t.len() as u64;

@@ -42,6 +42,11 @@ builds =
       length-first = refl;
       too-long = refl;
       too-short = refl;
+      one-map-short = refl;
+      state-short = refl;
+      pages-short = refl;
+      tables-short = refl;
+      pages-short-unfit = refl;
       tracked-2 = refl;
       release-2 = refl;
     }

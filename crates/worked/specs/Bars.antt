@@ -1,6 +1,6 @@
 -- What bars a call, each refusal with its number and code, locked lists, and the visibility query: document 01, "Overlays and locks", "From the input" 7,
 -- "From the state" 10, 11, 17 to 20, "Misreadings to shut out".
-use mathlib.Core.List.{List, [], _∷_}
+use mathlib.Core.List.{List, [], _∷_, _++_}
 use mathlib.Core.Path.{_≡_}
 use Prim.Native.Nat.{ℕ}
 use lib.ListN.{replicate}
@@ -17,7 +17,7 @@ use Rattle.queries.specs.Queries.{query, queryOf, faultIn, lowerIn, accessIn}
 use Rattle.visibility_claims.specs.Whole.{Succeeds, Fails}
 use Rattle.visibility_claims.specs.Calls.{follow}
 use Rattle.visibility_claims.specs.Table.{page, fresh}
-use Rattle.worked.specs.Crossing.{ok, refused, keeps, waits, protects, after, low, clear, first, settings, tables, noTables, rest}
+use Rattle.worked.specs.Crossing.{ok, refused, keeps, waits, protects, after, low, clear, first, settings, tables, noTables, rest, untracked}
 use Rattle.worked.specs.Shares.{closed, read-only}
 use Rattle.worked.specs.Changes.{overlaid}
 
@@ -163,6 +163,13 @@ passes w =
 abbrev pub short : World → World
 short w = world (w .maps) (w .state) [] []
 
+-- lent a state block of a word too many, and of a word too few
+abbrev pub longer : World → World
+longer w = world (w .maps) (w .state ++ (0 ∷ [])) (w .pages) (w .tables)
+
+abbrev pub shorter : World → World
+shorter w = world (w .maps) (replicate 127 0) (w .pages) (w .tables)
+
 pub record Turns : Type 0 where
   pub busy-19 : refusals busy ≡ replicate 12 19
   pub halted-20 : refusals halted ≡ replicate 12 20
@@ -174,6 +181,14 @@ pub record Turns : Type 0 where
   pub busy-short : refusals (short busy) ≡ replicate 12 19
   pub halted-short : refusals (short halted) ≡ replicate 12 20
   pub idle-short : refusals (short fresh) ≡ 4 ∷ 4 ∷ 4 ∷ 4 ∷ 4 ∷ 4 ∷ 4 ∷ 4 ∷ 0 ∷ 0 ∷ 0 ∷ 8 ∷ []
+  pub busy-short-map : queryOf (busy .state) (0 ∷ []) (page 3 []) (9 ∷ []) ≡ query (9 ∷ []) (refused 19 0)
+  -- a state block of another length before all else, answers included
+  pub busy-longer : refusals (longer busy) ≡ replicate 12 4
+  pub halted-longer : refusals (longer halted) ≡ replicate 12 4
+  pub idle-shorter : refusals (shorter fresh) ≡ replicate 12 4
+  pub halted-longer-done : answerDone (longer halted) ≡ keeps (longer halted) (refused 4 0)
+  -- 19 before 24
+  pub busy-untracked : enableOf (visibilityOf (rest untracked (settings 2 0 0 0 15 16) noTables) 0 1 (page 3 []) .world .state) .reply ≡ refused 19 0
   -- of an answer too, and before 21: nothing is asked, or a Wait is said to have failed
   pub halted-short-done : answerDone (short halted) ≡ keeps (short halted) (refused 20 0)
   pub idle-short-done : answerDone (short fresh) ≡ keeps (short fresh) (refused 4 0)

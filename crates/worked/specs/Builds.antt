@@ -68,5 +68,11 @@ pub record Builds : Type 0 where
   pub length-first : told eight ram 2 2 2 ≡ refused 4 0
   pub too-long : told unbuilt ram 2 0 0 ≡ refused 4 0
   pub too-short : told unbuilt-untracked ram 2 1 0 ≡ refused 4 0
+  pub one-map-short : told (dirty (maps lent lent lent lent lent one)) ram 2 1 0 ≡ refused 4 0
+  -- the blocks beside the maps, also where `tracked` is unfit
+  pub state-short : told (world (unbuilt .maps) (replicate 127 7) (replicate 1024 7) (replicate 3460 7)) ram 2 1 0 ≡ refused 4 0
+  pub pages-short : told (world (unbuilt .maps) (replicate 128 7) (replicate 1023 7) (replicate 3460 7)) ram 2 1 0 ≡ refused 4 0
+  pub tables-short : told (world (unbuilt .maps) (replicate 128 7) (replicate 1024 7) (replicate 3459 7)) ram 2 1 0 ≡ refused 4 0
+  pub pages-short-unfit : told (world (unbuilt .maps) (replicate 128 7) [] (replicate 3460 7)) ram 2 2 0 ≡ refused 4 0
   pub tracked-2 : told unbuilt ram 2 2 0 ≡ refused 8 0
   pub release-2 : told unbuilt ram 2 1 2 ≡ refused 8 0

@@ -6,13 +6,13 @@ use Prim.Native.Nat.{_+_, _-_}
 use lib.ListN.{drop}
 use borrow.Author.Tests.{not-true, not-false}
 use Rattle.page_list.specs.Pages.{pagesOf}
-use Rattle.request_pages.specs.Request.{stopAt, isOpen}
+use Rattle.request_pages.specs.Request.{stopAt, isReadableAndWritable}
 use Rattle.request_pages.proofs.Table as laws
 use Rattle.request_pages.proofs.stop_at.Statement.{statement}
 use Rattle.request_pages.proofs.stop_at.Tie as tie
 
 abbrev Inv-loop : tie.InvT-loop
-Inv-loop read write asked list n i₀ i = i + stopAt (isOpen read write asked) (drop i (pagesOf list)) ≡ stopAt (isOpen read write asked) (pagesOf list)
+Inv-loop read write asked list n i₀ i = i + stopAt (isReadableAndWritable read write asked) (drop i (pagesOf list)) ≡ stopAt (isReadableAndWritable read write asked) (pagesOf list)
 
 abbrev μ-loop : tie.MeasureT-loop
 μ-loop read write asked list n i₀ i = n - i
@@ -39,7 +39,7 @@ returns-2 : tie.Need-returns-2 Inv-loop μ-loop
 returns-2 c =
     let a = c .before .before .before .before .before .before .before .before .before .before .args in
     let h = c .before .before .before .before .loop in
-    let f = isOpen (a .read .now) (a .write .now) (a .asked) in
+    let f = isReadableAndWritable (a .read .now) (a .write .now) (a .asked) in
     let count = c .before .before .before .before .before .before .page-count .ensures in
     let z = laws.stop-hit f (pagesOf (a .list .now)) (h .i) _ _ (omega arith) (c .before .before .page-at .ensures)
     (laws.open-asked (a .read .now) (a .write .now) (a .asked) (not-false _ (c .before .before .before .before .before .if1 .left)) _ _ (c .before .is-readable-and-writable .ensures)) (not-true _ (c .if2 .taken)) in
@@ -55,7 +55,7 @@ loop-again : tie.Need-loop-again Inv-loop μ-loop
 loop-again c =
     let a = c .before .before .before .before .before .before .before .before .before .before .args in
     let h = c .before .before .before .before .loop in
-    let f = isOpen (a .read .now) (a .write .now) (a .asked) in
+    let f = isReadableAndWritable (a .read .now) (a .write .now) (a .asked) in
     let count = c .before .before .before .before .before .before .page-count .ensures in
     let z = laws.stop-miss f (pagesOf (a .list .now)) (h .i) _ _ (omega arith) (c .before .before .page-at .ensures)
     (laws.open-asked (a .read .now) (a .write .now) (a .asked) (not-false _ (c .before .before .before .before .before .if1 .left)) _ _ (c .before .is-readable-and-writable .ensures)) (not-false _ (c .if2 .left)) in
@@ -65,7 +65,7 @@ returns-3 : tie.Need-returns-3 Inv-loop μ-loop
 returns-3 c =
     let a = c .before .before .before .before .before .before .before .args in
     let h = c .before .loop in
-    let z = laws.stop-end (isOpen (a .read .now) (a .write .now) (a .asked)) (pagesOf (a .list .now)) (h .i) (omega (arith, c .before .before .before .page-count .ensures)) in
+    let z = laws.stop-end (isReadableAndWritable (a .read .now) (a .write .now) (a .asked)) (pagesOf (a .list .now)) (h .i) (omega (arith, c .before .before .before .page-count .ensures)) in
     omega (arith, z, h .inv)
 
 pub stop-at-spec : {M : Type 1} → statement M
