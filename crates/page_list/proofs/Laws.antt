@@ -2,7 +2,7 @@
 use mathlib.Core.Bool.{Bool, true, false, not}
 use mathlib.Core.List.{List, [], _∷_}
 use mathlib.Core.Path.{_≡_, refl, sym, ap, _∙_}
-use Prim.Native.Nat.{ℕ, zero, suc, _+_, _/_, _≤_, _<_}
+use Prim.Native.Nat.{ℕ, zero, suc, _+_, _*_, _/_, _≤_, _<_}
 use native.Mathlib.Numerals.{add-one}
 use native.Mathlib.Omega.{arith}
 use lib.Dec.{eqb}
@@ -10,7 +10,12 @@ use lib.ListN.{length, getD, drop, drop-of-length-le, List·getD-eq-default}
 use lib.Seq.{drop-cons}
 use borrow.Author.Tests.{eq-eqb, ne-eqb, ltb-true, ltb-false, not-true}
 use Rattle.laws.specs.Bools.{and-left, and-right, or-right}
-use Rattle.page_list.specs.Pages.{numberAt, numbersFrom, pagesOf, isLong, among, repeats, steps, stepsFrom, strict}
+use Rattle.page_list.specs.Pages.{numberOf, numberAt, numbersFrom, pagesOf, isLong, among, repeats, steps, stepsFrom, strict}
+
+pub halves : (a b c d e f g h low high : ℕ) → low ≡ a + 0x100 * b + 0x1_0000 * c + 0x100_0000 * d → high ≡ e + 0x100 * f + 0x1_0000 * g + 0x100_0000 * h
+    → low + 0x1_0000_0000 * high ≡ numberOf a b c d e f g h
+unfolding numberOf
+halves a b c d e f g h low high x y = omega arith
 
 pub long-le : (l : List ℕ) → not (isLong l) ≡ true → length l ≤ 4096
 long-le l h = ltb-false 4096 (length l) (not-true (isLong l) h)

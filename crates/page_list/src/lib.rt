@@ -1,7 +1,7 @@
 // Page lists as they cross, 8-byte little-endian numbers, and runs of ascending neighbours in a table of pages.
 ghost use mathlib.Core.Path.{_≡_};
 ghost use mathlib.Core.Bool.{true, false};
-ghost use Prim.Native.Nat.{_+_};
+ghost use Prim.Native.Nat.{_+_, _*_};
 ghost use lib.Dec.{eqb};
 ghost use lib.ListN.{length, getD, drop};
 ghost use Rattle.page_list.specs.Pages.{numberOf, pagesOf, isLong, among, repeats, isRagged, steps, strict};
@@ -13,17 +13,18 @@ pub struct PageRun {
     pub count: u64,
 }
 
+// Four bytes as a number.
+fn half(a: u8, b: u8, c: u8, d: u8) -> u64
+    ensures { λ r. ⌜ r ≡ a + 0x100 * b + 0x1_0000 * c + 0x100_0000 * d ⌝ }
+{
+    (a as u64) + 0x100 * (b as u64) + 0x1_0000 * (c as u64) + 0x100_0000 * (d as u64)
+}
+
+// Eight bytes as a number. In two halves it is compiled into one load, as a chain of eight sums is not.
 fn number(a: u8, b: u8, c: u8, d: u8, e: u8, f: u8, g: u8, h: u8) -> u64
     ensures { λ r. ⌜ r ≡ numberOf a b c d e f g h ⌝ }
 {
-    (a as u64)
-        + 0x100 * (b as u64)
-        + 0x1_0000 * (c as u64)
-        + 0x100_0000 * (d as u64)
-        + 0x1_0000_0000 * (e as u64)
-        + 0x100_0000_0000 * (f as u64)
-        + 0x1_0000_0000_0000 * (g as u64)
-        + 0x100_0000_0000_0000 * (h as u64)
+    half(a, b, c, d) + 0x1_0000_0000 * half(e, f, g, h)
 }
 
 // How many pages a list has.

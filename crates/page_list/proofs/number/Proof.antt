@@ -1,9 +1,14 @@
 -- `page_list::number` meets its contract. Assumes nothing.
 use borrow.Author.Needs.{needs}
-use mathlib.Core.Path.{refl}
-use Rattle.page_list.specs.Pages.{numberOf}
+use Rattle.page_list.proofs.Laws.{halves}
 use Rattle.page_list.proofs.number.Statement.{statement}
 use Rattle.page_list.proofs.number.Tie as tie
+
+half-requires : tie.Need-half-requires
+half-requires c κs = search needs
+
+half-requires-2 : tie.Need-half-requires-2
+half-requires-2 c κs = search needs
 
 mul-result : tie.Need-mul-result
 mul-result c = search needs
@@ -11,62 +16,8 @@ mul-result c = search needs
 add-result : tie.Need-add-result
 add-result c = search needs
 
-mul-result-2 : tie.Need-mul-result-2
-mul-result-2 c = search needs
-
-add-result-2 : tie.Need-add-result-2
-add-result-2 c = search needs
-
-mul-result-3 : tie.Need-mul-result-3
-mul-result-3 c = search needs
-
-add-result-3 : tie.Need-add-result-3
-add-result-3 c = search needs
-
-mul-result-4 : tie.Need-mul-result-4
-mul-result-4 c = search needs
-
-add-result-4 : tie.Need-add-result-4
-add-result-4 c = search needs
-
-mul-result-5 : tie.Need-mul-result-5
-mul-result-5 c = search needs
-
-add-result-5 : tie.Need-add-result-5
-add-result-5 c = search needs
-
-mul-result-6 : tie.Need-mul-result-6
-mul-result-6 c = search needs
-
-add-result-6 : tie.Need-add-result-6
-add-result-6 c = search needs
-
-mul-result-7 : tie.Need-mul-result-7
-mul-result-7 c = search needs
-
-add-result-7 : tie.Need-add-result-7
-add-result-7 c = search needs
-
 returns : tie.Need-returns
-unfolding numberOf
-returns c = refl
+returns c = halves _ _ _ _ _ _ _ _ _ _ (c .before .half .ensures) (c .half2 .ensures)
 
 pub number-spec : {M : Type 1} → statement M
-number-spec =
-    tie.close
-    (tie.spec
-    mul-result
-    add-result
-    mul-result-2
-    add-result-2
-    mul-result-3
-    add-result-3
-    mul-result-4
-    add-result-4
-    mul-result-5
-    add-result-5
-    mul-result-6
-    add-result-6
-    mul-result-7
-    add-result-7
-    returns)
+number-spec = tie.close (tie.spec half-requires half-requires-2 mul-result add-result returns)
