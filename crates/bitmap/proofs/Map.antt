@@ -8,7 +8,7 @@ use native.Mathlib.Nat.{mod-lt, zero-div, not-suc-le-zero, le-of-suc-le-suc, add
 use native.Mathlib.Omega.{arith}
 use native.Mathlib.Decide.{ℕ-discrete, decLt}
 use lib.Dec.{eqb, ltb}
-use lib.Bits.{bitOr, bitXor}
+use lib.Bits.{bitOr, bitXor, xor-zero-r}
 use lib.Arith.{digits-div, digits-mod}
 use lib.ListN.{length, getD, set, replicate, length-set, length-replicate, getD-replicate, List·getD-eq-default}
 use lib.Seq.{ext-getD, getD-set-same, getD-set-other}
@@ -230,6 +230,11 @@ module _ (w p : ℕ) (pos : zero < w) where
     one-clear s e =
         one-stored false (bitXor (bitOr (getD m (p / w) 0) shifted) shifted) (clear-bit w (getD m (p / w) 0) (p % w) (mod-lt p pos))
         ∙ ap (λ (b : Bool). written w (one p) b m) (sym e)
+
+    -- the same without a branch: what is taken off again is nothing, or the bit
+    pub one-put : (s : Bool) (off : ℕ) → off ≡ cond s 0 shifted → set m (p / w) (bitXor (bitOr (getD m (p / w) 0) shifted) off) ≡ written w (one p) s m
+    one-put true off e = ap (λ (y : ℕ). set m (p / w) (bitXor (bitOr (getD m (p / w) 0) shifted) y)) e ∙ ap (set m (p / w)) (xor-zero-r (bitOr (getD m (p / w) 0) shifted)) ∙ one-set true refl
+    one-put false off e = ap (λ (y : ℕ). set m (p / w) (bitXor (bitOr (getD m (p / w) 0) shifted) y)) e ∙ one-clear false refl
 
 -- ---- a map is its pages: two maps of one length, in words below 2 ^ w, whose pages agree
 pub map-ext : (w : ℕ) (l m : List ℕ) → zero < w → length l ≡ length m → ((j : ℕ) → getD l j 0 < 2 ^ w) → ((j : ℕ) → getD m j 0 < 2 ^ w)

@@ -22,6 +22,9 @@ module _ (w : ℕ) (s : Bool) (m : List ℕ) where
   pub run-step : (a p : ℕ) (l l′ : List ℕ) → a ≤ p → l ≡ written w (between a p) s m → l′ ≡ written w (one p) s l → l′ ≡ written w (between a (p + 1)) s m
   run-step a p l l′ h e f = f ∙ ap (written w (one p) s) e ∙ both w (one p) (between a p) (between a (p + 1)) s m (λ q. between-more a p q h)
 
+  pub run-one : (p : ℕ) (l : List ℕ) → l ≡ written w (one p) s m → l ≡ written w (between p (p + 1)) s m
+  run-one p l e = run-step p p m l (omega arith) (run-none p) e
+
   pub run-end : (a b p : ℕ) → b ≤ p → p ≤ max a b → written w (between a p) s m ≡ written w (between a b) s m
   run-end a b p h u =
       alike w (between a p) (between a b) s m

@@ -1,6 +1,7 @@
 // Bitmaps lent by the caller: GuestMemoryBitmap, a bit for each page in bytes, and the registrar's Bitmap, a bit for
 // each chunk in 64-bit words.
 ghost use mathlib.Core.Path.{_≡_};
+ghost use mathlib.Core.Bool.{cond};
 ghost use Prim.Native.Nat.{_+_, _*_, _/_, _≤_};
 ghost use Rattle.laws.specs.Bools.{digit};
 ghost use Rattle.laws.specs.Ranges.{between};
@@ -26,19 +27,22 @@ pub fn fill_bytes(map: &mut [u8], from: u64, to: u64, state: bool)
     }
 }
 
+// Of a mask that was set, what is taken off again.
+fn cleared(mask: u8, state: bool) -> u8
+    ensures { λ r. ⌜ r ≡ cond state 0 mask ⌝ }
+{
+    if state { 0 } else { mask }
+}
+
 // One page written; nothing past the end.
-fn set_page(map: &mut [u8], gpn: u64, state: bool)
+pub fn set_page(map: &mut [u8], gpn: u64, state: bool)
     ensures { λ _. ⌜ now (map .exit) ≡ written 8 (one gpn) state (now (map .entry)) ⌝ }
 {
     let i = (gpn / 8) as usize;
     if i < map.len() {
         let m = 1u8 << (gpn % 8);
         let x = map[i];
-        if state {
-            map[i] = x | m;
-        } else {
-            map[i] = (x | m) ^ m;
-        }
+        map[i] = (x | m) ^ cleared(m, state);
     }
 }
 

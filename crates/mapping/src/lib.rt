@@ -113,6 +113,23 @@ pub fn build(
     init(user, ram, true);
 }
 
+// The permissions of one page.
+fn update_page(
+    read: &mut [u8],
+    write: &mut [u8],
+    kernel: &mut [u8],
+    user: &mut [u8],
+    gpn: u64,
+    flags: HvMapGpaFlags,
+)
+    ensures { λ _. ⌜ perms (now (read .exit)) (now (write .exit)) (now (kernel .exit)) (now (user .exit)) ≡ permitted gpn (gpn + 1) flags (perms (now (read .entry)) (now (write .entry)) (now (kernel .entry)) (now (user .entry))) ⌝ }
+{
+    bitmap::set_page(read, gpn, flags.readable);
+    bitmap::set_page(write, gpn, flags.writable);
+    bitmap::set_page(kernel, gpn, flags.kernel_executable);
+    bitmap::set_page(user, gpn, flags.user_executable);
+}
+
 // The permissions of the pages from `first` to `last`, with it.
 pub fn update_permission_bitmaps(
     read: &mut [u8],
@@ -126,6 +143,10 @@ pub fn update_permission_bitmaps(
     requires { ⌜ first ≤ last ⌝ }
     ensures { λ _. ⌜ perms (now (read .exit)) (now (write .exit)) (now (kernel .exit)) (now (user .exit)) ≡ permitted first (last + 1) flags (perms (now (read .entry)) (now (write .entry)) (now (kernel .entry)) (now (user .entry))) ⌝ }
 {
+    if first == last {
+        update_page(read, write, kernel, user, first, flags);
+        return;
+    }
     bitmap::set_run(read, first, last, flags.readable);
     bitmap::set_run(write, first, last, flags.writable);
     bitmap::set_run(kernel, first, last, flags.kernel_executable);

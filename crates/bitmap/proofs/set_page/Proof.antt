@@ -1,7 +1,7 @@
 -- `bitmap::set_page` meets its contract. Assumes nothing.
 use borrow.Author.Needs.{needs}
 use lib.Dec.{lit<}
-use Rattle.bitmap.proofs.Map.{one-past, one-set, one-clear}
+use Rattle.bitmap.proofs.Map.{one-past, one-put}
 use Rattle.bitmap.proofs.set_page.Statement.{statement}
 use Rattle.bitmap.proofs.set_page.Tie as tie
 
@@ -14,40 +14,20 @@ shl-m c = search needs
 slice-read-x : tie.Need-slice-read-x
 slice-read-x c = search needs
 
+cleared-requires : tie.Need-cleared-requires
+cleared-requires c κs = search needs
+
 slice-write-map : tie.Need-slice-write-map
 slice-write-map c = search needs
-
-slice-write-map-2 : tie.Need-slice-write-map-2
-slice-write-map-2 c = search needs
 
 same-length : tie.Need-same-length
 same-length c = search needs
 
 returns : tie.Need-returns
-returns c =
-    let a = c .before .before .before .args in one-set 8 (a .gpn) (lit< tt) (a .map .now) (c .before .before .if1 .taken) (a .state) (c .if2 .taken)
-
-same-length-2 : tie.Need-same-length-2
-same-length-2 c = search needs
+returns c = let a = c .before .before .before .before .args in one-put 8 (a .gpn) (lit< tt) (a .map .now) (c .before .before .if1 .taken) (a .state) _ (c .cleared .ensures)
 
 returns-2 : tie.Need-returns-2
-returns-2 c =
-    let a = c .before .before .before .args in one-clear 8 (a .gpn) (lit< tt) (a .map .now) (c .before .before .if1 .taken) (a .state) (c .if2 .left)
-
-returns-3 : tie.Need-returns-3
-returns-3 c = let a = c .before .args in one-past 8 (a .gpn) (lit< tt) (a .state) (a .map .now) (c .if1 .left)
+returns-2 c = let a = c .before .before .args in one-past 8 (a .gpn) (lit< tt) (a .state) (a .map .now) (c .if1 .left)
 
 pub set-page-spec : {M : Type 1} → statement M
-set-page-spec =
-    tie.close
-    (tie.spec
-    cast-m
-    shl-m
-    slice-read-x
-    slice-write-map
-    slice-write-map-2
-    same-length
-    returns
-    same-length-2
-    returns-2
-    returns-3)
+set-page-spec = tie.close (tie.spec cast-m shl-m slice-read-x cleared-requires slice-write-map same-length returns returns-2)

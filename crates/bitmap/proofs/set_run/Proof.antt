@@ -1,8 +1,7 @@
 -- `bitmap::set_run` meets its contract. Assumes nothing.
 use borrow.Author.Needs.{needs}
 use mathlib.Core.Path.{ap, _∙_}
-use native.Mathlib.Omega.{arith}
-use Rattle.bitmap.proofs.Steps.{run-none, run-step}
+use Rattle.bitmap.proofs.Steps.{run-one, run-step}
 use Rattle.laws.specs.Ranges.{between}
 use Rattle.bitmap.specs.Pages.{written}
 use Prim.Native.Nat.{ℕ, _+_}
@@ -18,7 +17,7 @@ same-length c = search needs
 returns : tie.Need-returns
 returns c =
     let a = c .before .before .before .before .before .before .args in
-    run-step 8 (a .state) (a .map .now) (a .first) (a .first) _ _ (omega arith) (run-none 8 (a .state) (a .map .now) (a .first)) (c .before .before .set-page .ensures)
+    run-one 8 (a .state) (a .map .now) (a .first) _ (c .before .before .set-page .ensures)
     ∙ ap (λ (x : ℕ). written 8 (between (a .first) (x + 1)) (a .state) (a .map .now)) (c .before .before .before .before .if1 .taken)
 
 update-requires : tie.Need-update-requires

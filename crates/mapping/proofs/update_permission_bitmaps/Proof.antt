@@ -1,21 +1,14 @@
 -- `mapping::update_permission_bitmaps` meets its contract. Assumes nothing.
 use borrow.Author.Needs.{needs}
-use Prim.Native.Nat.{_+_}
+use mathlib.Core.Path.{ap, _∙_}
+use Prim.Native.Nat.{ℕ, _+_}
+use Rattle.mapping.specs.Maps.{perms, permitted}
 use Rattle.mapping.proofs.Marks.{permitted-is}
 use Rattle.mapping.proofs.update_permission_bitmaps.Statement.{statement}
 use Rattle.mapping.proofs.update_permission_bitmaps.Tie as tie
 
-set-run-requires : tie.Need-set-run-requires
-set-run-requires c κs = search needs
-
-set-run-requires-2 : tie.Need-set-run-requires-2
-set-run-requires-2 c κs = search needs
-
-set-run-requires-3 : tie.Need-set-run-requires-3
-set-run-requires-3 c κs = search needs
-
-set-run-requires-4 : tie.Need-set-run-requires-4
-set-run-requires-4 c κs = search needs
+update-page-requires : tie.Need-update-page-requires
+update-page-requires c κs = search needs
 
 same-length : tie.Need-same-length
 same-length c = search needs
@@ -31,20 +24,57 @@ same-length-4 c = search needs
 
 returns : tie.Need-returns
 returns c =
-    let a = c .before .before .before .before .before .before .before .before .before .before .before .before .before .before .before .before .before .before .before .before .args in
+    let k = c .before .before .before .before .before .before .before .before in
+    let a = k .before .before .before .before .before .before .before .before .before .before .args in
+    k .update-page .ensures ∙ ap (λ (x : ℕ). permitted (a .first) (x + 1) (a .flags) (perms (a .read .now) (a .write .now) (a .kernel .now) (a .user .now))) (k .before .before .before .before .before .if1 .taken)
+
+set-run-requires : tie.Need-set-run-requires
+set-run-requires c κs = search needs
+
+set-run-requires-2 : tie.Need-set-run-requires-2
+set-run-requires-2 c κs = search needs
+
+set-run-requires-3 : tie.Need-set-run-requires-3
+set-run-requires-3 c κs = search needs
+
+set-run-requires-4 : tie.Need-set-run-requires-4
+set-run-requires-4 c κs = search needs
+
+same-length-5 : tie.Need-same-length-5
+same-length-5 c = search needs
+
+same-length-6 : tie.Need-same-length-6
+same-length-6 c = search needs
+
+same-length-7 : tie.Need-same-length-7
+same-length-7 c = search needs
+
+same-length-8 : tie.Need-same-length-8
+same-length-8 c = search needs
+
+returns-2 : tie.Need-returns-2
+returns-2 c =
+    let k = c .before .before .before .before .before .before .before .before .before .before in
+    let a = k .before .before .before .before .before .before .before .before .before .before .before .args in
     permitted-is (a .first) (a .last + 1) (a .flags) (a .read .now) (a .write .now) (a .kernel .now) (a .user .now) _ _ _ _
-    (c .before .before .before .before .before .before .before .before .before .before .before .before .before .before .set-run .ensures) (c .before .before .before .before .before .before .before .before .before .before .set-run2 .ensures) (c .before .before .before .before .before .before .set-run3 .ensures) (c .before .before .set-run4 .ensures)
+    (k .before .before .before .before .set-run .ensures) (k .set-run2 .ensures) (c .before .before .before .before .before .before .set-run3 .ensures) (c .before .before .set-run4 .ensures)
 
 pub update-permission-bitmaps-spec : {M : Type 1} → statement M
 update-permission-bitmaps-spec =
     tie.close
     (tie.spec
-    set-run-requires
-    set-run-requires-2
-    set-run-requires-3
-    set-run-requires-4
+    update-page-requires
     same-length
     same-length-2
     same-length-3
     same-length-4
-    returns)
+    returns
+    set-run-requires
+    set-run-requires-2
+    set-run-requires-3
+    set-run-requires-4
+    same-length-5
+    same-length-6
+    same-length-7
+    same-length-8
+    returns-2)
