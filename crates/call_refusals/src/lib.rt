@@ -221,15 +221,15 @@ pub fn visibility_refusal(
     listed_refusal(state, tables, v, visibility == 1, list)
 }
 
-// Whether an answer, a failure or not, is one to the operation outstanding.
-fn is_taken(phase: Phase, failed: bool) -> bool
-    ensures { λ r. ⌜ r ≡ takes phase failed ⌝ }
+// Whether the operation of a phase can fail.
+fn can_fail(phase: Phase) -> bool
+    ensures { λ r. ⌜ r ≡ takes phase true ⌝ }
 {
     match phase {
         Phase::Idle => false,
         Phase::Halted => false,
-        Phase::Wait => !failed,
-        Phase::FlushAll => !failed,
+        Phase::Wait => false,
+        Phase::FlushAll => false,
         Phase::ProtectNone0 => true,
         Phase::ProtectNone1 => true,
         Phase::Invalidate => true,
@@ -242,8 +242,8 @@ fn is_taken(phase: Phase, failed: bool) -> bool
     }
 }
 
-fn is_taken_at(stage: Stage, failed: bool) -> bool
-    ensures { λ r. ⌜ r ≡ takesAt stage failed ⌝ }
+fn can_fail_at(stage: Stage) -> bool
+    ensures { λ r. ⌜ r ≡ takesAt stage true ⌝ }
 {
     match stage {
         Stage::Idle => false,
@@ -252,21 +252,24 @@ fn is_taken_at(stage: Stage, failed: bool) -> bool
         Stage::ProtectRam => true,
         Stage::ProtectNew => true,
         Stage::ProtectOld => true,
-        Stage::Wait => !failed,
-        Stage::Flush => !failed,
-        Stage::TlbWait => !failed,
+        Stage::Wait => false,
+        Stage::Flush => false,
+        Stage::TlbWait => false,
     }
 }
 
-// The same by the state.
+// Whether an answer is one to the operation outstanding: done wherever one is, a failure where it can fail.
 fn takes(state: &[u64], failed: bool) -> bool
     requires { ⌜ length (now state) ≡ stateLen ⌝ }
     ensures { λ r. ⌜ r ≡ takesIn (now (state .entry)) failed ⌝ }
 {
-    if protector_state::change::is_changing(state) {
-        return is_taken_at(protector_state::change::stage(state), failed);
+    if !failed {
+        return status(state) == refusal::BUSY;
     }
-    is_taken(protector_state::phase(state), failed)
+    if protector_state::change::is_changing(state) {
+        return can_fail_at(protector_state::change::stage(state));
+    }
+    can_fail(protector_state::phase(state))
 }
 
 // The number that refuses an answer: 0 where none does.

@@ -1,16 +1,16 @@
 -- Every request ends: each answer that is taken lowers the number `left`, and nothing refused changes it. Assumes nothing.
 use native.Mathlib.Omega.{arith}
-use mathlib.Core.Path.{_≡_, refl, sym, ap, ap₂, _∙_, subst}
+use mathlib.Core.Path.{_≡_, refl, sym, ap, ap₂, _∙_}
 use mathlib.Core.Logic.{⊎-elim}
-use mathlib.Core.Bool.{Bool, true, false, cond, _&&_}
+use mathlib.Core.Bool.{Bool, true, false, cond}
 use mathlib.Core.List.{List, [], _∷_}
 use Prim.Native.Nat.{ℕ, suc, _+_, _-_, _*_, _≤_, _<_, min, max}
 use native.Mathlib.Decide.{decLt}
 use lib.Dec.{eqb, ltb, leb}
 use lib.ListN.{length, getD, drop}
 use lib.Seq.{getD-drop, drop-drop}
-use borrow.Author.Tests.{eq-eqb, eqb-true, eqb-false, ltb-true, leb-true, leb-false}
-use Rattle.laws.specs.Bools.{false≢true, and-left, both-true, lt-or-le}
+use borrow.Author.Tests.{eq-eqb, eqb-true, eqb-false, ltb-true, leb-false}
+use Rattle.laws.specs.Bools.{false≢true, and-left, lt-or-le}
 use Rattle.laws.specs.Refusal.{unless, when}
 use Rattle.permissions.specs.declared.OptionFlags.{OptionFlags}
 use Rattle.permissions.specs.declared.OptionFlags.the-variants.{Some, None}
@@ -36,9 +36,10 @@ use Rattle.change_steps.specs.declared.ChangeStep.{ChangeStep}
 use Rattle.change_steps.specs.Changes as changes
 use Rattle.protector_state.specs.State.{stateLen, firstPhases, phaseOf, phaseIn, requestOf, settingsOf, entriesIn}
 use Rattle.protector_state.specs.Changing.{stageNumber, stageOf, stageIn, isChanging, changeIn, withChange}
-use Rattle.call_refusals.specs.World.{World, overlaysOf, fits, statusOf, takes, takesAt}
+use Rattle.call_refusals.specs.World.{World, overlaysOf, fits, statusOf, statusIn, takes, takesAt}
 use Rattle.protector.specs.Calls.{carriedOut, carriedChange, pieceAfter, nextIn, afterDone, afterFailed, visibilityDone, visibilityFailed, changeDone, changeFailed, answerDone, answerFailed}
 use Rattle.call_refusals.specs.Refusals.{answerRefusal}
+use Rattle.call_refusals.proofs.Taken.{changing-named, done-takes}
 use Rattle.visibility_claims.specs.Whole.{BackendAnswer, Succeeds, Fails}
 use Rattle.visibility_claims.specs.Calls.{answerOf, takenBy}
 use Rattle.visibility_claims.specs.Ends.{left, leftAt, pageEnd, leftIn, underWay, afterAll, takenOf, unrefused, TakenLowers, UntakenKeeps, TakenEnd, EveryRequestEnds, DoneTaken}
@@ -201,36 +202,17 @@ stage-over stage.Wait n a end n′ a′ e = false≢true (sym e)
 stage-over stage.Flush n a end n′ a′ e = false≢true (sym e)
 stage-over stage.TlbWait n a end n′ a′ e = false≢true (sym e)
 
--- its number names a stage
-stage-named : (n : ℕ) → 13 ≤ n → n < 20 → stageNumber (stageOf n) ≡ n
-unfolding stageOf
-stage-named n h k =
-    at-or 13 h refl λ h. at-or 14 h refl λ h. at-or 15 h refl λ h. at-or 16 h refl λ h. at-or 17 h refl λ h. at-or 18 h refl λ h. at-or 19 h refl λ h. absurd (omega arith)
-  where
-    Named : ℕ → Type 0
-    Named m = stageNumber (stageOf m) ≡ m
-
-    at-or : (m : ℕ) → m ≤ n → Named m → (suc m ≤ n → Named n) → Named n
-    at-or m h here next = elim (decLt m n) [ yes d ↦ next d | no d ↦ let e : m ≡ n = omega (arith, d) in subst Named e here ]
-
-in-range : (n : ℕ) → (leb 13 n && ltb n 20) ≡ true → (13 ≤ n) × (n < 20)
-in-range n e = let p = both-true (leb 13 n) (ltb n 20) e in (leb-true 13 n (p .0), ltb-true n 20 (p .1))
-
-stage-some : (g : Stage) (n a end : ℕ) → 13 ≤ stageNumber g → (0 < leftAt g n a end) × (takesAt g false ≡ true)
+-- its stage has something left
+stage-some : (g : Stage) (n a end : ℕ) → 13 ≤ stageNumber g → 0 < leftAt g n a end
 stage-some stage.Idle n a end h = absurd (omega arith)
 stage-some stage.Halted n a end h = absurd (omega arith)
-stage-some stage.ProtectPages n a end h = (omega arith, refl)
-stage-some stage.ProtectRam n a end h = (omega arith, refl)
-stage-some stage.ProtectNew n a end h = (omega arith, refl)
-stage-some stage.ProtectOld n a end h = (omega arith, refl)
-stage-some stage.Wait n a end h = (omega arith, refl)
-stage-some stage.Flush n a end h = (omega arith, refl)
-stage-some stage.TlbWait n a end h = (omega arith, refl)
-
-changing-some : (s : List ℕ) (n a end : ℕ) → isChanging s ≡ true → (0 < leftAt (stageIn s) n a end) × (takesAt (stageIn s) false ≡ true)
-changing-some s n a end e =
-    let r = in-range (getD s 0 0) e in
-    stage-some (stageIn s) n a end (omega (arith, r .0, stage-named (getD s 0 0) (r .0) (r .1)))
+stage-some stage.ProtectPages n a end h = omega arith
+stage-some stage.ProtectRam n a end h = omega arith
+stage-some stage.ProtectNew n a end h = omega arith
+stage-some stage.ProtectOld n a end h = omega arith
+stage-some stage.Wait n a end h = omega arith
+stage-some stage.Flush n a end h = omega arith
+stage-some stage.TlbWait n a end h = omega arith
 
 -- ---- each of its steps lowers the number
 
@@ -431,7 +413,7 @@ some-in w e = go (isChanging (w .state)) refl e
 
     go : (b : Bool) → isChanging s ≡ b → eqb (cond b 19 (statusOf (phaseIn s))) 19 ≡ true
         → 0 < cond b (leftAt (stageIn s) (changeIn s .n) (changeIn s .at) (pageEnd (entriesIn s))) (left (phaseIn s) (requestOf s .n) (requestOf s .at))
-    go true d c = changing-some s (changeIn s .n) (changeIn s .at) (pageEnd (entriesIn s)) d .0
+    go true d c = stage-some (stageIn s) (changeIn s .n) (changeIn s .at) (pageEnd (entriesIn s)) (changing-named s d)
     go false d c = some-left (phaseIn s) (requestOf s .n) (requestOf s .at) c
 
 pub untaken-keeps : UntakenKeeps
@@ -503,27 +485,7 @@ every-request-ends w (g ∷ gs) u h = go (takenBy g w) refl (underWay w) refl (e
 
 pub done-taken : DoneTaken
 unfolding answerRefusal
-done-taken w a b c = rw (eq-eqb (length (w .state)) stateLen a, b) (either (isChanging (w .state)) refl c)
-  where
-    s : List ℕ
-    s = w .state
-
-    go : (p : Phase) → eqb (statusOf p) 19 ≡ true → eqb (when (eqb (statusOf p) 20) 20 (unless (takes p false) 21 0)) 0 ≡ true
-    go at.Idle e = e
-    go at.Halted e = e
-    go at.Wait e = refl
-    go at.FlushAll e = refl
-    go at.ProtectNone0 e = refl
-    go at.ProtectNone1 e = refl
-    go at.Invalidate e = refl
-    go at.Release e = refl
-    go at.Modify e = refl
-    go at.Accept e = refl
-    go at.Zero e = refl
-    go at.ProtectDefault0 e = refl
-    go at.ProtectDefault1 e = refl
-
-    either : (b : Bool) → isChanging s ≡ b → eqb (cond b 19 (statusOf (phaseIn s))) 19 ≡ true
-        → eqb (when (eqb (cond b 19 (statusOf (phaseIn s))) 20) 20 (unless (cond b (takesAt (stageIn s) false) (takes (phaseIn s) false)) 21 0)) 0 ≡ true
-    either true d e = rw (changing-some s 0 0 0 d .1)
-    either false d e = go (phaseIn s) e
+done-taken w a b c =
+    let s : List ℕ = w .state in
+    let busy : statusIn s ≡ 19 = eqb-true (statusIn s) 19 c in
+    rw (eq-eqb (length s) stateLen a, b, done-takes s, busy) refl
