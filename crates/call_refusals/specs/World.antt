@@ -12,7 +12,7 @@ use Rattle.permissions.specs.Flags.{vtlNumber}
 use Rattle.layout.specs.Layout.{mapLen}
 use Rattle.mapping.specs.Maps.{Maps, mapsFit, lengthsOf}
 use Rattle.overlay_table.specs.Overlays.{isOverlay}
-use Rattle.lock_table.specs.Locks.{listsOf, held}
+use Rattle.lock_table.specs.Locks.{heldIn}
 use Rattle.visibility_steps.specs.declared.Phase.{Phase}
 use Rattle.visibility_steps.specs.declared.Phase.the-variants.{Idle, Halted, Wait, FlushAll, ProtectNone0, ProtectNone1, Invalidate, Release, Modify, Accept, Zero, ProtectDefault0, ProtectDefault1}
 use Rattle.change_steps.specs.declared.Stage.{Stage}
@@ -50,7 +50,7 @@ locksOf t v = take locksLen (drop (locksStart + locksLen * vtlNumber v) t)
 
 -- locked: in one of the lists, and not an overlay
 abbrev pub isLocked : List ℕ → List ℕ → ℕ → Bool
-isLocked overlays locks p = held (listsOf locks) p && not (isOverlay overlays p)
+isLocked overlays locks p = heldIn locks p && not (isOverlay overlays p)
 
 -- ---- 4: the lengths of what is lent beside the state block, of a layout whose maps have len bytes
 

@@ -7,7 +7,7 @@ use Prim.Native.Nat.{ℕ, zero, suc, _+_, _-_, _/_}
 use lib.Dec.{eqb, ltb}
 use lib.ListN.{length}
 use borrow.Author.Tests.{eqb-true}
-use Rattle.laws.specs.Bools.{or-assoc, or-swap}
+use Rattle.laws.specs.Bools.{or-swap}
 use Rattle.laws.specs.Ranges.{between, between-false, between-same, between-join}
 use Rattle.bitmap.specs.Pages.{bitAt, written}
 use Rattle.bitmap.proofs.Map.{length-written}
@@ -24,6 +24,7 @@ use Rattle.mapping.proofs.Marks.{permitted-page, entry-pages}
 use Rattle.page_list.specs.declared.PageRun.{PageRun}
 use Rattle.page_list.specs.Pages.{among}
 use Rattle.page_list.specs.Runs.{run, before, runsOf}
+use Rattle.page_list.proofs.Laws.{among-append}
 use Rattle.default_change.specs.Pieces.{pageUp}
 use Rattle.default_change.specs.Visit.{upTo, pick, pagesIn}
 use Rattle.visibility_claims.specs.Whole.{perRun, defaults, withPermissions, protecting}
@@ -33,11 +34,6 @@ use Rattle.change_claims.specs.Pages.{Sets, within, Permits, PermitsFor}
 use Rattle.change_claims.proofs.Through.{begun}
 
 -- ---- the pages of runs
-
-among-join : (ps qs : List ℕ) (q : ℕ) → among (ps ++ qs) q ≡ (among ps q || among qs q)
-unfolding among
-among-join [] qs q = refl
-among-join (p ∷ ps) qs q = ap (λ (b : Bool). eqb q p || b) (among-join ps qs q) ∙ sym (or-assoc (eqb q p) (among ps q) (among qs q))
 
 among-up : (k a q : ℕ) → among (upTo a k) q ≡ between a (a + k) q
 unfolding upTo among
@@ -93,7 +89,7 @@ ram-visits [] overlay m p = refl
 ram-visits (e ∷ es) overlay m p =
     let P : ℕ → Bool = isProtected (m .private) overlay in
     let rs : List PageRun = runsOf (pick P (entryPages e)) in
-    ap (λ (l : List ℕ). among l p) (pages-join rs (ramRuns es overlay m)) ∙ among-join (pagesIn rs) (pagesIn (ramRuns es overlay m)) p
+    ap (λ (l : List ℕ). among l p) (pages-join rs (ramRuns es overlay m)) ∙ among-append (pagesIn rs) (pagesIn (ramRuns es overlay m)) p
     ∙ ap₂ (λ (x y : Bool). x || y) (ap (λ (l : List ℕ). among l p) (run-pages (pick P (entryPages e))) ∙ among-pick P (entryPages e) p ∙ ap (λ (b : Bool). b && P p) (held-pages e p)) (ram-visits es overlay m p)
     ∙ spread (holdsPage e p) (isRam es p) (P p)
   where
@@ -124,7 +120,7 @@ runs-page s (r ∷ rs) m p =
     ∙ ap₂ (λ (n : ℕ) (b : Bool). cond (among (pagesIn rs) p && ltb (p / 8) n) s b) (length-written 8 P s m) (permitted-page (r .first) (r .first + r .count) s m p)
     ∙ twice (among (pagesIn rs) p) (P p) (ltb (p / 8) (length m)) (bitAt 8 m p)
     ∙ ap (λ (b : Bool). cond (b && ltb (p / 8) (length m)) s (bitAt 8 m p))
-    (ap (λ (b : Bool). b || among (pagesIn rs) p) (sym (among-up (r .count) (r .first) p)) ∙ sym (among-join (upTo (r .first) (r .count)) (pagesIn rs) p))
+    (ap (λ (b : Bool). b || among (pagesIn rs) p) (sym (among-up (r .count) (r .first) p)) ∙ sym (among-append (upTo (r .first) (r .count)) (pagesIn rs) p))
   where
     twice : (a b c x : Bool) → cond (a && c) s (cond (b && c) s x) ≡ cond ((b || a) && c) s x
     twice true true true x = refl

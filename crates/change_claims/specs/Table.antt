@@ -6,16 +6,17 @@ use lib.ListN.{length, replicate}
 use Rattle.abi.specs.Codes as code
 use Rattle.abi.specs.Lengths.{tablesLen}
 use Rattle.abi.specs.Refusals as refusal
+use Rattle.permissions.specs.declared.GuestVtl.{GuestVtl}
 use Rattle.permissions.specs.declared.GuestVtl.the-variants.{Vtl0, Vtl1}
 use Rattle.permissions.specs.Flags.{vtlOf, flagsOf}
 use Rattle.permissions.specs.HvError.{codeOf}
 use Rattle.page_list.specs.Pages.{pagesOf}
 use Rattle.page_list.specs.Runs.{run}
-use Rattle.lock_table.specs.Locks.{total}
+use Rattle.lock_table.specs.Locks.{held, total, heldIn}
 use Rattle.lock_entries.specs.Calls.{ended, lockRefusal, lockOf}
 use Rattle.lock_entries.specs.Lists.{Lists, listsAt, withLists, Holds, Makes}
 use Rattle.protector_state.specs.Reply.{finished}
-use Rattle.call_refusals.specs.World.{World, world, overlaysOf}
+use Rattle.call_refusals.specs.World.{World, world, overlaysOf, locksOf}
 use Rattle.overlay_entries.specs.Calls.{registerOf}
 use Rattle.visibility_claims.specs.Whole.{Wait, Protect, Flush, TlbWait, Succeeds, Fails, Ok, FailedAt, Halts}
 use Rattle.visibility_claims.specs.Table.{page, dones, fresh}
@@ -61,10 +62,11 @@ pub record Changes : Type 0 where
   pub old-asked : unregisterWhole two Vtl0 5 (dones 4) .whole .asked ≡ Protect Vtl0 (flagsOf 15) (run 5 1) ∷ Wait ∷ Flush Vtl0 ∷ TlbWait Vtl0 ∷ []
   pub old-gone : overlaysOf (unregisterWhole two Vtl0 5 (dones 4) .tables) Vtl0 ≡ 1 ∷ 11 ∷ 15 ∷ 1 ∷ 1 ∷ 0 ∷ replicate 635 0
 
--- tables and counts that are full (17), and the last that are not, by 01's own numbers; of the locked lists of one VTL
+-- tables and counts that are full (17), and the last that are not, by 01's own numbers; of the locked lists of one VTL, where also a page is found locked just where a list has it
 pub record Limits : Type 0 where
   pub count-65535 : registerOf (counts 65534) 0 5 0 15 16 .reply ≡ finished 0 0 0 0
   pub count-full : registerOf (counts 65535) 0 5 0 15 16 .reply ≡ finished refusal.full (codeOf refusal.full) 0 0
+  pub held-as-listed : (t : List ℕ) (x : Lists) → Holds t x → (v : GuestVtl) (p : ℕ) → heldIn (locksOf t v) p ≡ held (listsAt x v) p
   pub list-64 : (s t : List ℕ) (vtl : ℕ) (l : List ℕ) → lockRefusal s (length t) vtl l ≡ 0 → (x : Lists) → Holds t x → length (listsAt x (vtlOf vtl)) ≡ 63
       → total (listsAt x (vtlOf vtl)) + length (pagesOf l) ≤ 1024 → Makes t (withLists x (vtlOf vtl) (listsAt x (vtlOf vtl) ++ (pagesOf l ∷ []))) (lockOf s t vtl l)
   pub list-65 : (s t : List ℕ) (vtl : ℕ) (l : List ℕ) → lockRefusal s (length t) vtl l ≡ 0 → (x : Lists) → Holds t x → length (listsAt x (vtlOf vtl)) ≡ 64 → lockOf s t vtl l ≡ ended t refusal.full

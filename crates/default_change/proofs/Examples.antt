@@ -7,9 +7,9 @@ use Rattle.layout.specs.declared.MemoryRangeWithNode.{MemoryRangeWithNode}
 use Rattle.layout.specs.Layout.{entry, ramByte}
 use Rattle.page_list.specs.Runs.{run}
 use Rattle.overlay_table.specs.Overlays.{placeFrom}
-use Rattle.lock_table.specs.Locks.{listsFrom}
+use Rattle.lock_table.specs.Locks.{ends, joined, tableOf}
 use Rattle.default_change.specs.Pieces.{span, nextOf}
-use Rattle.default_change.specs.Barred.{anyOf, anyIn, barred}
+use Rattle.default_change.specs.Barred.{anyOf, barred}
 use Rattle.default_change.specs.Renewed.{renewedFrom, renewed}
 use Rattle.default_change.specs.Visit.{piecesFrom, pieces}
 
@@ -42,12 +42,12 @@ unfolding piecesFrom nextOf span placeFrom
 cut-at-entries = refl
 
 -- locked: a shared page, an overlay page and no RAM bar nothing, a private page does
-pub not-barred : barred marks table (2 ∷ 2 ∷ 3 ∷ 12 ∷ 1 ∷ 20 ∷ []) ram ≡ false
-unfolding anyOf anyIn listsFrom ramByte placeFrom
+pub not-barred : barred marks table (tableOf ((3 ∷ 12 ∷ []) ∷ (20 ∷ []) ∷ [])) ram ≡ false
+unfolding anyOf ends joined tableOf ramByte placeFrom
 not-barred = refl
 
-pub barred-by-4 : barred marks table (2 ∷ 2 ∷ 3 ∷ 12 ∷ 2 ∷ 20 ∷ 4 ∷ []) ram ≡ true
-unfolding anyOf anyIn listsFrom ramByte placeFrom
+pub barred-by-4 : barred marks table (tableOf ((3 ∷ 12 ∷ []) ∷ (20 ∷ 4 ∷ []) ∷ [])) ram ≡ true
+unfolding anyOf ends joined tableOf ramByte placeFrom
 barred-by-4 = refl
 
 -- the overlays on private RAM have the new previous permissions, the one on page 40 its own

@@ -3,7 +3,7 @@ use mathlib.Core.Bool.{Bool, true, false, not, _&&_}
 use mathlib.Core.List.{List, [], _∷_}
 use mathlib.Core.Logic.{⊎-elim}
 use mathlib.Core.Path.{_≡_, refl, sym, ap, ap₂, _∙_}
-use Prim.Native.Nat.{ℕ, zero, suc, _+_, _-_, _≤_, _<_, min}
+use Prim.Native.Nat.{ℕ, _+_, _≤_, _<_, min}
 use native.Mathlib.Numerals.{add-one}
 use native.Mathlib.Omega.{arith}
 use lib.Dec.{eqb}
@@ -17,10 +17,10 @@ use Rattle.layout.specs.Layout.{isRam}
 use Rattle.page_list.specs.Pages.{among}
 use Rattle.page_list.specs.Runs.{part}
 use Rattle.overlay_table.specs.Overlays.{isOverlay}
-use Rattle.lock_table.specs.Locks.{held, nextAt, listsFrom, listsOf}
-use Rattle.default_change.specs.Barred.{barring, anyOf, anyIn, barred}
+use Rattle.lock_table.specs.Locks.{lockedPages, heldIn}
+use Rattle.default_change.specs.Barred.{barring, anyOf, barred}
 
--- ---- the loop over the pages of a list
+-- ---- the loop over the pages
 module _ (P : ℕ → Bool) (t : List ℕ) (i n q : ℕ) (h : i < n) (g : i < length t) (e : q ≡ getD t i 0) where
   here : part t n i ≡ q ∷ part t n (i + 1)
   here =
@@ -40,27 +40,7 @@ pub any-end : (P : ℕ → Bool) (t : List ℕ) (i n : ℕ) → min n (length t)
 unfolding anyOf
 any-end P t i n h all inv = sym (ap (anyOf P) (drop-of-length-le (take n t) {i = i} (omega (arith, length-take n t)))) ∙ inv
 
--- ---- the loop over the lists
-module _ (P : ℕ → Bool) (t : List ℕ) (o e : ℕ) (all : Bool) where
-  pub in-hit : (k : ℕ) → 0 < k → e ≡ nextAt t o → (b : Bool) → b ≡ anyOf P (part t e (o + 1)) → b ≡ true → anyIn P (listsFrom t k o) ≡ all → true ≡ all
-  unfolding anyIn listsFrom
-  in-hit zero h f b a g inv = absurd (omega arith)
-  in-hit (suc k) h f b a g inv = let x : anyIn P (listsFrom t (suc k) o) ≡ true = rw (sym f, sym a, g) in sym x ∙ inv
-
-  pub in-miss : (k : ℕ) → 0 < k → e ≡ nextAt t o → (b : Bool) → b ≡ anyOf P (part t e (o + 1)) → b ≡ false → anyIn P (listsFrom t k o) ≡ all → anyIn P (listsFrom t (k - 1) e) ≡ all
-  unfolding anyIn listsFrom
-  in-miss zero h f b a g inv = absurd (omega arith)
-  in-miss (suc k) h f b a g inv =
-      let d : suc k - 1 ≡ k = omega arith in
-      let x : anyIn P (listsFrom t (suc k) o) ≡ anyIn P (listsFrom t (suc k - 1) e) = rw (sym f, sym a, g, d) refl in
-      sym x ∙ inv
-
-  pub in-end : (k : ℕ) → k ≤ 0 → anyIn P (listsFrom t k o) ≡ all → false ≡ all
-  unfolding anyIn listsFrom
-  in-end zero h inv = inv
-  in-end (suc k) h inv = absurd (omega arith)
-
--- ---- what it tells: some page of the lists, and any
+-- ---- what it tells: some page of a list, and any
 
 among-any : (P : ℕ → Bool) (l : List ℕ) → anyOf P l ≡ true → (p : ℕ) × (P p ≡ true) × (among l p ≡ true)
 unfolding anyOf among
@@ -80,35 +60,17 @@ any-among P (x ∷ l) p e h =
     (λ (d : among l p ≡ true). or-right (P x) (anyOf P l) (any-among P l p e d))
     (or-true (eqb p x) (among l p) h)
 
-held-any : (P : ℕ → Bool) (ls : List (List ℕ)) → anyIn P ls ≡ true → (p : ℕ) × (P p ≡ true) × (held ls p ≡ true)
-unfolding anyIn held
-held-any P [] h = false≢true h
-held-any P (l ∷ ls) h =
-    ⊎-elim
-    (λ (e : anyOf P l ≡ true). let m = among-any P l e in (m .0, m .1, or-left (among l (m .0)) (held ls (m .0)) (m .2)))
-    (λ (e : anyIn P ls ≡ true). let m = held-any P ls e in (m .0, m .1, or-right (among l (m .0)) (held ls (m .0)) (m .2)))
-    (or-true (anyOf P l) (anyIn P ls) h)
-
-any-held : (P : ℕ → Bool) (ls : List (List ℕ)) (p : ℕ) → P p ≡ true → held ls p ≡ true → anyIn P ls ≡ true
-unfolding anyIn held
-any-held P [] p e h = false≢true h
-any-held P (l ∷ ls) p e h =
-    ⊎-elim
-    (λ (d : among l p ≡ true). or-left (anyOf P l) (anyIn P ls) (any-among P l p e d))
-    (λ (d : held ls p ≡ true). or-right (anyOf P l) (anyIn P ls) (any-held P ls p e d))
-    (or-true (among l p) (held ls p) h)
-
 -- a default change is barred just where some page is RAM, private and locked
 module _ (private overlays locks : List ℕ) (es : List MemoryRangeWithNode) where
   pub record Bar : Type 0 where
     pub page : ℕ
     pub ram : isRam es page ≡ true
     pub marked : bitAt 8 private page ≡ true
-    pub locked : (held (listsOf locks) page && not (isOverlay overlays page)) ≡ true
+    pub locked : (heldIn locks page && not (isOverlay overlays page)) ≡ true
 
   pub barred-by : barred private overlays locks es ≡ true → Bar
   barred-by h =
-      let m = held-any (barring private overlays es) (listsOf locks) h in
+      let m = among-any (barring private overlays es) (lockedPages locks) h in
       let p : ℕ = m .0 in
       let a : (isRam es p && bitAt 8 private p) ≡ true = and-left (isRam es p && bitAt 8 private p) (not (isOverlay overlays p)) (m .1) in
       let b : not (isOverlay overlays p) ≡ true = and-right (isRam es p && bitAt 8 private p) (not (isOverlay overlays p)) (m .1) in
@@ -116,13 +78,13 @@ module _ (private overlays locks : List ℕ) (es : List MemoryRangeWithNode) whe
         page = p;
         ram = and-left (isRam es p) (bitAt 8 private p) a;
         marked = and-right (isRam es p) (bitAt 8 private p) a;
-        locked = and-true (held (listsOf locks) p) (not (isOverlay overlays p)) (m .2) b;
+        locked = and-true (heldIn locks p) (not (isOverlay overlays p)) (m .2) b;
       }
 
   pub bars : Bar → barred private overlays locks es ≡ true
   bars b =
       let p : ℕ = b .page in
-      let f : not (isOverlay overlays p) ≡ true = and-right (held (listsOf locks) p) (not (isOverlay overlays p)) (b .locked) in
-      any-held (barring private overlays es) (listsOf locks) p
+      let f : not (isOverlay overlays p) ≡ true = and-right (heldIn locks p) (not (isOverlay overlays p)) (b .locked) in
+      any-among (barring private overlays es) (lockedPages locks) p
       (and-true (isRam es p && bitAt 8 private p) (not (isOverlay overlays p)) (and-true (isRam es p) (bitAt 8 private p) (b .ram) (b .marked)) f)
-      (and-left (held (listsOf locks) p) (not (isOverlay overlays p)) (b .locked))
+      (and-left (heldIn locks p) (not (isOverlay overlays p)) (b .locked))

@@ -223,17 +223,8 @@ fn is_any_barring(
 pub fn has_locked_page(private: &[u8], overlays: &[u64], locks: &[u64], ram: &[u64]) -> bool
     ensures { λ r. ⌜ r ≡ barred (now (private .entry)) (now (overlays .entry)) (now (locks .entry)) (entriesOf (now (ram .entry))) ⌝ }
 {
-    let mut left = lock_table::list_count(locks);
-    let mut place: u64 = 1;
-    while 0 < left {
-        let end = lock_table::list_end(locks, place);
-        if is_any_barring(private, overlays, locks, ram, place + 1, end) {
-            return true;
-        }
-        place = end;
-        left -= 1;
-    }
-    false
+    let end = lock_table::pages_end(locks);
+    is_any_barring(private, overlays, locks, ram, lock_table::FIRST_PAGE, end)
 }
 
 // The entry at a place: its previous permissions are new where its page is private RAM.

@@ -12,9 +12,8 @@ use Rattle.page_list.specs.Pages.{numberOf, numberAt, numbersFrom, among, repea
 use Rattle.page_list.specs.Runs.{neighbours, runAt}
 use Rattle.request_pages.specs.Request.{pick, tableOf, stopAt, put}
 use Rattle.overlay_table.specs.Overlays.{placeFrom}
-use Rattle.lock_table.specs.Locks.{listsFrom, held}
 use Rattle.default_change.specs.Pieces.{span, nextOf}
-use Rattle.default_change.specs.Barred.{anyOf, anyIn}
+use Rattle.default_change.specs.Barred.{anyOf}
 use Rattle.default_change.specs.Renewed.{renewedFrom}
 use Rattle.visibility_steps.specs.Steps.{operationOf, ask, cleared, startOf}
 use Rattle.change_steps.specs.Changes as changes
@@ -73,7 +72,7 @@ pub share8 : Made sharing8 built8 (asking8 .world) (asking8 .reply)
 share8 = any-call built8 .made sharing8
 
 pub share8-asks : asks (asking8 .reply) ≡ true
-unfolding visibilityOf ready visibilityRefusal buildOf buildRefusal refusalOf entriesOf ordered aligned buildTaken word writtenFrom ramByte numberOf numberAt numbersFrom among repeats pick tableOf stopAt put placeFrom listsFrom held ask operationOf cleared startOf firstPhases phaseOf askedOf flatOf applied carriedOut firstRefusal visibilityTaken
+unfolding visibilityOf ready visibilityRefusal buildOf buildRefusal refusalOf entriesOf ordered aligned buildTaken word writtenFrom ramByte numberOf numberAt numbersFrom among repeats pick tableOf stopAt put placeFrom ask operationOf cleared startOf firstPhases phaseOf askedOf flatOf applied carriedOut firstRefusal visibilityTaken
 share8-asks = refl
 
 -- ---- and while it waits a build with isolation 9, lent what stands, is refused: a step of the list
@@ -93,7 +92,7 @@ pub record Others8 : Type 0 where
   pub unregisters : asks (unregisterOf (afterAll (registerOf built8 0 5 0 15 1 .world) (dones 4)) 0 5 .reply) ≡ true
 
 pub others8 : Others8
-unfolding ready buildOf buildRefusal refusalOf entriesOf ordered aligned buildTaken word writtenFrom ramByte numberOf numberAt numbersFrom neighbours runAt pick tableOf placeFrom listsFrom held span nextOf anyOf anyIn
+unfolding ready buildOf buildRefusal refusalOf entriesOf ordered aligned buildTaken word writtenFrom ramByte numberOf numberAt numbersFrom neighbours runAt pick tableOf placeFrom among span nextOf anyOf
     renewedFrom changes.protect changes.ask changes.wait changes.finish changes.protectPages changes.protectRam changes.doneOf changes.startNew changes.startOld firstPhases phaseOf flatOf askedOf stageOf entered carriedChange firstRefusal answerRefusal afterDone answerDone protectionRefusal protectionTaken protectionOf
     defaultRefusal defaultStarted defaultTaken defaultOf callRefusal within knownRefusal guestRefusal dmaRefusal pageRefusal registerRefusal currentOf registerTaken registerOf unregisterRefusal unregisterTaken unregisterOf closed closedTo afterAll
 others8 = record { protects = refl; defaults = refl; registers = refl; unregisters = refl }

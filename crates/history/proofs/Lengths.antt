@@ -1,12 +1,12 @@
 -- What is lent keeps its lengths, whatever a call writes into it. Assumes nothing.
 use native.Mathlib.Omega.{arith}
-use Prim.Native.Nat.{ℕ, _+_, _-_, _*_, _<_}
+use Prim.Native.Nat.{ℕ, zero, suc, _+_, _-_, _*_, _<_, min}
 use mathlib.Core.Path.{_≡_, refl, sym, ap, _∙_}
-use mathlib.Core.List.{List, _∷_, _++_}
+use mathlib.Core.List.{List, _++_}
 use mathlib.Core.Bool.{Bool, true, false, cond}
 use lib.ListN.{length, take, drop, set, getD, length-set, length-append, length-drop, take-append-drop}
 use lib.Seq.{sets, length-sets, drop-drop, getD-drop, getD-set-other}
-use Rattle.words.specs.Words.{closedTo, swapped}
+use Rattle.words.specs.Words.{swapped}
 use Rattle.words.proofs.Padded.{length-closed}
 use Rattle.bitmap.proofs.Map.{length-written}
 use Rattle.permissions.specs.Flags.{vtlNumber, boolOf}
@@ -50,20 +50,32 @@ either-long false n x y e f = f
 
 pub lock-long : (t l : List ℕ) → length (locks.lockWords t l) ≡ length t
 lock-long t l =
-    let r : List ℕ = sets t (locks.endFrom t (locks.used t) 1) (length l ∷ l) in
-    either-long (locks.roomFor (locks.listsOf t) (length l)) (length t) (set r 0 (locks.used t + 1)) t (length-set r 0 (locks.used t + 1) ∙ length-sets t (locks.endFrom t (locks.used t) 1) (length l ∷ l)) refl
+    let n : ℕ = locks.used t + 1 in
+    let e : ℕ = locks.endOf t (locks.used t) + length l in
+    let r : List ℕ = sets t (locks.pagesEnd t) l in
+    either-long (locks.hasRoom t (length l)) (length t) (locks.oneMore t l) t (length-set (set r n e) 0 n ∙ length-set r n e ∙ length-sets t (locks.pagesEnd t) l) refl
 
-lock-gone-long : (t : List ℕ) (o : ℕ) → length (locks.without t o) ≡ length t
+moved-long : (n : ℕ) (t : List ℕ) (k b d : ℕ) → length (locks.moved t n k b d) ≡ length t
+unfolding locks.moved
+moved-long zero t k b d = refl
+moved-long (suc n) t k b d = let v : ℕ = min 1024 (getD t k 0) - b + d in moved-long n (set t k v) (suc k) b d ∙ length-set t k v
+
+lock-gone-long : (t : List ℕ) (c i : ℕ) → length (locks.without t c i) ≡ length t
 unfolding locks.without
-lock-gone-long t o =
-    let e : ℕ = locks.nextAt t o in
-    let r : List ℕ = locks.lastTo t e in
-    length-set (closedTo r o (e - o) (locks.endAt t)) 0 (locks.used t - 1) ∙ length-closed r o (e - o) (locks.endAt t) ∙ swapped-long t e _ _
+lock-gone-long t c i =
+    let b : ℕ = locks.endOf t (suc i) in
+    let d : ℕ = locks.endOf t i + (locks.endOf t c - locks.endOf t (c - 1)) in
+    let p : List ℕ = locks.pagesGone t c i in
+    let m : List ℕ = locks.moved p (c - suc i) (suc i) b d in
+    let z : ℕ = locks.placeOf t c in
+    let r : List ℕ = locks.lastTo t (locks.placeOf t (suc i)) (locks.placeOf t (c - 1)) z in
+    length-set (set m c 0) 0 (c - 1) ∙ length-set m c 0 ∙ moved-long (c - suc i) p (suc i) b d
+    ∙ length-closed r (locks.placeOf t i) (b - locks.endOf t i) z ∙ swapped-long t (locks.placeOf t (suc i)) _ _
 
 pub unlock-long : (t l : List ℕ) → length (locks.unlockWords t l) ≡ length t
 unlock-long t l =
-    let o : ℕ = locks.placeFrom t (locks.used t) 1 l in
-    either-long (locks.kept (locks.listsOf t) l) (length t) (locks.without t o) t (lock-gone-long t o) refl
+    let i : ℕ = locks.equalFrom t (locks.used t) 0 l in
+    either-long (locks.kept (locks.listsOf t) l) (length t) (locks.without t (locks.used t) i) t (lock-gone-long t (locks.used t) i) refl
 
 -- other words in place of a part
 pub replaced-long : (a n : ℕ) (t x : List ℕ) → length x ≡ length (take n (drop a t)) → length (take a t ++ (x ++ drop (a + n) t)) ≡ length t

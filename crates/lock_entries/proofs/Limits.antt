@@ -12,7 +12,7 @@ use Rattle.permissions.specs.declared.GuestVtl.{GuestVtl}
 use Rattle.permissions.specs.declared.GuestVtl.the-variants.{Vtl0, Vtl1}
 use Rattle.permissions.specs.Flags.{vtlOf}
 use Rattle.page_list.specs.Pages.{pagesOf}
-use Rattle.lock_table.specs.Locks.{total, Fit, roomFor, stream, tableOf}
+use Rattle.lock_table.specs.Locks.{total, Fit, roomFor, ends, joined, tableOf}
 use Rattle.call_refusals.specs.World.{tablesLen, locksOf}
 use Rattle.lock_entries.specs.Calls.{ended, lockRefusal, lockOf}
 use Rattle.lock_entries.specs.Lists.{Lists, lists, listsAt, withLists, Holds, Makes}
@@ -72,7 +72,7 @@ unfolding total
 none-fits = (omega arith, omega arith)
 
 pub none-locked : Holds (replicate tablesLen 0) (lists [] [])
-unfolding tableOf stream
+unfolding tableOf ends joined
 none-locked = record { long = refl; fit = fit; words = words }
   where
     fit : (v : GuestVtl) → Fit (listsAt (lists [] []) v)

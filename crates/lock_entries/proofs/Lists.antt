@@ -2,24 +2,28 @@
 use mathlib.Core.Path.{_≡_, refl, sym, ap, ap₂, subst, _∙_}
 use mathlib.Core.Bool.{Bool, true, false, cond}
 use mathlib.Core.List.{List, [], _∷_, _++_}
-use Prim.Native.Nat.{ℕ, _+_}
+use Prim.Native.Nat.{ℕ}
 use lib.Dec.{eqb}
-use lib.ListN.{length, set}
+use lib.ListN.{length}
 use borrow.Author.Tests.{eq-eqb, ne-eqb}
 use Rattle.permissions.specs.declared.GuestVtl.{GuestVtl}
 use Rattle.permissions.specs.declared.GuestVtl.the-variants.{Vtl0, Vtl1}
 use Rattle.permissions.specs.Flags.{vtlOf}
 use Rattle.page_list.specs.Pages.{pagesOf}
-use lib.Seq.{sets}
-use Rattle.lock_table.specs.Locks.{used, endFrom, placeFrom, without, Fit, roomFor, unlocked, tableOf, listsOf, lockCode, lockWords, unlockCode, unlockWords}
+use Rattle.lock_table.specs.Locks.{used, heldIn, hasRoom, oneMore, equalFrom, without, Fit, roomFor, unlocked, tableOf, listsOf, lockCode, lockWords, unlockCode, unlockWords}
 use Rattle.lock_table.specs.Locks as locks
-use Rattle.lock_table.proofs.Lists.{table-length, table-lock, table-lock-code}
+use Rattle.lock_table.proofs.Lists.{table-length, table-held, table-lock, table-lock-code}
 use Rattle.lock_table.proofs.Unlocked.{none-unlocked, table-unlock, table-unlock-code}
 use Rattle.lock_table.proofs.Fits.{lock-fits, unlock-fits}
 use Rattle.call_refusals.specs.World.{locksOf}
 use Rattle.lock_entries.specs.Calls.{Kept, ended, lockRefusal, withLocks, lockTaken, lockOf, unlockTaken, unlockOf}
 use Rattle.lock_entries.specs.Lists.{Lists, lists, listsAt, withLists, Holds, Makes}
 use Rattle.lock_entries.proofs.Parts.{same-locks, length-with, locks-with, other-locks0, other-locks1, overlays-with}
+
+-- ---- a page is found locked just where one of the lists has it
+
+pub held-as-listed : (t : List ℕ) (x : Lists) → Holds t x → (v : GuestVtl) (p : ℕ) → heldIn (locksOf t v) p ≡ locks.held (listsAt x v) p
+held-as-listed t x h v p = ap (λ (r : List ℕ). heldIn r p) (h .words v) ∙ table-held (listsAt x v) (h .fit v) p
 
 -- ---- the tables with other lists of a VTL
 
@@ -112,12 +116,10 @@ as-it-was t v w n true h = absurd (h refl)
 as-it-was t v w n false h = same-locks t v
 
 lock-kept : (t : List ℕ) (v : GuestVtl) (ps : List ℕ) → (lockCode (locksOf t v) ps ≡ 0 → ⊥) → withLocks t v (lockWords (locksOf t v) ps) ≡ t
-lock-kept t v ps =
-    let x : List ℕ = locksOf t v in
-    as-it-was t v (set (sets x (endFrom x (used x) 1) (length ps ∷ ps)) 0 (used x + 1)) 17 (roomFor (listsOf x) (length ps))
+lock-kept t v ps = let x : List ℕ = locksOf t v in as-it-was t v (oneMore x ps) 17 (hasRoom x (length ps))
 
 unlock-kept : (t : List ℕ) (v : GuestVtl) (ps : List ℕ) → (unlockCode (locksOf t v) ps ≡ 0 → ⊥) → withLocks t v (unlockWords (locksOf t v) ps) ≡ t
-unlock-kept t v ps = let x : List ℕ = locksOf t v in as-it-was t v (without x (placeFrom x (used x) 1 ps)) 18 (locks.kept (listsOf x) ps)
+unlock-kept t v ps = let x : List ℕ = locksOf t v in as-it-was t v (without x (used x) (equalFrom x (used x) 0 ps)) 18 (locks.kept (listsOf x) ps)
 
 -- a call is refused, or its table is looked at
 decided : (t : List ℕ) (n : ℕ) (taken : Kept) (b : Bool) → ((taken .reply .number ≡ 0 → ⊥) → taken .tables ≡ t) → (cond b taken (ended t n) .reply .number ≡ 0 → ⊥)

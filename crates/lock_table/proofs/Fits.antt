@@ -9,6 +9,7 @@ use lib.ListN.{length, length-append}
 use borrow.Author.Tests.{eq-eqb, eqb-true, ltb-true, leb-true}
 use Rattle.laws.specs.Bools.{false≢true, and-left, and-right}
 use Rattle.lock_table.specs.Locks.{total, Fit, roomFor, same, kept, lastOf, allButLast, lastFirst, unlocked}
+use Rattle.lock_table.proofs.Lists.{total-append}
 use Rattle.lock_table.proofs.Unlocked.{first, none-unlocked, first-unlocked}
 
 pub same-self : (a : List ℕ) → same a a ≡ true
@@ -22,11 +23,6 @@ same-equal [] [] e = refl
 same-equal [] (y ∷ b) e = false≢true e
 same-equal (x ∷ a) [] e = false≢true e
 same-equal (x ∷ a) (y ∷ b) e = ap₂ (λ (h : ℕ) (r : List ℕ). h ∷ r) (eqb-true x y (and-left (eqb x y) (same a b) e)) (same-equal a b (and-right (eqb x y) (same a b) e))
-
-total-append : (xs ys : List (List ℕ)) → total (xs ++ ys) ≡ total xs + total ys
-unfolding total
-total-append [] ys = omega arith
-total-append (x ∷ xs) ys = omega (arith, total-append xs ys)
 
 pub lock-fits : (ls : List (List ℕ)) (l : List ℕ) → roomFor ls (length l) ≡ true → Fit (ls ++ (l ∷ []))
 unfolding total

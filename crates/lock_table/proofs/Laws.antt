@@ -1,4 +1,4 @@
--- Laws of the loops over lists, how they end and go on, and of what lock and unlock return. Assumes nothing.
+-- Laws of the loops over lists and pages, how they end and go on, and of what lock and unlock return. Assumes nothing.
 use mathlib.Core.Bool.{Bool, true, false, cond, not, _&&_, _||_}
 use mathlib.Core.List.{List, [], _∷_}
 use mathlib.Core.Logic.{⊎-elim}
@@ -9,14 +9,14 @@ use native.Mathlib.Omega.{arith}
 use lib.Dec.{eqb, ltb, leb}
 use lib.ListN.{length, getD, set, take, drop, length-take, length-drop, drop-of-length-le}
 use lib.Seq.{drop-cons, getD-take, sets}
-use borrow.Author.Tests.{eq-eqb, ne-eqb, lt-ltb, le-ltb, le-leb, lt-leb, not-true, not-false}
-use Rattle.laws.specs.Bools.{and-true, and-false, lt-or-le}
+use borrow.Author.Tests.{eq-eqb, ne-eqb, lt-ltb, le-ltb, le-leb, lt-leb, leb-true, not-true, not-false}
+use Rattle.laws.specs.Bools.{and-true, and-false, and-right, lt-or-le}
 use Rattle.words.specs.Words.{closedTo, swapped}
 use Rattle.words.proofs.Laws.{swapped-none}
 use Rattle.page_list.specs.Runs.{part}
 use Rattle.page_list.specs.Pages.{among}
 use Rattle.page_list.proofs.Laws as pages
-use Rattle.lock_table.specs.Locks.{held, total, same, kept, roomFor, used, nextAt, listAt, listsFrom, endFrom, listsOf, lockCode, lockWords, placeFrom, without, unlockCode, unlockWords}
+use Rattle.lock_table.specs.Locks.{same, kept, used, endOf, listAt, listsFrom, listsOf, hasRoom, lockCode, lockWords, equalFrom, moved, without, unlockCode, unlockWords}
 
 -- ---- a page among words
 module _ (t : List ℕ) (i n p q : ℕ) (h : i < n) (g : i < length t) (e : q ≡ getD t i 0) where
@@ -35,57 +35,15 @@ module _ (t : List ℕ) (i n p q : ℕ) (h : i < n) (g : i < length t) (e : q �
 pub among-end : (t : List ℕ) (i n p : ℕ) → min n (length t) ≤ i → among (part t n i) p ≡ false
 among-end t i n p h = pages.among-end (take n t) i (omega (arith, length-take n t)) p
 
--- ---- a page among lists
-module _ (t : List ℕ) (o p e : ℕ) where
-  pub held-hit : (k : ℕ) → 0 < k → e ≡ nextAt t o → among (part t e (o + 1)) p ≡ true → held (listsFrom t k o) p ≡ true
-  unfolding held listsFrom
-  held-hit zero h f g = absurd (omega arith)
-  held-hit (suc k) h f g = rw (sym f, g)
+-- ---- how many pages the first lists have
 
-  pub held-miss : (k : ℕ) → 0 < k → e ≡ nextAt t o → among (part t e (o + 1)) p ≡ false → held (listsFrom t k o) p ≡ held (listsFrom t (k - 1) e) p
-  unfolding held listsFrom
-  held-miss zero h f g = absurd (omega arith)
-  held-miss (suc k) h f g = let d : suc k - 1 ≡ k = omega arith in rw (sym f, g, d) refl
+pub end-none : (t : List ℕ) (k : ℕ) → k ≡ 0 → 0 ≡ endOf t k
+end-none t zero h = refl
+end-none t (suc k) h = absurd (omega arith)
 
-  pub held-end : (k : ℕ) → k ≤ 0 → held (listsFrom t k o) p ≡ false
-  unfolding held listsFrom
-  held-end zero h = refl
-  held-end (suc k) h = absurd (omega arith)
-
--- ---- how many lists and pages, and where they end
-
-pub lists-length : (t : List ℕ) (k o : ℕ) → length (listsFrom t k o) ≡ k
-unfolding listsFrom
-lists-length t zero o = refl
-lists-length t (suc k) o = ap suc (lists-length t k (nextAt t o))
-
-pub part-length : (a b : ℕ) (t : List ℕ) → b ≤ length t → length (part t b a) ≡ b - a
-part-length a b t h = length-drop a (take b t) ∙ omega (arith, length-take b t)
-
-module _ (t : List ℕ) where
-  pub total-more : (k o e n sum : ℕ) → 0 < k → e ≡ nextAt t o → n ≡ e - (o + 1) → sum + n + total (listsFrom t (k - 1) e) ≡ sum + total (listsFrom t k o)
-  unfolding total listsFrom
-  total-more zero o e n sum h f g = absurd (omega arith)
-  total-more (suc k) o e n sum h f g =
-      let d : suc k - 1 ≡ k = omega arith in
-      let l : length (listAt t o) ≡ n = part-length (o + 1) (nextAt t o) t (omega arith) ∙ ap (λ (x : ℕ). x - (o + 1)) (sym f) ∙ sym g in
-      let r : total (listsFrom t (suc k - 1) e) ≡ total (listsFrom t k (nextAt t o)) = ap₂ (λ (x y : ℕ). total (listsFrom t x y)) d f in
-      omega arith
-
-  pub total-end : (k o : ℕ) → k ≤ 0 → total (listsFrom t k o) ≡ 0
-  unfolding total listsFrom
-  total-end zero o h = refl
-  total-end (suc k) o h = absurd (omega arith)
-
-  pub end-more : (k o e : ℕ) → 0 < k → e ≡ nextAt t o → endFrom t (k - 1) e ≡ endFrom t k o
-  unfolding endFrom
-  end-more zero o e h f = absurd (omega arith)
-  end-more (suc k) o e h f = let d : suc k - 1 ≡ k = omega arith in rw (f, d) refl
-
-  pub end-end : (k o : ℕ) → k ≤ 0 → endFrom t k o ≡ o
-  unfolding endFrom
-  end-end zero o h = refl
-  end-end (suc k) o h = absurd (omega arith)
+pub end-some : (t : List ℕ) (k : ℕ) → 0 < k → endOf t k ≡ min 1024 (getD t k 0)
+end-some t zero h = absurd (omega arith)
+end-some t (suc k) h = refl
 
 pub room-lists : (c sum n : ℕ) → 64 ≤ c → false ≡ (ltb c 64 && leb (sum + n) 1024)
 room-lists c sum n h = rw (le-ltb c 64 h) refl
@@ -99,86 +57,95 @@ room-left c sum n h g =
     (λ (d : n ≤ 1024 - sum). le-leb n (1024 - sum) d ∙ sym (and-true (ltb c 64) (leb (sum + n) 1024) (lt-ltb c 64 h) (le-leb (sum + n) 1024 (omega arith))))
     (lt-or-le (1024 - sum) n)
 
+pub room-sum : (b : Bool) (c sum n : ℕ) → b ≡ (ltb c 64 && leb (sum + n) 1024) → b ≡ true → sum + n ≤ 1024
+room-sum b c sum n e h = leb-true (sum + n) 1024 (and-right (ltb c 64) (leb (sum + n) 1024) (sym e ∙ h))
+
 -- ---- pages written
 
 rest : (l : List ℕ) (i : ℕ) → i < length l → drop i l ≡ getD l i 0 ∷ drop (i + 1) l
 rest l i h = drop-cons l i 0 h ∙ ap (λ (n : ℕ). getD l i 0 ∷ drop n l) (sym (add-one i))
 
-pub sets-more : (t : List ℕ) (o i p : ℕ) (l t′ : List ℕ) → i < length l → p ≡ getD l i 0 → t′ ≡ set t (o + (i + 1)) p → sets t′ (o + 1 + (i + 1)) (drop (i + 1) l) ≡ sets t (o + 1 + i) (drop i l)
+pub sets-more : (t : List ℕ) (o i p : ℕ) (l t′ : List ℕ) → i < length l → p ≡ getD l i 0 → t′ ≡ set t (o + i) p → sets t′ (o + (i + 1)) (drop (i + 1) l) ≡ sets t (o + i) (drop i l)
 sets-more t o i p l t′ h e f =
-    let a : o + (i + 1) ≡ o + 1 + i = omega arith in
-    let b : o + 1 + (i + 1) ≡ suc (o + 1 + i) = omega arith in
-    ap₂ (λ (r : List ℕ) (n : ℕ). sets r n (drop (i + 1) l)) (f ∙ ap₂ (λ (k v : ℕ). set t k v) a e) b ∙ ap (λ (r : List ℕ). sets t (o + 1 + i) r) (sym (rest l i h))
+    let b : o + (i + 1) ≡ suc (o + i) = omega arith in
+    ap₂ (λ (r : List ℕ) (n : ℕ). sets r n (drop (i + 1) l)) (f ∙ ap (set t (o + i)) e) b ∙ ap (λ (r : List ℕ). sets t (o + i) r) (sym (rest l i h))
 
-pub sets-end : (t : List ℕ) (o i : ℕ) (l : List ℕ) → length l ≤ i → sets t (o + 1 + i) (drop i l) ≡ t
-sets-end t o i l h = ap (λ (r : List ℕ). sets t (o + 1 + i) r) (drop-of-length-le l h)
+pub sets-end : (t : List ℕ) (o i : ℕ) (l : List ℕ) → length l ≤ i → sets t (o + i) (drop i l) ≡ t
+sets-end t o i l h = ap (λ (r : List ℕ). sets t (o + i) r) (drop-of-length-le l h)
 
 -- ---- lists compared
 
-pub same-length : (a b : List ℕ) → (length a ≡ length b → ⊥) → same a b ≡ false
+same-length : (a b : List ℕ) → (length a ≡ length b → ⊥) → same a b ≡ false
 unfolding same
 same-length [] [] h = absurd (h refl)
 same-length [] (q ∷ b) h = refl
 same-length (p ∷ a) [] h = refl
 same-length (p ∷ a) (q ∷ b) h = and-false (eqb p q) (same a b) (same-length a b (λ e. h (ap suc e)))
 
-module _ (t l : List ℕ) (o to : ℕ) (inside : to ≤ length t) (long : to - (o + 1) ≡ length l) where
-  module _ (i w p : ℕ) (h : i < length l) (e : w ≡ getD t (o + (i + 1)) 0) (f : p ≡ getD l i 0) where
-    next-word : part t to (o + 1 + i) ≡ w ∷ part t to (o + 1 + (i + 1))
-    next-word =
-        let n : ℕ = o + 1 + i in
-        let d : n + 1 ≡ o + 1 + (i + 1) = omega arith in
-        let a : n ≡ o + (i + 1) = omega arith in
-        let read : getD (take to t) n 0 ≡ w = getD-take to t n 0 (omega arith) ∙ ap (λ (k : ℕ). getD t k 0) a ∙ sym e in
-        rest (take to t) n (omega (arith, length-take to t)) ∙ ap₂ (λ (v k : ℕ). v ∷ drop k (take to t)) read d
+module _ (t l : List ℕ) (from to n end long : ℕ) (count : n ≡ length l) (stop : end ≡ min to (length t)) (width : long ≡ end - from) where
+  pub same-not : (long ≡ n → ⊥) → same (part t to from) l ≡ false
+  same-not h = same-length (part t to from) l (λ e. h (omega (arith, length-drop from (take to t), length-take to t)))
 
-    next-page : drop i l ≡ p ∷ drop (i + 1) l
-    next-page = rest l i h ∙ ap (λ (v : ℕ). v ∷ drop (i + 1) l) (sym f)
+  module _ (equal : long ≡ n) where
+    module _ (i w p : ℕ) (h : i < n) (e : w ≡ getD t (from + i) 0) (f : p ≡ getD l i 0) where
+      next-word : part t to (from + i) ≡ w ∷ part t to (from + (i + 1))
+      next-word =
+          let d : from + i + 1 ≡ from + (i + 1) = omega arith in
+          let read : getD (take to t) (from + i) 0 ≡ w = getD-take to t (from + i) 0 (omega arith) ∙ sym e in
+          rest (take to t) (from + i) (omega (arith, length-take to t)) ∙ ap₂ (λ (v k : ℕ). v ∷ drop k (take to t)) read d
 
-    compared : same (part t to (o + 1 + i)) (drop i l) ≡ (eqb w p && same (part t to (o + 1 + (i + 1))) (drop (i + 1) l))
+      next-page : drop i l ≡ p ∷ drop (i + 1) l
+      next-page = rest l i (omega arith) ∙ ap (λ (v : ℕ). v ∷ drop (i + 1) l) (sym f)
+
+      compared : same (part t to (from + i)) (drop i l) ≡ (eqb w p && same (part t to (from + (i + 1))) (drop (i + 1) l))
+      unfolding same
+      compared = ap₂ same next-word next-page
+
+      pub same-stop : (w ≡ p → ⊥) → same (part t to (from + i)) (drop i l) ≡ false
+      same-stop d = compared ∙ rw (ne-eqb w p d) refl
+
+      pub same-more : w ≡ p → same (part t to (from + i)) (drop i l) ≡ same (part t to (from + (i + 1))) (drop (i + 1) l)
+      same-more d = compared ∙ rw (eq-eqb w p d) refl
+
+    pub same-end : (i : ℕ) → n ≤ i → same (part t to (from + i)) (drop i l) ≡ true
     unfolding same
-    compared = ap₂ same next-word next-page
-
-    pub same-stop : (w ≡ p → ⊥) → same (part t to (o + 1 + i)) (drop i l) ≡ false
-    same-stop d = compared ∙ rw (ne-eqb w p d) refl
-
-    pub same-more : w ≡ p → same (part t to (o + 1 + i)) (drop i l) ≡ same (part t to (o + 1 + (i + 1))) (drop (i + 1) l)
-    same-more d = compared ∙ rw (eq-eqb w p d) refl
-
-  pub same-end : (i : ℕ) → length l ≤ i → same (part t to (o + 1 + i)) (drop i l) ≡ true
-  unfolding same
-  same-end i h = ap₂ same (drop-of-length-le (take to t) {i = o + 1 + i} (omega (arith, length-take to t))) (drop-of-length-le l {i = i} h)
+    same-end i h = ap₂ same (drop-of-length-le (take to t) {i = from + i} (omega (arith, length-take to t))) (drop-of-length-le l {i = i} (omega arith))
 
 -- ---- the first list that is equal
-module _ (t : List ℕ) (o : ℕ) (l : List ℕ) (e : ℕ) where
-  pub place-hit : (k : ℕ) → 0 < k → e ≡ nextAt t o → same (part t e (o + 1)) l ≡ true → placeFrom t k o l ≡ o
-  unfolding placeFrom
-  place-hit zero h f g = absurd (omega arith)
-  place-hit (suc k) h f g = rw (sym f, g)
+module _ (t : List ℕ) (c k from to : ℕ) (l : List ℕ) (e : from ≡ 65 + endOf t k) (f : to ≡ 65 + min 1024 (getD t (k + 1) 0)) where
+  pub next-from : to ≡ 65 + endOf t (k + 1)
+  next-from = f ∙ ap (λ (n : ℕ). 65 + n) (sym (end-some t (k + 1) (omega arith)))
 
-  pub place-miss : (k : ℕ) → 0 < k → e ≡ nextAt t o → same (part t e (o + 1)) l ≡ false → placeFrom t k o l ≡ placeFrom t (k - 1) e l
-  unfolding placeFrom
-  place-miss zero h f g = absurd (omega arith)
-  place-miss (suc k) h f g = let d : suc k - 1 ≡ k = omega arith in rw (sym f, g, d) refl
+  list-here : part t to from ≡ listAt t k
+  list-here = ap₂ (λ (x y : ℕ). part t x y) (next-from ∙ ap (λ (n : ℕ). 65 + endOf t n) (add-one k)) e
 
-  pub place-end : (k : ℕ) → k ≤ 0 → placeFrom t k o l ≡ 0
-  unfolding placeFrom
-  place-end zero h = refl
-  place-end (suc k) h = absurd (omega arith)
+  pub equal-hit : k < c → same (part t to from) l ≡ true → equalFrom t (c - k) k l ≡ k
+  unfolding equalFrom
+  equal-hit h g =
+      let d : c - k ≡ suc (c - (k + 1)) = omega arith in
+      let s : same (listAt t k) l ≡ true = ap (λ (x : List ℕ). same x l) (sym list-here) ∙ g in
+      ap (λ (n : ℕ). equalFrom t n k l) d ∙ ap (λ (b : Bool). cond b k (equalFrom t (c - (k + 1)) (suc k) l)) s
 
-not-empty : (t : List ℕ) → 0 < getD t 0 0 → 0 < length t
-not-empty [] h = absurd (omega arith)
-not-empty (x ∷ t) h = omega arith
+  pub equal-miss : k < c → same (part t to from) l ≡ false → equalFrom t (c - k) k l ≡ equalFrom t (c - (k + 1)) (k + 1) l
+  unfolding equalFrom
+  equal-miss h g =
+      let d : c - k ≡ suc (c - (k + 1)) = omega arith in
+      let s : same (listAt t k) l ≡ false = ap (λ (x : List ℕ). same x l) (sym list-here) ∙ g in
+      ap (λ (n : ℕ). equalFrom t n k l) d ∙ ap (λ (b : Bool). cond b k (equalFrom t (c - (k + 1)) (suc k) l)) s ∙ ap (λ (n : ℕ). equalFrom t (c - (k + 1)) n l) (sym (add-one k))
 
-place-kept : (t l : List ℕ) (k o : ℕ) → k ≤ getD t 0 0 → 0 < o → eqb (placeFrom t k o l) 0 ≡ not (kept (listsFrom t k o) l)
-unfolding placeFrom kept listsFrom
-place-kept t l zero o h g = eq-eqb 0 0 refl
-place-kept t l (suc k) o h g = go (same (listAt t o) l) (place-kept t l k (nextAt t o) (omega arith) (omega (arith, not-empty t (omega arith))))
+pub equal-end : (t : List ℕ) (c k : ℕ) (l : List ℕ) → c ≤ k → equalFrom t (c - k) k l ≡ k
+unfolding equalFrom
+equal-end t c k l h = let d : c - k ≡ 0 = omega arith in ap (λ (n : ℕ). equalFrom t n k l) d
+
+equal-kept : (t l : List ℕ) (n k : ℕ) → leb (k + n) (equalFrom t n k l) ≡ not (kept (listsFrom t n k) l)
+unfolding equalFrom kept listsFrom
+equal-kept t l zero k = le-leb (k + 0) k (omega arith)
+equal-kept t l (suc n) k = go (same (listAt t k) l) (equal-kept t l n (suc k))
   where
-    go : (b : Bool) → eqb (placeFrom t k (nextAt t o) l) 0 ≡ not (kept (listsFrom t k (nextAt t o)) l)
-        → eqb (cond b o (placeFrom t k (nextAt t o) l)) 0 ≡ not (b || kept (listsFrom t k (nextAt t o)) l)
-    go true m = ne-eqb o 0 (λ e. omega arith)
-    go false m = m
+    go : (b : Bool) → leb (suc k + n) (equalFrom t n (suc k) l) ≡ not (kept (listsFrom t n (suc k)) l)
+        → leb (k + suc n) (cond b k (equalFrom t n (suc k) l)) ≡ not (b || kept (listsFrom t n (suc k)) l)
+    go true m = lt-leb (k + suc n) k (omega arith)
+    go false m = let d : k + suc n ≡ suc k + n = omega arith in ap (λ (x : ℕ). leb x (equalFrom t n (suc k) l)) d ∙ m
 
 -- ---- the last list brought forward
 module _ (t : List ℕ) (end last to : ℕ) where
@@ -191,36 +158,55 @@ module _ (t : List ℕ) (end last to : ℕ) where
   pub last-there : last ≤ end → t ≡ brought
   last-there h = let d : max end last - end ≡ 0 = omega arith in sym (ap (λ (k : ℕ). swapped t end k (to - max end last)) d ∙ swapped-none t end (to - max end last))
 
+-- ---- ends moved
+
+pub move-more : (t : List ℕ) (to k b d e s : ℕ) (t′ : List ℕ) → k < to → e ≡ min 1024 (getD t k 0) → s ≡ e - b → t′ ≡ set t k (s + d) → moved t′ (to - (k + 1)) (k + 1) b d ≡ moved t (to - k) k b d
+unfolding moved
+move-more t to k b d e s t′ h f g x =
+    let n : to - k ≡ suc (to - (k + 1)) = omega arith in
+    ap₂ (λ (r : List ℕ) (i : ℕ). moved r (to - (k + 1)) i b d) (x ∙ ap (λ (v : ℕ). set t k (v + d)) (g ∙ ap (λ (v : ℕ). v - b) f)) (add-one k) ∙ ap (λ (i : ℕ). moved t i k b d) (sym n)
+
+pub move-end : (t : List ℕ) (to k b d : ℕ) → to ≤ k → moved t (to - k) k b d ≡ t
+unfolding moved
+move-end t to k b d h = let n : to - k ≡ 0 = omega arith in ap (λ (i : ℕ). moved t i k b d) n
+
 -- ---- lock and unlock, by what the code read and wrote
-module _ (t l : List ℕ) (n c sum : ℕ) (b : Bool) (long : n ≡ length l) (e : c ≡ used t) (f : sum ≡ total (listsFrom t c 1)) (g : b ≡ (ltb c 64 && leb (sum + n) 1024)) where
-  seen : b ≡ roomFor (listsOf t) (length l)
-  seen = g ∙ ap (λ (k : ℕ). ltb c 64 && leb (sum + k) 1024) long ∙ ap₂ (λ (x y : ℕ). ltb x 64 && leb (y + length l) 1024) (e ∙ sym (lists-length t (used t) 1)) (f ∙ ap (λ (k : ℕ). total (listsFrom t k 1)) e)
+module _ (t l : List ℕ) (n c end : ℕ) (b : Bool) (long : n ≡ length l) (e : c ≡ used t) (f : end ≡ endOf t c) (g : b ≡ (ltb c 64 && leb (end + n) 1024)) where
+  ended : end ≡ endOf t (used t)
+  ended = f ∙ ap (endOf t) e
+
+  seen : b ≡ hasRoom t (length l)
+  seen = g ∙ ap (λ (k : ℕ). ltb c 64 && leb (end + k) 1024) long ∙ ap₂ (λ (x y : ℕ). ltb x 64 && leb (y + length l) 1024) e ended
 
   pub lock-full : b ≡ false → (17 ≡ lockCode t l) × (t ≡ lockWords t l)
   lock-full h = let r = sym seen ∙ h in (rw r refl, rw r refl)
 
-  pub lock-made : b ≡ true → (o : ℕ) (t1 t2 t3 : List ℕ) → o ≡ endFrom t c 1 → t1 ≡ set t o n → t2 ≡ sets t1 (o + 1) l → t3 ≡ set t2 0 (c + 1)
+  pub lock-made : b ≡ true → (t1 t2 t3 : List ℕ) → t1 ≡ sets t (65 + end) l → t2 ≡ set t1 (c + 1) (end + n) → t3 ≡ set t2 0 (c + 1)
       → (0 ≡ lockCode t l) × (t3 ≡ lockWords t l)
-  lock-made h o t1 t2 t3 at x y z =
+  lock-made h t1 t2 t3 x y z =
       let r = sym seen ∙ h in
-      let d : o + 1 ≡ suc o = add-one o in
-      (rw r refl, rw r (z ∙ rw (y, x, d, at, e, long) refl))
+      (rw r refl, rw r (z ∙ rw (y, x, ended, e, long) refl))
 
-module _ (t l : List ℕ) (c o : ℕ) (e : c ≡ used t) (f : o ≡ placeFrom t c 1 l) where
-  place : o ≡ placeFrom t (used t) 1 l
-  place = f ∙ ap (λ (k : ℕ). placeFrom t k 1 l) e
+pub list-removed : (t : List ℕ) (c i start end last to gap size : ℕ) → start ≡ endOf t i → end ≡ endOf t (i + 1) → last ≡ endOf t (c - 1) → to ≡ endOf t c → gap ≡ end - start → size ≡ to - last
+    → (t1 t2 t3 t4 t5 : List ℕ) → t1 ≡ swapped t (65 + end) (max (65 + end) (65 + last) - (65 + end)) (65 + to - max (65 + end) (65 + last)) → t2 ≡ closedTo t1 (65 + start) gap (65 + to)
+    → t3 ≡ moved t2 (c - (i + 1)) (i + 1) end (start + size) → t4 ≡ set t3 c 0 → t5 ≡ set t4 0 (c - 1) → t5 ≡ without t c i
+unfolding without
+list-removed t c i start end last to gap size xa xb xc xd xe xf t1 t2 t3 t4 t5 ya yb yc yd ye =
+    let d : i + 1 ≡ suc i = add-one i in
+    let xg : end ≡ endOf t (suc i) = xb ∙ ap (endOf t) d in
+    ye ∙ rw (yd, yc, yb, ya, d, xe, xf, xa, xg, xc, xd) refl
 
-  found : eqb o 0 ≡ not (kept (listsOf t) l)
-  found = ap (λ (k : ℕ). eqb k 0) place ∙ place-kept t l (used t) 1 (omega arith) (omega arith)
+module _ (t l : List ℕ) (c i : ℕ) (e : c ≡ used t) (f : i ≡ equalFrom t c 0 l) where
+  place : i ≡ equalFrom t (used t) 0 l
+  place = f ∙ ap (λ (k : ℕ). equalFrom t k 0 l) e
 
-  pub unlock-none : o ≡ 0 → (18 ≡ unlockCode t l) × (t ≡ unlockWords t l)
-  unlock-none h = let r = not-true (kept (listsOf t) l) (sym found ∙ eq-eqb o 0 h) in (rw r refl, rw r refl)
+  found : leb c i ≡ not (kept (listsOf t) l)
+  found = let d : c ≡ 0 + used t = omega arith in ap₂ leb d place ∙ equal-kept t l (used t) 0
 
-  pub unlock-made : (o ≡ 0 → ⊥) → (behind less end last to gap : ℕ) → endFrom t behind o ≡ endFrom t (c - 1) 1 → less ≡ c - 1 → end ≡ nextAt t o → last ≡ endFrom t behind o → to ≡ nextAt t last → gap ≡ end - o
-      → (t1 t2 t3 : List ℕ) → t1 ≡ swapped t end (max end last - end) (to - max end last) → t2 ≡ closedTo t1 o gap to → t3 ≡ set t2 0 less
-      → (0 ≡ unlockCode t l) × (t3 ≡ unlockWords t l)
-  unfolding without
-  unlock-made h behind less end last to gap w xa xb xc xd xe t1 t2 t3 ya yb yc =
-      let r = not-false (kept (listsOf t) l) (sym found ∙ ne-eqb o 0 h) in
-      let q : t3 ≡ without t o = yc ∙ rw (yb, ya, xe, xd, xc, w, xb, xa, e) refl in
-      (rw r refl, rw r (q ∙ ap (without t) place))
+  pub unlock-none : c ≤ i → (18 ≡ unlockCode t l) × (t ≡ unlockWords t l)
+  unlock-none h = let r = not-true (kept (listsOf t) l) (sym found ∙ le-leb c i h) in (rw r refl, rw r refl)
+
+  pub unlock-made : i < c → (t1 : List ℕ) → t1 ≡ without t c i → (0 ≡ unlockCode t l) × (t1 ≡ unlockWords t l)
+  unlock-made h t1 x =
+      let r = not-false (kept (listsOf t) l) (sym found ∙ lt-leb c i h) in
+      (rw r refl, rw r (x ∙ ap₂ (without t) e place))

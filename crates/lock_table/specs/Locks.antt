@@ -7,7 +7,6 @@ use lib.ListN.{getD, set, length}
 use lib.Seq.{sets}
 use Rattle.abi.specs.Limits as limit
 use Rattle.abi.specs.Refusals as refusal
-use Rattle.abi.specs.Lengths.{locksLen}
 use Rattle.page_list.specs.Pages.{among}
 use Rattle.page_list.specs.Runs.{part}
 use Rattle.words.specs.Words.{padded, closedTo, swapped}
@@ -60,71 +59,101 @@ unfoldable pub unlocked : List (List ℕ) → List ℕ → List (List ℕ)
 unlocked [] l = []
 unlocked (x ∷ xs) l = cond (same x l) (lastFirst xs) (x ∷ unlocked xs l)
 
--- ---- their words: how many, then of each its length and its pages
+-- ---- their words: how many, then how many pages the first k have together, then the pages of all
 
-unfoldable pub stream : List (List ℕ) → List ℕ
-stream [] = []
-stream (l ∷ ls) = length l ∷ (l ++ stream ls)
+-- how many pages each has with those before it, n before the first
+unfoldable pub ends : ℕ → List (List ℕ) → List ℕ
+ends n [] = []
+ends n (l ∷ ls) = (n + length l) ∷ ends (n + length l) ls
+
+unfoldable pub joined : List (List ℕ) → List ℕ
+joined [] = []
+joined (l ∷ ls) = l ++ joined ls
 
 unfoldable pub tableOf : List (List ℕ) → List ℕ
-tableOf ls = padded locksLen (length ls ∷ stream ls)
+tableOf ls = length ls ∷ (padded limit.lockedLists (ends 0 ls) ++ padded limit.lockedPages (joined ls))
 
--- ---- any words: at most 64 lists are read, and none past the end
+-- the place of the first page, behind their number and 64 ends
+abbrev pub firstPage : ℕ
+firstPage = 65
+
+-- ---- any words: at most 64 lists are read, and no more than 1,024 pages
 
 abbrev pub used : List ℕ → ℕ
 used t = min limit.lockedLists (getD t 0 0)
 
--- the list that starts at place o, and the place after it
-abbrev pub nextAt : List ℕ → ℕ → ℕ
-nextAt t o = min (length t) (o + 1 + getD t o 0)
+-- how many pages the first k lists have together
+abbrev pub endOf : List ℕ → ℕ → ℕ
+endOf t zero = 0
+endOf t (suc k) = min limit.lockedPages (getD t (suc k) 0)
+
+-- where their pages end and those of list k, from 0, begin
+abbrev pub placeOf : List ℕ → ℕ → ℕ
+placeOf t k = firstPage + endOf t k
 
 abbrev pub listAt : List ℕ → ℕ → List ℕ
-listAt t o = part t (nextAt t o) (o + 1)
+listAt t k = part t (placeOf t (suc k)) (placeOf t k)
 
--- k lists from place o on, and the place after them
+-- n lists from list k on
 unfoldable pub listsFrom : List ℕ → ℕ → ℕ → List (List ℕ)
-listsFrom t zero o = []
-listsFrom t (suc k) o = listAt t o ∷ listsFrom t k (nextAt t o)
-
-unfoldable pub endFrom : List ℕ → ℕ → ℕ → ℕ
-endFrom t zero o = o
-endFrom t (suc k) o = endFrom t k (nextAt t o)
+listsFrom t zero k = []
+listsFrom t (suc n) k = listAt t k ∷ listsFrom t n (suc k)
 
 abbrev pub listsOf : List ℕ → List (List ℕ)
-listsOf t = listsFrom t (used t) 1
+listsOf t = listsFrom t (used t) 0
+
+-- the place after the last locked page, and the pages before it
+abbrev pub pagesEnd : List ℕ → ℕ
+pagesEnd t = placeOf t (used t)
+
+abbrev pub lockedPages : List ℕ → List ℕ
+lockedPages t = part t (pagesEnd t) firstPage
+
+abbrev pub heldIn : List ℕ → ℕ → Bool
+heldIn t p = among (lockedPages t) p
 
 -- ---- lock: 17 where there is no room
 
+abbrev pub hasRoom : List ℕ → ℕ → Bool
+hasRoom t n = ltb (used t) limit.lockedLists && leb (endOf t (used t) + n) limit.lockedPages
+
+-- one list more: its pages, its end, and how many there are
+abbrev pub oneMore : List ℕ → List ℕ → List ℕ
+oneMore t l = set (set (sets t (pagesEnd t) l) (used t + 1) (endOf t (used t) + length l)) 0 (used t + 1)
+
 abbrev pub lockCode : List ℕ → List ℕ → ℕ
-lockCode t l = cond (roomFor (listsOf t) (length l)) 0 refusal.full
+lockCode t l = cond (hasRoom t (length l)) 0 refusal.full
 
 abbrev pub lockWords : List ℕ → List ℕ → List ℕ
-lockWords t l = cond (roomFor (listsOf t) (length l)) (set (sets t (endFrom t (used t) 1) (length l ∷ l)) 0 (used t + 1)) t
+lockWords t l = cond (hasRoom t (length l)) (oneMore t l) t
 
 -- ---- unlock: 18 where no list is equal
 
--- of k lists from place o on, where the first that is equal starts: 0 where none is
-unfoldable pub placeFrom : List ℕ → ℕ → ℕ → List ℕ → ℕ
-placeFrom t zero o l = 0
-placeFrom t (suc k) o l = cond (same (listAt t o) l) o (placeFrom t k (nextAt t o) l)
+-- of n lists from list k on the first that is equal: k + n where none is
+unfoldable pub equalFrom : List ℕ → ℕ → ℕ → List ℕ → ℕ
+equalFrom t zero k l = k
+equalFrom t (suc n) k l = cond (same (listAt t k) l) k (equalFrom t n (suc k) l)
 
--- where the last list starts, and the place after it
-abbrev pub lastAt : List ℕ → ℕ
-lastAt t = endFrom t (used t - 1) 1
+-- of what stands from place e on, the words from place y to before place z come first
+abbrev pub lastTo : List ℕ → ℕ → ℕ → ℕ → List ℕ
+lastTo t e y z = swapped t e (max e y - e) (z - max e y)
 
-abbrev pub endAt : List ℕ → ℕ
-endAt t = nextAt t (lastAt t)
+-- of c lists the pages of list i are gone, and those of the last stand in their place
+abbrev pub pagesGone : List ℕ → ℕ → ℕ → List ℕ
+pagesGone t c i = closedTo (lastTo t (placeOf t (suc i)) (placeOf t (c - 1)) (placeOf t c)) (placeOf t i) (endOf t (suc i) - endOf t i) (placeOf t c)
 
--- of what stands from place e on, the last list comes first
-abbrev pub lastTo : List ℕ → ℕ → List ℕ
-lastTo t e = swapped t e (max e (lastAt t) - e) (endAt t - max e (lastAt t))
+-- the ends in n words from word k on, b pages less and d more
+unfoldable pub moved : List ℕ → ℕ → ℕ → ℕ → ℕ → List ℕ
+moved t zero k b d = t
+moved t (suc n) k b d = moved (set t k (min limit.lockedPages (getD t k 0) - b + d)) n (suc k) b d
 
--- the list at place o is gone, and the last stands in its place
-unfoldable pub without : List ℕ → ℕ → List ℕ
-without t o = set (closedTo (lastTo t (nextAt t o)) o (nextAt t o - o) (endAt t)) 0 (used t - 1)
+-- of c lists list i is gone, and the last stands in its place: so do their ends
+unfoldable pub without : List ℕ → ℕ → ℕ → List ℕ
+without t c i =
+    set (set (moved (pagesGone t c i) (c - suc i) (suc i) (endOf t (suc i)) (endOf t i + (endOf t c - endOf t (c - 1)))) c 0) 0 (c - 1)
 
 abbrev pub unlockCode : List ℕ → List ℕ → ℕ
 unlockCode t l = cond (kept (listsOf t) l) 0 refusal.notLocked
 
 abbrev pub unlockWords : List ℕ → List ℕ → List ℕ
-unlockWords t l = cond (kept (listsOf t) l) (without t (placeFrom t (used t) 1 l)) t
+unlockWords t l = cond (kept (listsOf t) l) (without t (used t) (equalFrom t (used t) 0 l)) t

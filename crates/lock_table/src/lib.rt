@@ -1,52 +1,51 @@
-// The locked page lists of one VTL in a lent run of words: how many, then each list's length and its pages.
+// The locked page lists of one VTL in a lent run of words: how many, then how many pages the first k of them have together, then the pages of all.
 ghost use mathlib.Core.Path.{_≡_};
 ghost use mathlib.Core.Bool.{_&&_};
-ghost use Prim.Native.Nat.{_+_, _-_, _≤_, max};
+ghost use Prim.Native.Nat.{_+_, _-_, _≤_, _<_, min, max};
 ghost use lib.Dec.{ltb, leb};
-ghost use lib.ListN.{length};
+ghost use lib.ListN.{getD};
 ghost use lib.Seq.{sets};
 ghost use Rattle.abi.specs.Limits as limit;
 ghost use Rattle.words.specs.Words.{swapped};
 ghost use Rattle.page_list.specs.Pages.{among, pagesOf};
 ghost use Rattle.page_list.specs.Runs.{part};
-ghost use Rattle.lock_table.specs.Locks.{held, total, same, used, nextAt, listsFrom, endFrom, listsOf, lockCode, lockWords, placeFrom, unlockCode, unlockWords};
+ghost use Rattle.lock_table.specs.Locks.{same, used, endOf, pagesEnd, heldIn, lockCode, lockWords, equalFrom, moved, without, unlockCode, unlockWords};
 use abi::limit;
 use abi::refusal;
 
+// The place of the first page, behind the number of lists and their 64 ends.
+pub const FIRST_PAGE: u64 = 65;
+
 // How many lists are in use.
-pub fn list_count(t: &[u64]) -> u64
+fn list_count(t: &[u64]) -> u64
     ensures { λ r. ⌜ r ≡ used (now (t .entry)) ⌝ }
 {
     numbers::min(limit::LOCKED_LISTS, numbers::word_at(t, 0))
 }
 
-// The place after the list that starts at a place.
-pub fn list_end(t: &[u64], place: u64) -> u64
-    ensures { λ r. ⌜ r ≡ nextAt (now (t .entry)) place ⌝ }
+// How many pages the first k lists have together, k not 0.
+fn end_at(t: &[u64], k: u64) -> u64
+    ensures { λ r. ⌜ r ≡ min limit.lockedPages (getD (now (t .entry)) k 0) ⌝ }
 {
-    let end = t.len() as u64;
-    if end <= place {
-        return end;
-    }
-    let k = place as usize;
-    let n = t[k];
-    if end - place <= n {
-        return end;
-    }
-    place + 1 + n
+    numbers::min(limit::LOCKED_PAGES, numbers::word_at(t, k))
 }
 
-// The place after n lists from a place on.
-fn end_of(t: &[u64], n: u64, from: u64) -> u64
-    ensures { λ r. ⌜ r ≡ endFrom (now (t .entry)) n from ⌝ }
+// The same of any k.
+fn end_of(t: &[u64], k: u64) -> u64
+    ensures { λ r. ⌜ r ≡ endOf (now (t .entry)) k ⌝ }
+    ensures { λ r. ⌜ r ≤ limit.lockedPages ⌝ }
 {
-    let mut left = n;
-    let mut place = from;
-    while 0 < left {
-        place = list_end(t, place);
-        left -= 1;
+    if k == 0 {
+        return 0;
     }
-    place
+    end_at(t, k)
+}
+
+// The place after the last locked page.
+pub fn pages_end(t: &[u64]) -> u64
+    ensures { λ r. ⌜ r ≡ pagesEnd (now (t .entry)) ⌝ }
+{
+    FIRST_PAGE + end_of(t, list_count(t))
 }
 
 // Whether a page stands at the places from `from` to before `to`.
@@ -67,51 +66,9 @@ fn is_among(t: &[u64], from: u64, to: u64, gpn: u64) -> bool
 
 // Whether some list holds a page.
 pub fn holds(t: &[u64], gpn: u64) -> bool
-    ensures { λ r. ⌜ r ≡ held (listsOf (now (t .entry))) gpn ⌝ }
+    ensures { λ r. ⌜ r ≡ heldIn (now (t .entry)) gpn ⌝ }
 {
-    let mut left = list_count(t);
-    let mut place: u64 = 1;
-    while 0 < left {
-        let end = list_end(t, place);
-        if is_among(t, place + 1, end, gpn) {
-            return true;
-        }
-        place = end;
-        left -= 1;
-    }
-    false
-}
-
-// How many pages a list has, by its place and the place after it.
-fn pages_between(place: u64, end: u64) -> u64
-    ensures { λ r. ⌜ r ≡ end - (place + 1) ⌝ }
-{
-    numbers::saturating_sub(numbers::saturating_sub(end, place), 1)
-}
-
-// The place after some lists, and how many pages they have.
-struct Extent {
-    place: u64,
-    total: u64,
-}
-
-// The extent of the first n lists.
-fn extent_of(t: &[u64], n: u64) -> Extent
-    ensures { λ r. ⌜ (r .place ≡ endFrom (now (t .entry)) n 1) × (r .total ≡ total (listsFrom (now (t .entry)) n 1)) ⌝ }
-{
-    let mut left = n;
-    let mut place: u64 = 1;
-    let mut sum: u64 = 0;
-    while 0 < left {
-        let end = list_end(t, place);
-        sum += pages_between(place, end);
-        place = end;
-        left -= 1;
-    }
-    Extent {
-        place: place,
-        total: sum,
-    }
+    is_among(t, FIRST_PAGE, pages_end(t), gpn)
 }
 
 // Whether n pages have room beside c lists with `sum` pages.
@@ -127,16 +84,16 @@ fn has_room(c: u64, sum: u64, n: u64) -> bool
     n <= limit::LOCKED_PAGES - sum
 }
 
-// The pages of a list, written after a place.
+// The pages of a list, written from a place on.
 fn put_pages(t: &mut [u64], place: u64, list: &[u8])
-    ensures { λ _. ⌜ now (t .exit) ≡ sets (now (t .entry)) (place + 1) (pagesOf (now (list .entry))) ⌝ }
+    ensures { λ _. ⌜ now (t .exit) ≡ sets (now (t .entry)) place (pagesOf (now (list .entry))) ⌝ }
 {
     let n = page_list::page_count(list);
     let mut i: u64 = 0;
     while i < n {
         let p = page_list::page_at(list, i);
-        i += 1;
         words::put_after(t, place, i, p);
+        i += 1;
     }
 }
 
@@ -146,65 +103,52 @@ pub fn lock(t: &mut [u64], list: &[u8]) -> u64
 {
     let n = page_list::page_count(list);
     let c = list_count(t);
-    let taken = extent_of(t, c);
-    if !has_room(c, taken.total, n) {
+    let end = end_of(t, c);
+    if !has_room(c, end, n) {
         return refusal::FULL;
     }
-    let place = taken.place;
-    words::put(t, place, n);
-    put_pages(t, place, list);
+    put_pages(t, FIRST_PAGE + end, list);
+    words::put(t, c + 1, end + n);
     words::put(t, 0, c + 1);
     0
 }
 
-// Whether the list from a place to before `to` has the same pages.
-fn is_same(t: &[u64], place: u64, to: u64, list: &[u8]) -> bool
-    requires { ⌜ to ≤ length (now t) ⌝ }
-    ensures { λ r. ⌜ r ≡ same (part (now (t .entry)) to (place + 1)) (pagesOf (now (list .entry))) ⌝ }
+// Whether the pages at the places from `from` to before `to` are those of a list.
+fn is_same(t: &[u64], from: u64, to: u64, list: &[u8]) -> bool
+    ensures { λ r. ⌜ r ≡ same (part (now (t .entry)) to from) (pagesOf (now (list .entry))) ⌝ }
 {
     let n = page_list::page_count(list);
-    if pages_between(place, to) != n {
+    let end = numbers::min(to, t.len() as u64);
+    if numbers::saturating_sub(end, from) != n {
         return false;
     }
     let mut i: u64 = 0;
     while i < n {
         let p = page_list::page_at(list, i);
-        i += 1;
-        let w = words::word_after(t, place, i);
+        let w = numbers::word_at(t, from + i);
         if w != p {
             return false;
         }
+        i += 1;
     }
     true
 }
 
-// Where a list starts, 0 where there is none, and how many lists stand behind it.
-struct Found {
-    place: u64,
-    behind: u64,
-}
-
-// The first of n lists with the same pages.
-fn find(t: &[u64], n: u64, list: &[u8]) -> Found
-    ensures { λ r. ⌜ (r .place ≡ placeFrom (now (t .entry)) n 1 (pagesOf (now (list .entry)))) × ((r .place ≡ 0 → ⊥) → endFrom (now (t .entry)) (r .behind) (r .place) ≡ endFrom (now (t .entry)) (n - 1) 1) ⌝ }
+// The first of n lists with the same pages: n where there is none.
+fn find(t: &[u64], n: u64, list: &[u8]) -> u64
+    ensures { λ r. ⌜ r ≡ equalFrom (now (t .entry)) n 0 (pagesOf (now (list .entry))) ⌝ }
 {
-    let mut left = n;
-    let mut place: u64 = 1;
-    while 0 < left {
-        let end = list_end(t, place);
-        if is_same(t, place, end, list) {
-            return Found {
-                place: place,
-                behind: left - 1,
-            };
+    let mut from = FIRST_PAGE;
+    let mut k: u64 = 0;
+    while k < n {
+        let to = FIRST_PAGE + end_at(t, k + 1);
+        if is_same(t, from, to, list) {
+            return k;
         }
-        place = end;
-        left -= 1;
+        from = to;
+        k += 1;
     }
-    Found {
-        place: 0,
-        behind: 0,
-    }
+    k
 }
 
 // Of what stands from `end` on, the last list, from `last` to before `to`, comes first.
@@ -216,22 +160,49 @@ fn bring_last(t: &mut [u64], end: u64, last: u64, to: u64)
     }
 }
 
+// The ends in the words from `from` to before `to`: some pages less, and some more.
+fn move_ends(t: &mut [u64], from: u64, to: u64, less: u64, more: u64)
+    requires { ⌜ more ≤ limit.lockedPages + limit.lockedPages ⌝ }
+    ensures { λ _. ⌜ now (t .exit) ≡ moved (now (t .entry)) (to - from) from less more ⌝ }
+{
+    let mut k = from;
+    while k < to {
+        let end = end_at(t, k);
+        words::put(t, k, numbers::saturating_sub(end, less) + more);
+        k += 1;
+    }
+}
+
+// List i of c goes, and the last takes its place.
+fn remove_list(t: &mut [u64], c: u64, i: u64)
+    requires { ⌜ i < c ⌝ }
+    ensures { λ _. ⌜ now (t .exit) ≡ without (now (t .entry)) c i ⌝ }
+{
+    let start = end_of(t, i);
+    let end = end_of(t, i + 1);
+    let last = end_of(t, c - 1);
+    let to = end_of(t, c);
+    bring_last(t, FIRST_PAGE + end, FIRST_PAGE + last, FIRST_PAGE + to);
+    words::remove_words(
+        t,
+        FIRST_PAGE + start,
+        numbers::saturating_sub(end, start),
+        FIRST_PAGE + to,
+    );
+    move_ends(t, i + 1, c, end, start + numbers::saturating_sub(to, last));
+    words::put(t, c, 0);
+    words::put(t, 0, c - 1);
+}
+
 // The first list with the same pages goes, and the last takes its place: 0, or 18 where there is none.
 pub fn unlock(t: &mut [u64], list: &[u8]) -> u64
     ensures { λ r. ⌜ (r ≡ unlockCode (now (t .entry)) (pagesOf (now (list .entry)))) × (now (t .exit) ≡ unlockWords (now (t .entry)) (pagesOf (now (list .entry)))) ⌝ }
 {
     let c = list_count(t);
-    let found = find(t, c, list);
-    let place = found.place;
-    if place == 0 {
+    let i = find(t, c, list);
+    if c <= i {
         return refusal::NOT_LOCKED;
     }
-    let less = numbers::saturating_sub(c, 1);
-    let end = list_end(t, place);
-    let last = end_of(t, found.behind, place);
-    let to = list_end(t, last);
-    bring_last(t, end, last, to);
-    words::remove_words(t, place, numbers::saturating_sub(end, place), to);
-    words::put(t, 0, less);
+    remove_list(t, c, i);
     0
 }

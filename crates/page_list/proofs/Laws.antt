@@ -1,6 +1,6 @@
 -- Laws of page lists: how a loop over their pages goes on and ends, and that a list that ascends or descends has no repeat. Assumes nothing.
-use mathlib.Core.Bool.{Bool, true, false, not}
-use mathlib.Core.List.{List, [], _∷_}
+use mathlib.Core.Bool.{Bool, true, false, not, _||_}
+use mathlib.Core.List.{List, [], _∷_, _++_}
 use mathlib.Core.Path.{_≡_, refl, sym, ap, _∙_}
 use Prim.Native.Nat.{ℕ, zero, suc, _+_, _*_, _/_, _≤_, _<_}
 use native.Mathlib.Numerals.{add-one}
@@ -9,7 +9,7 @@ use lib.Dec.{eqb}
 use lib.ListN.{length, getD, drop, drop-of-length-le, List·getD-eq-default}
 use lib.Seq.{drop-cons}
 use borrow.Author.Tests.{eq-eqb, ne-eqb, ltb-true, ltb-false, not-true}
-use Rattle.laws.specs.Bools.{and-left, and-right, or-right}
+use Rattle.laws.specs.Bools.{and-left, and-right, or-right, or-assoc}
 use Rattle.page_list.specs.Pages.{numberOf, numberAt, numbersFrom, pagesOf, isLong, among, repeats, steps, stepsFrom, strict}
 
 pub halves : (a b c d e f g h low high : ℕ) → low ≡ a + 0x100 * b + 0x1_0000 * c + 0x100_0000 * d → high ≡ e + 0x100 * f + 0x1_0000 * g + 0x100_0000 * h
@@ -19,6 +19,11 @@ halves a b c d e f g h low high x y = omega arith
 
 pub long-le : (l : List ℕ) → not (isLong l) ≡ true → length l ≤ 4096
 long-le l h = ltb-false 4096 (length l) (not-true (isLong l) h)
+
+pub among-append : (ps qs : List ℕ) (p : ℕ) → among (ps ++ qs) p ≡ (among ps p || among qs p)
+unfolding among
+among-append [] qs p = refl
+among-append (q ∷ ps) qs p = ap (λ (b : Bool). eqb p q || b) (among-append ps qs p) ∙ sym (or-assoc (eqb p q) (among ps p) (among qs p))
 
 pub among-at : (l : List ℕ) (i : ℕ) → i < length l → among l (getD l i 0) ≡ true
 unfolding among

@@ -6,7 +6,6 @@ use Rattle.page_list.specs.Pages.{numberOf, numberAt, numbersFrom, among, repea
 use Rattle.page_list.specs.Runs.{neighbours, runAt}
 use Rattle.request_pages.specs.Request.{pick, pickPlaces, tableOf, stopAt, runEnd, put}
 use Rattle.overlay_table.specs.Overlays.{placeFrom}
-use Rattle.lock_table.specs.Locks.{listsFrom, held}
 use Rattle.visibility_steps.specs.Steps.{operationOf, ask, end, halt, keep, shareRun, defaultRun, returnRun, afterFlush, afterWait, afterModify, afterAccept, failedModify, doneOf, failedOf, cleared, startOf}
 use Rattle.protector_state.specs.State.{firstPhases, phaseOf}
 use Rattle.protector_state.specs.Reply.{askedOf, flatOf}
@@ -18,7 +17,7 @@ use Rattle.visibility_claims.specs.Table.{Replies}
 
 pub replies : Replies
 unfolding word writtenFrom entriesOf ramByte numberOf numberAt numbersFrom among repeats neighbours runAt pick pickPlaces tableOf stopAt runEnd put placeFrom
-    listsFrom held operationOf ask end halt keep shareRun defaultRun returnRun afterFlush afterWait afterModify afterAccept failedModify doneOf failedOf cleared
+    operationOf ask end halt keep shareRun defaultRun returnRun afterFlush afterWait afterModify afterAccept failedModify doneOf failedOf cleared
     startOf firstPhases phaseOf askedOf flatOf applied carriedOut firstRefusal ready visibilityRefusal visibilityTaken visibilityOf answerRefusal answerDone
     answerFailed follow
 replies =

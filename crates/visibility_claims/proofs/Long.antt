@@ -12,7 +12,6 @@ use Rattle.layout.specs.Layout.{entriesOf, ramByte}
 use Rattle.permissions.specs.declared.GuestVtl.the-variants.{Vtl0}
 use Rattle.page_list.specs.Pages.{numberOf, numberAt, numbersFrom, pagesOf, isLong, among, repeats, isRagged}
 use Rattle.overlay_table.specs.Overlays.{placeFrom}
-use Rattle.lock_table.specs.Locks.{listsFrom, held}
 use Rattle.protector_state.specs.State.{firstPhases, phaseOf, entriesIn}
 use Rattle.call_refusals.specs.World.{overlaysOf, locksOf, fits, statusIn}
 use Rattle.call_refusals.specs.Refusals.{ready, pageRefusal, firstRefusal, visibilityRefusal}
@@ -81,7 +80,7 @@ none-refused f b zero p h l = refl
 none-refused f b (suc n) p h l = rw (h p (omega arith)) (none-refused f b n (suc p) h (omega arith))
 
 page-taken : (q : ℕ) → q < 512 → pageRefusal (entriesIn (broad .state)) (overlaysOf (broad .tables) Vtl0) (locksOf (broad .tables) Vtl0) true q ≡ 0
-unfolding entriesOf ramByte placeFrom listsFrom held
+unfolding entriesOf ramByte placeFrom among
 page-taken q h = rw (between-true 0 2097152 (q * 4096) (omega arith) (omega arith))
 
 module _ (n : ℕ) where

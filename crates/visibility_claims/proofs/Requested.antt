@@ -15,7 +15,7 @@ use Rattle.layout.specs.Layout.{isRam}
 use Rattle.permissions.specs.declared.GuestVtl.{GuestVtl}
 use Rattle.permissions.specs.declared.GuestVtl.the-variants.{Vtl0, Vtl1}
 use Rattle.page_list.specs.Pages.{pagesOf, stepsFrom, strict}
-use Rattle.lock_table.specs.Locks.{listsOf, held}
+use Rattle.lock_table.specs.Locks.{heldIn}
 use Rattle.request_pages.specs.Request.{pick, pickPlaces, tableOf, stopAt, isReadableAndWritable, wanted}
 use Rattle.protector_state.specs.State.{settingsOf, entriesIn}
 use Rattle.call_refusals.specs.World.{World, overlaysOf, locksOf}
@@ -35,7 +35,7 @@ pub same-denial : (w : World) (v : GuestVtl) (share : Bool) (ps : List ℕ)
 unfolding denial firstRefusal
 same-denial w v share [] = refl
 same-denial w v share (p ∷ ps) =
-    go (isRam (entriesIn (w .state)) p) (isOverlayPage w v p) (held (listsOf (locksOf (w .tables) v)) p) share (denial w v share ps) _ (same-denial w v share ps)
+    go (isRam (entriesIn (w .state)) p) (isOverlayPage w v p) (heldIn (locksOf (w .tables) v) p) share (denial w v share ps) _ (same-denial w v share ps)
   where
     go : (ram o h share : Bool) (d f : ℕ) → d ≡ f
         → cond (not ram) 7 (cond (cond o false h) 10 (cond (share && o) 11 d)) ≡ first (number ram o h share) f

@@ -18,7 +18,7 @@ use Rattle.visibility_claims.proofs.Examples.{replies}
 use Rattle.visibility_claims.proofs.Long.{lists}
 
 stops : Stops
-unfolding word writtenFrom entriesOf ramByte numberOf numberAt numbersFrom among repeats runsOf overlays.placeFrom locks.listsFrom locks.held denial requestedFrom pagesIn placesIn one inTurn perRun wholeShare returned modified wholeReturn
+unfolding word writtenFrom entriesOf ramByte numberOf numberAt numbersFrom among repeats runsOf overlays.placeFrom denial requestedFrom pagesIn placesIn one inTurn perRun wholeShare returned modified wholeReturn
 stops =
     record {
       read-only-before = refl;
@@ -36,7 +36,7 @@ stops =
     }
 
 bars : Bars
-unfolding word writtenFrom entriesOf ramByte numberOf numberAt numbersFrom among repeats runsOf overlays.placeFrom locks.listsFrom locks.held overlays.flat overlays.tableOf locks.stream locks.tableOf phaseOf firstPhases startOf askedOf flatOf carriedOut firstRefusal ready visibilityRefusal visibilityTaken visibilityOf denial requestedFrom pagesIn one inTurn perRun wholeShare
+unfolding word writtenFrom entriesOf ramByte numberOf numberAt numbersFrom among repeats runsOf overlays.placeFrom overlays.flat overlays.tableOf locks.ends locks.joined locks.tableOf phaseOf firstPhases startOf askedOf flatOf carriedOut firstRefusal ready visibilityRefusal visibilityTaken visibilityOf denial requestedFrom pagesIn one inTurn perRun wholeShare
 bars =
     record {
       overlaid-shared = refl;
@@ -54,7 +54,7 @@ bars =
     }
 
 pub visibility : Visibility
-unfolding word writtenFrom entriesOf ramByte numberOf numberAt numbersFrom among repeats runsOf overlays.placeFrom locks.listsFrom locks.held phaseOf firstPhases firstRefusal ready visibilityRefusal visibilityOf denial requestedFrom pagesIn placesIn one inTurn perRun wholeShare returned modified wholeReturn
+unfolding word writtenFrom entriesOf ramByte numberOf numberAt numbersFrom among repeats runsOf overlays.placeFrom phaseOf firstPhases firstRefusal ready visibilityRefusal visibilityOf denial requestedFrom pagesIn placesIn one inTurn perRun wholeShare returned modified wholeReturn
 visibility =
     record {
       P2-asked = refl;

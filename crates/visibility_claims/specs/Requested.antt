@@ -13,7 +13,7 @@ use Rattle.permissions.specs.declared.GuestVtl.{GuestVtl}
 use Rattle.permissions.specs.declared.GuestVtl.the-variants.{Vtl0, Vtl1}
 use Rattle.page_list.specs.Pages.{pagesOf, strict}
 use Rattle.overlay_table.specs.Overlays.{isOverlay}
-use Rattle.lock_table.specs.Locks.{listsOf, held}
+use Rattle.lock_table.specs.Locks.{heldIn}
 use Rattle.request_pages.specs.Request.{over}
 use Rattle.protector_state.specs.State.{settingsOf, entriesIn}
 use Rattle.call_refusals.specs.World.{World, overlaysOf, locksOf}
@@ -27,7 +27,7 @@ isOverlayPage w v p = isOverlay (overlaysOf (w .tables) v) p
 
 -- an overlay frees a page from its locks
 abbrev pub isLockedPage : World → GuestVtl → ℕ → Bool
-isLockedPage w v p = cond (isOverlayPage w v p) false (held (listsOf (locksOf (w .tables) v)) p)
+isLockedPage w v p = cond (isOverlayPage w v p) false (heldIn (locksOf (w .tables) v) p)
 
 -- the number that the first refused page has, or 0
 unfoldable pub denial : World → GuestVtl → Bool → List ℕ → ℕ

@@ -10,10 +10,9 @@ use Rattle.page_list.specs.Pages.{numberOf, numberAt, numbersFrom, among, repea
 use Rattle.page_list.specs.Runs.{neighbours, runAt}
 use Rattle.request_pages.specs.Request.{pick, pickPlaces, tableOf, stopAt, runEnd, put}
 use Rattle.overlay_table.specs.Overlays.{placeFrom}
-use Rattle.lock_table.specs.Locks as lock
-use Rattle.lock_table.specs.Locks.{listsFrom, endFrom, held, total, same, kept, without}
+use Rattle.lock_table.specs.Locks.{listsFrom, same, kept, equalFrom, moved, without}
 use Rattle.default_change.specs.Pieces.{span, nextOf}
-use Rattle.default_change.specs.Barred.{anyOf, anyIn}
+use Rattle.default_change.specs.Barred.{anyOf}
 use Rattle.default_change.specs.Renewed.{renewedFrom}
 use Rattle.visibility_steps.specs.Steps.{operationOf, ask, end, halt, keep, shareRun, defaultRun, returnRun, afterFlush, afterWait, afterModify, afterAccept, failedModify, doneOf, failedOf, cleared, startOf}
 use Rattle.change_steps.specs.Changes as changes
@@ -35,7 +34,7 @@ use Rattle.worked.specs.Bars.{Bars, Locks, Queries, Turns}
 
 pub bars : Bars
 unfolding word writtenFrom closed closedTo swapped entriesOf ramByte operandOf numberOf numberAt numbersFrom among repeats neighbours runAt pick
-    pickPlaces tableOf stopAt runEnd put placeFrom listsFrom endFrom held total same kept lock.placeFrom without span nextOf anyOf anyIn renewedFrom
+    pickPlaces tableOf stopAt runEnd put placeFrom listsFrom same kept equalFrom moved without span nextOf anyOf renewedFrom
     operationOf ask end halt keep shareRun defaultRun returnRun afterFlush afterWait afterModify afterAccept failedModify doneOf failedOf cleared
     startOf protect changes.ask wait finish changes.halt changes.keep protectPages protectRam changes.doneOf changes.failedOf startNew startOld
     firstPhases phaseOf askedOf flatOf stageOf applied entered carriedOut carriedChange firstRefusal ready visibilityRefusal visibilityTaken visibilityOf
@@ -82,13 +81,14 @@ bars =
     }
 
 pub locks : Locks
-unfolding closed closedTo swapped numberOf numberAt numbersFrom listsFrom endFrom held total same kept lock.placeFrom without firstPhases phaseOf
+unfolding closed closedTo swapped numberOf numberAt numbersFrom listsFrom same kept equalFrom moved without among firstPhases phaseOf
     ready lockRefusal lockOf unlockOf
 locks =
     record {
       lists-made = refl;
       first-equal = refl;
       last-itself = refl;
+      last-moved = refl;
       reordered = refl;
       part = refl;
       other-vtl = refl;
@@ -113,8 +113,7 @@ queries =
 
 pub turns : Turns
 unfolding word writtenFrom closed closedTo swapped entriesOf ramByte operandOf accessPermission lowerVtlPermissions faultOf faultRefusal
-    pageFault numberOf numberAt numbersFrom among repeats neighbours runAt pick pickPlaces tableOf stopAt runEnd put placeFrom listsFrom endFrom held
-    total same kept lock.placeFrom without span nextOf anyOf anyIn renewedFrom operationOf ask end halt keep shareRun defaultRun returnRun afterFlush
+    pageFault numberOf numberAt numbersFrom among repeats neighbours runAt pick pickPlaces tableOf stopAt runEnd put placeFrom listsFrom same kept equalFrom moved without span nextOf anyOf renewedFrom operationOf ask end halt keep shareRun defaultRun returnRun afterFlush
     afterWait afterModify afterAccept failedModify doneOf failedOf cleared startOf protect changes.ask wait finish changes.halt changes.keep
     protectPages protectRam changes.doneOf changes.failedOf startNew startOld firstPhases phaseOf askedOf flatOf stageOf applied entered carriedOut
     carriedChange firstRefusal ready visibilityRefusal visibilityTaken visibilityOf answerRefusal afterDone afterFailed answerDone answerFailed

@@ -8,9 +8,8 @@ use Rattle.page_list.specs.Pages.{numberOf, numberAt, numbersFrom, among, repea
 use Rattle.page_list.specs.Runs.{neighbours, runAt}
 use Rattle.request_pages.specs.Request.{pick, pickPlaces, tableOf, stopAt, runEnd, put}
 use Rattle.overlay_table.specs.Overlays.{placeFrom}
-use Rattle.lock_table.specs.Locks.{listsFrom, held}
 use Rattle.default_change.specs.Pieces.{span, nextOf}
-use Rattle.default_change.specs.Barred.{anyOf, anyIn}
+use Rattle.default_change.specs.Barred.{anyOf}
 use Rattle.default_change.specs.Renewed.{renewedFrom}
 use Rattle.visibility_steps.specs.Steps.{operationOf, ask, end, halt, keep, shareRun, defaultRun, returnRun, afterFlush, afterWait, afterModify, afterAccept, failedModify, doneOf, failedOf, cleared, startOf}
 use Rattle.change_steps.specs.Changes as changes
@@ -27,7 +26,7 @@ use Rattle.worked.specs.Changes.{Protections, DefaultChanges}
 
 pub protections : Protections
 unfolding word writtenFrom closed closedTo entriesOf ramByte operandOf numberOf numberAt numbersFrom neighbours runAt pick pickPlaces tableOf runEnd
-    placeFrom listsFrom held span nextOf anyOf anyIn renewedFrom protect changes.ask wait finish changes.halt changes.keep protectPages protectRam
+    placeFrom among span nextOf anyOf renewedFrom protect changes.ask wait finish changes.halt changes.keep protectPages protectRam
     changes.doneOf changes.failedOf startNew startOld firstPhases phaseOf askedOf flatOf stageOf entered carriedChange firstRefusal answerRefusal
     afterDone afterFailed answerDone answerFailed ready protectionRefusal protectionTaken protectionOf defaultRefusal defaultStarted defaultTaken defaultOf
     follow
@@ -56,7 +55,7 @@ protections =
 
 pub default-changes : DefaultChanges
 unfolding word writtenFrom closed closedTo entriesOf ramByte operandOf numberOf numberAt numbersFrom among repeats neighbours runAt pick pickPlaces
-    tableOf stopAt runEnd put placeFrom listsFrom held span nextOf anyOf anyIn renewedFrom operationOf ask end halt keep shareRun defaultRun returnRun
+    tableOf stopAt runEnd put placeFrom span nextOf anyOf renewedFrom operationOf ask end halt keep shareRun defaultRun returnRun
     afterFlush afterWait afterModify afterAccept failedModify doneOf failedOf cleared startOf protect changes.ask wait finish changes.halt
     changes.keep protectPages protectRam changes.doneOf changes.failedOf startNew startOld firstPhases phaseOf askedOf flatOf stageOf applied entered
     carriedOut carriedChange firstRefusal ready visibilityRefusal visibilityTaken visibilityOf answerRefusal afterDone afterFailed answerDone answerFailed

@@ -9,7 +9,6 @@ use Rattle.page_list.specs.Pages.{numberOf, numberAt, numbersFrom, among, repea
 use Rattle.page_list.specs.Runs.{runsOf, neighbours, runAt}
 use Rattle.request_pages.specs.Request.{pick, pickPlaces, tableOf, stopAt, runEnd, put}
 use Rattle.overlay_table.specs.Overlays.{placeFrom}
-use Rattle.lock_table.specs.Locks.{listsFrom, held}
 use Rattle.visibility_steps.specs.Steps.{operationOf, ask, end, halt, keep, shareRun, defaultRun, returnRun, afterFlush, afterWait, afterModify, afterAccept, failedModify, doneOf, failedOf, cleared, startOf}
 use Rattle.protector_state.specs.State.{firstPhases, phaseOf}
 use Rattle.protector_state.specs.Reply.{askedOf, flatOf}
@@ -24,7 +23,7 @@ use Rattle.worked.specs.Faults.{Faults, Permissions}
 
 pub faults : Faults
 unfolding word writtenFrom entriesOf ramByte operandOf faultOf faultRefusal pageFault numberOf numberAt numbersFrom among repeats runsOf
-    neighbours runAt pick pickPlaces tableOf stopAt runEnd put placeFrom listsFrom held operationOf ask end halt keep shareRun defaultRun returnRun
+    neighbours runAt pick pickPlaces tableOf stopAt runEnd put placeFrom operationOf ask end halt keep shareRun defaultRun returnRun
     afterFlush afterWait afterModify afterAccept failedModify doneOf failedOf cleared startOf firstPhases phaseOf askedOf flatOf applied carriedOut
     firstRefusal ready visibilityRefusal visibilityTaken visibilityOf answerRefusal answerDone answerFailed faultIn
     denial requestedFrom pagesIn one inTurn perRun wholeShare follow

@@ -5,8 +5,7 @@ use Rattle.words.specs.Words.{closed, closedTo, swapped}
 use Rattle.layout.specs.Layout.{entriesOf, ramByte}
 use Rattle.page_list.specs.Pages.{numberOf, numberAt, numbersFrom, among}
 use Rattle.overlay_table.specs.Overlays.{placeFrom}
-use Rattle.lock_table.specs.Locks as lock
-use Rattle.lock_table.specs.Locks.{listsFrom, endFrom, held, total, same, kept, without}
+use Rattle.lock_table.specs.Locks.{listsFrom, same, kept, equalFrom, moved, without}
 use Rattle.change_steps.specs.Changes as changes
 use Rattle.change_steps.specs.Changes.{protect, wait, finish, startNew}
 use Rattle.protector_state.specs.State.{firstPhases, phaseOf}
@@ -19,10 +18,10 @@ use Rattle.lock_entries.specs.Calls.{lockRefusal, lockOf, unlockOf}
 use Rattle.overlay_refusals.specs.Refusals.{callRefusal, within, knownRefusal, guestRefusal, dmaRefusal, pageRefusal, registerRefusal, currentOf}
 use Rattle.overlay_entries.specs.Calls.{registerTaken, registerOf}
 use Rattle.visibility_claims.specs.Calls.{follow}
-use Rattle.worked.specs.Limits.{blocks, dmaFrom, holdings, lockBlocks, lockSingles, registered, singlesFrom, tablesFrom, OverlayLimit, FirstOverlays, LastOverlays, LockLimits, PageLimits}
+use Rattle.worked.specs.Limits.{dmaFrom, holdings, lockBlocks, lockSingles, registered, stepsFrom, tablesFrom, OverlayLimit, FirstOverlays, LastOverlays, LockLimits, PageLimits}
 
 pub overlay-limit : OverlayLimit
-unfolding word writtenFrom entriesOf ramByte among placeFrom listsFrom held protect changes.ask wait finish changes.doneOf startNew firstPhases
+unfolding word writtenFrom entriesOf ramByte among placeFrom protect changes.ask wait finish changes.doneOf startNew firstPhases
     phaseOf
     askedOf flatOf stageOf entered carriedChange answerRefusal afterDone answerDone ready callRefusal within knownRefusal guestRefusal dmaRefusal
     pageRefusal registerRefusal currentOf registerTaken registerOf follow dmaFrom
@@ -37,7 +36,7 @@ overlay-limit =
     }
 
 pub first-overlays : FirstOverlays
-unfolding word writtenFrom entriesOf ramByte among placeFrom listsFrom held protect changes.ask wait finish changes.doneOf startNew firstPhases
+unfolding word writtenFrom entriesOf ramByte among placeFrom protect changes.ask wait finish changes.doneOf startNew firstPhases
     phaseOf
     askedOf flatOf stageOf entered carriedChange answerRefusal afterDone answerDone ready callRefusal within knownRefusal guestRefusal dmaRefusal
     pageRefusal registerRefusal currentOf registerTaken registerOf follow registered dmaFrom holdings
@@ -47,7 +46,7 @@ first-overlays =
     }
 
 pub last-overlays : LastOverlays
-unfolding word writtenFrom entriesOf ramByte among placeFrom listsFrom held protect changes.ask wait finish changes.doneOf startNew firstPhases
+unfolding word writtenFrom entriesOf ramByte among placeFrom protect changes.ask wait finish changes.doneOf startNew firstPhases
     phaseOf
     askedOf flatOf stageOf entered carriedChange answerRefusal afterDone answerDone ready callRefusal within knownRefusal guestRefusal dmaRefusal
     pageRefusal registerRefusal currentOf registerTaken registerOf follow registered dmaFrom holdings
@@ -57,8 +56,8 @@ last-overlays =
     }
 
 pub lock-limits : LockLimits
-unfolding closed closedTo swapped numberOf numberAt numbersFrom listsFrom endFrom held total same kept lock.placeFrom without firstPhases phaseOf
-    ready lockRefusal lockOf unlockOf tablesFrom lockSingles singlesFrom
+unfolding closed closedTo swapped numberOf numberAt numbersFrom listsFrom same kept equalFrom moved without among firstPhases phaseOf
+    ready lockRefusal lockOf unlockOf tablesFrom lockSingles stepsFrom
 lock-limits =
     record {
       none = refl;
@@ -69,8 +68,8 @@ lock-limits =
     }
 
 pub page-limits : PageLimits
-unfolding closed closedTo swapped numberOf numberAt numbersFrom listsFrom endFrom held total same kept lock.placeFrom without firstPhases phaseOf
-    ready lockRefusal lockOf unlockOf lockBlocks tablesFrom blocks
+unfolding closed closedTo swapped numberOf numberAt numbersFrom listsFrom same kept equalFrom moved without among firstPhases phaseOf
+    ready lockRefusal lockOf unlockOf lockBlocks tablesFrom stepsFrom
 page-limits =
     record {
       pages-1024 = refl;

@@ -11,10 +11,9 @@ use Rattle.page_list.specs.Pages.{numberOf, numberAt, numbersFrom, among, repea
 use Rattle.page_list.specs.Runs.{neighbours, runAt}
 use Rattle.request_pages.specs.Request.{pick, pickPlaces, tableOf, stopAt, runEnd, put}
 use Rattle.overlay_table.specs.Overlays.{placeFrom}
-use Rattle.lock_table.specs.Locks as lock
-use Rattle.lock_table.specs.Locks.{listsFrom, endFrom, held, total, same, kept, without}
+use Rattle.lock_table.specs.Locks.{listsFrom, same, kept, equalFrom, moved, without}
 use Rattle.default_change.specs.Pieces.{span, nextOf}
-use Rattle.default_change.specs.Barred.{anyOf, anyIn}
+use Rattle.default_change.specs.Barred.{anyOf}
 use Rattle.default_change.specs.Renewed.{renewedFrom}
 use Rattle.visibility_steps.specs.Steps.{operationOf, ask, end, halt, keep, shareRun, defaultRun, returnRun, afterFlush, afterWait, afterModify, afterAccept, failedModify, doneOf, failedOf, cleared, startOf}
 use Rattle.change_steps.specs.Changes as changes
@@ -60,7 +59,7 @@ taken l e = ap (λ (n : ℕ). decided wide n (visibilityTaken wide Vtl0 true l) 
 
 pub lists : Lists
 unfolding word writtenFrom closed closedTo swapped entriesOf ramByte operandOf numberOf numberAt numbersFrom among repeats neighbours runAt pick
-    pickPlaces tableOf stopAt runEnd put placeFrom listsFrom endFrom held total same kept lock.placeFrom without span nextOf anyOf anyIn renewedFrom
+    pickPlaces tableOf stopAt runEnd put placeFrom listsFrom same kept equalFrom moved without span nextOf anyOf renewedFrom
     operationOf ask end halt keep shareRun defaultRun returnRun afterFlush afterWait afterModify afterAccept failedModify doneOf failedOf cleared
     startOf protect changes.ask wait finish changes.halt changes.keep protectPages protectRam changes.doneOf changes.failedOf startNew startOld
     firstPhases phaseOf askedOf flatOf stageOf applied entered carriedOut carriedChange firstRefusal ready visibilityRefusal visibilityTaken visibilityOf

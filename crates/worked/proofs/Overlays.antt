@@ -8,9 +8,8 @@ use Rattle.page_list.specs.Pages.{numberOf, numberAt, numbersFrom, among}
 use Rattle.page_list.specs.Runs.{neighbours, runAt}
 use Rattle.request_pages.specs.Request.{pick, pickPlaces, tableOf, runEnd}
 use Rattle.overlay_table.specs.Overlays.{placeFrom}
-use Rattle.lock_table.specs.Locks.{listsFrom, held}
 use Rattle.default_change.specs.Pieces.{span, nextOf}
-use Rattle.default_change.specs.Barred.{anyOf, anyIn}
+use Rattle.default_change.specs.Barred.{anyOf}
 use Rattle.default_change.specs.Renewed.{renewedFrom}
 use Rattle.change_steps.specs.Changes as changes
 use Rattle.change_steps.specs.Changes.{protect, wait, finish, protectPages, protectRam, startNew, startOld}
@@ -29,7 +28,7 @@ use Rattle.worked.specs.Overlays.{NewOverlays, KnownOverlays}
 pub new-overlays : NewOverlays
 unfolding word writtenFrom closed closedTo entriesOf ramByte operandOf numberOf numberAt numbersFrom among neighbours runAt pick pickPlaces tableOf
     runEnd
-    placeFrom listsFrom held span nextOf anyOf anyIn renewedFrom protect changes.ask wait finish changes.halt changes.keep protectPages protectRam
+    placeFrom span nextOf anyOf renewedFrom protect changes.ask wait finish changes.halt changes.keep protectPages protectRam
     changes.doneOf changes.failedOf startNew startOld firstPhases phaseOf askedOf flatOf stageOf entered carriedChange firstRefusal answerRefusal
     afterDone afterFailed answerDone answerFailed ready protectionRefusal protectionTaken protectionOf defaultRefusal defaultStarted defaultTaken defaultOf
     callRefusal within knownRefusal guestRefusal dmaRefusal pageRefusal registerRefusal currentOf unregisterRefusal isOverlayIn registerTaken
@@ -81,7 +80,7 @@ new-overlays =
 
 pub known-overlays : KnownOverlays
 unfolding word writtenFrom closed closedTo entriesOf ramByte operandOf numberOf numberAt numbersFrom neighbours runAt pick pickPlaces tableOf runEnd
-    placeFrom listsFrom held span nextOf anyOf anyIn renewedFrom protect changes.ask wait finish changes.halt changes.keep protectPages protectRam
+    placeFrom among span nextOf anyOf renewedFrom protect changes.ask wait finish changes.halt changes.keep protectPages protectRam
     changes.doneOf changes.failedOf startNew startOld firstPhases phaseOf askedOf flatOf stageOf entered carriedChange firstRefusal answerRefusal
     afterDone afterFailed answerDone answerFailed ready protectionRefusal protectionTaken protectionOf defaultRefusal defaultStarted defaultTaken defaultOf
     callRefusal within knownRefusal guestRefusal dmaRefusal pageRefusal registerRefusal currentOf unregisterRefusal isOverlayIn registerTaken

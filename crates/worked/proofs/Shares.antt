@@ -8,9 +8,8 @@ use Rattle.page_list.specs.Pages.{numberOf, numberAt, numbersFrom, among, repea
 use Rattle.page_list.specs.Runs.{neighbours, runAt}
 use Rattle.request_pages.specs.Request.{pick, pickPlaces, tableOf, stopAt, runEnd, put}
 use Rattle.overlay_table.specs.Overlays.{placeFrom}
-use Rattle.lock_table.specs.Locks.{listsFrom, held}
 use Rattle.default_change.specs.Pieces.{span, nextOf}
-use Rattle.default_change.specs.Barred.{anyOf, anyIn}
+use Rattle.default_change.specs.Barred.{anyOf}
 use Rattle.default_change.specs.Renewed.{renewedFrom}
 use Rattle.visibility_steps.specs.Steps.{operationOf, ask, end, halt, keep, shareRun, defaultRun, returnRun, afterFlush, afterWait, afterModify, afterAccept, failedModify, doneOf, failedOf, cleared, startOf}
 use Rattle.change_steps.specs.Changes as changes
@@ -27,7 +26,7 @@ use Rattle.worked.specs.Shares.{Operations, Moves, Stops, Calls, Failure
 
 pub operations : Operations
 unfolding word writtenFrom entriesOf ramByte operandOf numberOf numberAt numbersFrom among repeats neighbours runAt pick pickPlaces tableOf stopAt
-    runEnd put placeFrom listsFrom held operationOf ask end halt keep shareRun defaultRun returnRun afterFlush afterWait afterModify afterAccept
+    runEnd put placeFrom operationOf ask end halt keep shareRun defaultRun returnRun afterFlush afterWait afterModify afterAccept
     failedModify doneOf failedOf cleared startOf firstPhases phaseOf askedOf flatOf applied carriedOut firstRefusal ready visibilityRefusal visibilityTaken
     visibilityOf answerRefusal answerDone answerFailed follow
 operations =
@@ -51,7 +50,7 @@ operations =
 
 pub moves : Moves
 unfolding word writtenFrom entriesOf ramByte operandOf numberOf numberAt numbersFrom among repeats neighbours runAt pick pickPlaces tableOf stopAt
-    runEnd put placeFrom listsFrom held operationOf ask end halt keep shareRun defaultRun returnRun afterFlush afterWait afterModify afterAccept
+    runEnd put placeFrom operationOf ask end halt keep shareRun defaultRun returnRun afterFlush afterWait afterModify afterAccept
     failedModify doneOf failedOf cleared startOf firstPhases phaseOf askedOf flatOf applied carriedOut firstRefusal ready visibilityRefusal visibilityTaken
     visibilityOf answerRefusal answerDone answerFailed follow
 moves =
@@ -74,7 +73,7 @@ moves =
 
 pub stops : Stops
 unfolding word writtenFrom closed closedTo entriesOf ramByte operandOf numberOf numberAt numbersFrom among repeats neighbours runAt pick pickPlaces
-    tableOf stopAt runEnd put placeFrom listsFrom held span nextOf anyOf anyIn renewedFrom operationOf ask end halt keep shareRun defaultRun returnRun
+    tableOf stopAt runEnd put placeFrom span nextOf anyOf renewedFrom operationOf ask end halt keep shareRun defaultRun returnRun
     afterFlush afterWait afterModify afterAccept failedModify doneOf failedOf cleared startOf protect changes.ask wait finish changes.halt
     changes.keep protectPages protectRam changes.doneOf changes.failedOf startNew startOld firstPhases phaseOf askedOf flatOf stageOf applied entered
     carriedOut carriedChange firstRefusal ready visibilityRefusal visibilityTaken visibilityOf answerRefusal afterDone afterFailed answerDone answerFailed
@@ -102,7 +101,7 @@ stops =
 
 pub calls : Calls
 unfolding word writtenFrom entriesOf ramByte operandOf numberOf numberAt numbersFrom among repeats neighbours runAt pick pickPlaces tableOf stopAt
-    runEnd put placeFrom listsFrom held operationOf ask end halt keep shareRun defaultRun returnRun afterFlush afterWait afterModify afterAccept
+    runEnd put placeFrom operationOf ask end halt keep shareRun defaultRun returnRun afterFlush afterWait afterModify afterAccept
     failedModify doneOf failedOf cleared startOf firstPhases phaseOf askedOf flatOf applied carriedOut firstRefusal ready visibilityRefusal visibilityTaken
     visibilityOf answerRefusal answerDone answerFailed follow
 calls =
@@ -122,7 +121,7 @@ calls =
 
 pub failures : Failures
 unfolding word writtenFrom entriesOf ramByte operandOf numberOf numberAt numbersFrom among repeats neighbours runAt pick pickPlaces tableOf stopAt
-    runEnd put placeFrom listsFrom held operationOf ask end halt keep shareRun defaultRun returnRun afterFlush afterWait afterModify afterAccept
+    runEnd put placeFrom operationOf ask end halt keep shareRun defaultRun returnRun afterFlush afterWait afterModify afterAccept
     failedModify doneOf failedOf cleared startOf firstPhases phaseOf askedOf flatOf applied carriedOut firstRefusal ready visibilityRefusal visibilityTaken
     visibilityOf answerRefusal answerDone answerFailed follow
 failures =

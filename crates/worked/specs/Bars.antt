@@ -17,7 +17,7 @@ use Rattle.queries.specs.Queries.{query, queryOf, faultIn, lowerIn, accessIn}
 use Rattle.visibility_claims.specs.Whole.{Succeeds, Fails}
 use Rattle.visibility_claims.specs.Calls.{follow}
 use Rattle.visibility_claims.specs.Table.{page, fresh}
-use Rattle.worked.specs.Crossing.{ok, refused, keeps, waits, protects, after, low, clear, first, settings, tables, noTables, rest, untracked}
+use Rattle.worked.specs.Crossing.{ok, refused, keeps, waits, protects, after, low, clear, first, settings, tables, lockTable, oneLocked, noTables, rest, untracked}
 use Rattle.worked.specs.Shares.{closed, read-only}
 use Rattle.worked.specs.Changes.{overlaid}
 
@@ -27,7 +27,7 @@ abbrev pub overlay : List ℕ
 overlay = 1 ∷ 5 ∷ 15 ∷ 1 ∷ 1 ∷ 0 ∷ []
 
 abbrev pub list56 : List ℕ
-list56 = 1 ∷ 2 ∷ 5 ∷ 6 ∷ []
+list56 = lockTable 1 (2 ∷ []) (5 ∷ 6 ∷ [])
 
 abbrev pub rests : Maps → List ℕ → World
 rests m t = rest m (settings 2 1 0 0 15 16) t
@@ -76,7 +76,7 @@ pub record Bars : Type 0 where
   pub register-other : registering held0 1 5 ≡ waits
   pub register-other-locked : registering held0 1 6 ≡ waits
   pub register-vtl1-locked : registering held1 1 6 ≡ refused 10 8
-  pub register-dma-locked : registerOf (rests first (tables [] [] (1 ∷ 1 ∷ 16 ∷ []) [])) 0 16 1 0 16 .reply ≡ refused 10 8
+  pub register-dma-locked : registerOf (rests first (tables [] [] (oneLocked 16) [])) 0 16 1 0 16 .reply ≡ refused 10 8
   -- with code 8 and index 0, nothing changed
   pub locked : visibilityOf held0 0 1 (page 3 (page 6 [])) ≡ keeps held0 (refused 10 8)
   pub overlaid-page : visibilityOf held0 0 1 (page 3 (page 5 [])) ≡ keeps held0 (refused 11 8)
@@ -93,30 +93,35 @@ pub record Bars : Type 0 where
   pub default-own-vtl1 : defaultOf held1 1 4 ≡ keeps (rest first (settings 2 1 0 0 15 4) (held1 .tables)) (refused 10 8)
   pub default-other : defaultOf held0 1 4 .reply ≡ protects 1 4 2049 0 16
   pub default-other-vtl0 : defaultOf held1 0 4 .reply ≡ protects 0 4 2050 0 16
-  pub default-overlay : defaultOf (rests read-only (tables overlay [] (1 ∷ 1 ∷ 5 ∷ []) [])) 0 4 .reply ≡ protects 0 4 2050 0 5
-  pub default-shared : defaultOf (rests closed (tables [] [] (1 ∷ 1 ∷ 3 ∷ []) [])) 0 4 .reply ≡ protects 0 4 2050 0 3
-  pub default-hole : defaultOf (rests first (tables [] [] (1 ∷ 1 ∷ 16 ∷ []) [])) 0 4 .reply ≡ protects 0 4 2050 0 16
+  pub default-overlay : defaultOf (rests read-only (tables overlay [] (oneLocked 5) [])) 0 4 .reply ≡ protects 0 4 2050 0 5
+  pub default-shared : defaultOf (rests closed (tables [] [] (oneLocked 3) [])) 0 4 .reply ≡ protects 0 4 2050 0 3
+  pub default-hole : defaultOf (rests first (tables [] [] (oneLocked 16) [])) 0 4 .reply ≡ protects 0 4 2050 0 16
 
--- ---- locked lists: how many, then of each its length and its pages
+-- ---- locked lists
 
 abbrev pub state : List ℕ
 state = fresh .state
 
 -- VTL1 has locked [1], [2, 1], [1], [3] and the empty list
 abbrev pub lists : List ℕ
-lists = tables [] [] [] (5 ∷ 1 ∷ 1 ∷ 2 ∷ 2 ∷ 1 ∷ 1 ∷ 1 ∷ 1 ∷ 3 ∷ 0 ∷ [])
+lists = tables [] [] [] (lockTable 5 (1 ∷ 3 ∷ 4 ∷ 5 ∷ 5 ∷ []) (1 ∷ 2 ∷ 1 ∷ 1 ∷ 3 ∷ []))
+
+-- all but the empty one
+abbrev pub four : List ℕ
+four = tables [] [] [] (lockTable 4 (1 ∷ 3 ∷ 4 ∷ 5 ∷ []) (1 ∷ 2 ∷ 1 ∷ 1 ∷ 3 ∷ []))
 
 pub record Locks : Type 0 where
-  pub lists-made : lockOf state (tables [] [] [] (4 ∷ 1 ∷ 1 ∷ 2 ∷ 2 ∷ 1 ∷ 1 ∷ 1 ∷ 1 ∷ 3 ∷ [])) 1 [] ≡ kept lists (ok 0)
+  pub lists-made : lockOf state four 1 [] ≡ kept lists (ok 0)
   -- of two equal lists the earlier goes, and its place is taken by the list at the end
-  pub first-equal : unlockOf state lists 1 (page 1 []) ≡ kept (tables [] [] [] (4 ∷ 0 ∷ 2 ∷ 2 ∷ 1 ∷ 1 ∷ 1 ∷ 1 ∷ 3 ∷ [])) (ok 0)
-  pub last-itself : unlockOf state lists 1 [] ≡ kept (tables [] [] [] (4 ∷ 1 ∷ 1 ∷ 2 ∷ 2 ∷ 1 ∷ 1 ∷ 1 ∷ 1 ∷ 3 ∷ [])) (ok 0)
+  pub first-equal : unlockOf state lists 1 (page 1 []) ≡ kept (tables [] [] [] (lockTable 4 (0 ∷ 2 ∷ 3 ∷ 4 ∷ []) (2 ∷ 1 ∷ 1 ∷ 3 ∷ []))) (ok 0)
+  pub last-itself : unlockOf state lists 1 [] ≡ kept four (ok 0)
+  pub last-moved : unlockOf state four 1 (page 2 (page 1 [])) ≡ kept (tables [] [] [] (lockTable 3 (1 ∷ 2 ∷ 3 ∷ []) (1 ∷ 3 ∷ 1 ∷ []))) (ok 0)
   -- equal in every place, and in its VTL
   pub reordered : unlockOf state lists 1 (page 1 (page 2 [])) ≡ kept lists (refused 18 0)
   pub part : unlockOf state lists 1 (page 2 []) ≡ kept lists (refused 18 0)
   pub other-vtl : unlockOf state lists 0 (page 3 []) ≡ kept lists (refused 18 0)
   -- RAM or not, repeated or not, by the eight bytes
-  pub any-page : lockOf state noTables 0 (page 16 (page 16 (0 ∷ 0 ∷ 0 ∷ 0 ∷ 0 ∷ 0 ∷ 16 ∷ 0 ∷ []))) ≡ kept (tables [] [] (1 ∷ 3 ∷ 16 ∷ 16 ∷ 4503599627370496 ∷ []) []) (ok 0)
+  pub any-page : lockOf state noTables 0 (page 16 (page 16 (0 ∷ 0 ∷ 0 ∷ 0 ∷ 0 ∷ 0 ∷ 16 ∷ 0 ∷ []))) ≡ kept (tables [] [] (lockTable 1 (3 ∷ []) (16 ∷ 16 ∷ 4503599627370496 ∷ [])) []) (ok 0)
   pub vtl-2 : lockOf state noTables 2 (page 1 []) ≡ kept noTables (refused 8 0)
   pub over : lockOf state noTables 0 (page 1 (1 ∷ [])) ≡ kept noTables (refused 8 0)
 

@@ -113,6 +113,13 @@ settings isolation tracked release enabled vtl0 vtl1 =
 abbrev pub tables : List ℕ → List ℕ → List ℕ → List ℕ → List ℕ
 tables o0 o1 l0 l1 = padded 641 o0 ++ (padded 641 o1 ++ (padded 1089 l0 ++ padded 1089 l1))
 
+-- locked lists: how many, how many pages the first k have together, and the pages of all
+abbrev pub lockTable : ℕ → List ℕ → List ℕ → List ℕ
+lockTable n ends ps = n ∷ (padded 64 ends ++ ps)
+
+abbrev pub oneLocked : ℕ → List ℕ
+oneLocked p = lockTable 1 (1 ∷ []) (p ∷ [])
+
 abbrev pub noTables : List ℕ
 noTables = replicate 3460 0
 

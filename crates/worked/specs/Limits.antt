@@ -1,6 +1,6 @@
 -- The limits of the tables, on tables that calls make: document 01, "Overlays and locks", "From the state" 17. Each call begins from the table that the call before
 -- it left.
-use mathlib.Core.List.{List, [], _∷_, _++_}
+use mathlib.Core.List.{List, [], _∷_}
 use mathlib.Core.Path.{_≡_}
 use Prim.Native.Nat.{ℕ, zero, suc, _+_}
 use lib.ListN.{replicate}
@@ -8,7 +8,7 @@ use Rattle.call_refusals.specs.World.{World}
 use Rattle.overlay_entries.specs.Calls.{registerOf}
 use Rattle.lock_entries.specs.Calls.{kept, lockOf, unlockOf}
 use Rattle.visibility_claims.specs.Table.{page, fresh}
-use Rattle.worked.specs.Crossing.{ok, refused, keeps, waits, after, first, settings, tables, noTables, rest, forgotten}
+use Rattle.worked.specs.Crossing.{ok, refused, keeps, waits, after, first, settings, tables, lockTable, oneLocked, noTables, rest, forgotten}
 
 -- ---- n overlays of VTL0: Dma pages from 40 on, without flags
 
@@ -18,7 +18,7 @@ dmaFrom p (suc k) = p ∷ 0 ∷ 0 ∷ 1 ∷ 1 ∷ dmaFrom (suc p) k
 
 -- 128 of them, and page 5 locked
 abbrev pub full-locked : World
-full-locked = rest first (settings 2 1 0 0 15 16) (tables (128 ∷ dmaFrom 40 128) [] (1 ∷ 1 ∷ 5 ∷ []) [])
+full-locked = rest first (settings 2 1 0 0 15 16) (tables (128 ∷ dmaFrom 40 128) [] (oneLocked 5) [])
 
 abbrev pub holding : ℕ → World
 holding n = rest first (settings 2 1 0 0 15 16) (tables (n ∷ dmaFrom 40 n) [] [] [])
@@ -48,21 +48,18 @@ pub record FirstOverlays : Type 0 where
 pub record LastOverlays : Type 0 where
   pub made : registered 64 64 ≡ holdings 65 64
 
--- ---- n lists of VTL0, of one page each; and n of 64 pages each
+-- ---- n lists of VTL0, of one page each; and n of page 0, 64 times each
 
-unfoldable pub singlesFrom : ℕ → ℕ → List ℕ
-singlesFrom p zero = []
-singlesFrom p (suc k) = 1 ∷ p ∷ singlesFrom (suc p) k
-
-unfoldable pub blocks : ℕ → List ℕ
-blocks zero = []
-blocks (suc k) = 64 ∷ replicate 64 0 ++ blocks k
+-- k numbers from p on, each greater than the one before it by s
+unfoldable pub stepsFrom : ℕ → ℕ → ℕ → List ℕ
+stepsFrom s p zero = []
+stepsFrom s p (suc k) = p ∷ stepsFrom s (p + s) k
 
 abbrev pub singles : ℕ → List ℕ
-singles n = tables [] [] (n ∷ singlesFrom 0 n) []
+singles n = tables [] [] (lockTable n (stepsFrom 1 1 n) (stepsFrom 1 0 n)) []
 
 abbrev pub blocked : ℕ → List ℕ
-blocked n = tables [] [] (n ∷ blocks n) []
+blocked n = tables [] [] (lockTable n (stepsFrom 64 64 n) []) []
 
 unfoldable pub lockSingles : ℕ → ℕ → List (List ℕ)
 lockSingles n zero = []

@@ -12,7 +12,7 @@ use Rattle.protector_state.specs.Reply.{value}
 use Rattle.visibility_claims.specs.Whole.{Fails}
 use Rattle.visibility_claims.specs.Calls.{follow}
 use Rattle.visibility_claims.specs.Table.{dones, fresh}
-use Rattle.worked.specs.Crossing.{ok, refused, keeps, waits, protects, flushes, tlbWaits, replies, after, low, allRam, clear, first, untracked, settings, tables, noTables, rest, forgotten}
+use Rattle.worked.specs.Crossing.{ok, refused, keeps, waits, protects, flushes, tlbWaits, replies, after, low, allRam, clear, first, untracked, settings, tables, lockTable, noTables, rest, forgotten}
 use Rattle.worked.specs.Faults.{split}
 use Rattle.worked.specs.Shares.{on, off, closed}
 use Rattle.worked.specs.Changes.{overlaid, dma}
@@ -37,7 +37,7 @@ counted n = rest (maps allRam clear allRam (low 0xdf) allRam (low 0xdf)) (settin
 
 -- these maps, with pages 3, 5 and 16 locked by VTL0
 abbrev pub locking : Maps → World
-locking m = rest m (settings 2 1 0 0 15 16) (tables [] [] (1 ∷ 3 ∷ 3 ∷ 5 ∷ 16 ∷ []) [])
+locking m = rest m (settings 2 1 0 0 15 16) (tables [] [] (lockTable 1 (3 ∷ []) (3 ∷ 5 ∷ 16 ∷ [])) [])
 
 abbrev pub register : World → ℕ → ℕ → ℕ → ℕ → ℕ → Reply
 register w vtl p source checked new = registerOf w vtl p source checked new .reply

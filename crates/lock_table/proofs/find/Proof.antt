@@ -1,57 +1,62 @@
 -- `lock_table::find` meets its contract. Assumes nothing.
 use borrow.Author.Needs.{needs}
 use native.Mathlib.Omega.{arith}
-use mathlib.Core.Path.{_≡_, refl, sym, _∙_}
-use Prim.Native.Nat.{_-_, _<_}
+use mathlib.Core.Path.{_≡_, refl, sym, ap, _∙_}
+use Prim.Native.Nat.{ℕ, _+_, _-_}
 use Rattle.page_list.specs.Pages.{pagesOf}
-use Rattle.lock_table.specs.Locks.{endFrom, placeFrom}
+use Rattle.lock_table.specs.Locks.{endOf, equalFrom}
 use Rattle.lock_table.proofs.Laws as laws
 use Rattle.lock_table.proofs.find.Statement.{statement}
 use Rattle.lock_table.proofs.find.Tie as tie
 
 abbrev Inv-loop : tie.InvT-loop
-Inv-loop t n list left₀ place₀ left place = (placeFrom t left place (pagesOf list) ≡ placeFrom t n 1 (pagesOf list)) × (0 < left → endFrom t (left - 1) place ≡ endFrom t (n - 1) 1)
+Inv-loop t n list from₀ k₀ from k = (from ≡ 65 + endOf t k) × (equalFrom t (n - k) k (pagesOf list) ≡ equalFrom t n 0 (pagesOf list))
 
 abbrev μ-loop : tie.MeasureT-loop
-μ-loop t n list left₀ place₀ left place = left
+μ-loop t n list from₀ k₀ from k = n - k
 
 loop-holds : tie.Need-loop-holds Inv-loop μ-loop
-loop-holds c = (refl, λ h. refl)
+loop-holds c = let a = c .before .before .args in let z : a .n - 0 ≡ a .n = omega arith in (refl, ap (λ (n : ℕ). equalFrom (a .t .now) n 0 (pagesOf (a .list .now))) z)
 
-list-end-requires : tie.Need-list-end-requires Inv-loop μ-loop
-list-end-requires c κs = search needs
+add-end-at : tie.Need-add-end-at Inv-loop μ-loop
+add-end-at c = search needs
+
+end-at-requires : tie.Need-end-at-requires Inv-loop μ-loop
+end-at-requires c κs = search needs
+
+add-to : tie.Need-add-to Inv-loop μ-loop
+add-to c = omega (arith, c .end-at .ensures)
 
 is-same-requires : tie.Need-is-same-requires Inv-loop μ-loop
-is-same-requires c κs = omega (arith, c .list-end .ensures)
-
-sub-t9 : tie.Need-sub-t9 Inv-loop μ-loop
-sub-t9 c = search needs
+is-same-requires c κs = search needs
 
 returns : tie.Need-returns Inv-loop μ-loop
 returns c =
-    let a = c .before .before .before .before .before .before .before .args in
-    let h = c .before .before .before .before .loop in
-    (sym (laws.place-hit (a .t .now) (h .place) (pagesOf (a .list .now)) _ (h .left) (omega arith) (c .before .before .list-end .ensures) (sym (c .before .is-same .ensures) ∙ c .if1 .taken)) ∙ h .inv .0, λ some. h .inv .1 (omega arith))
+    let c1 = c .before in let c2 = c1 .before in let c4 = c2 .before .before in let c7 = c4 .before .before .before in
+    let a = c7 .args in let h = c4 .loop in let ps = pagesOf (a .list .now) in
+    let to = ap (λ (n : ℕ). 65 + n) (c2 .end-at .ensures) in
+    sym (laws.equal-hit (a .t .now) (a .n) (h .k) (h .from) _ ps (h .inv .0) to (omega arith) (sym (c1 .is-same .ensures) ∙ c .if1 .taken)) ∙ h .inv .1
 
-sub-left : tie.Need-sub-left Inv-loop μ-loop
-sub-left c = search needs
+add-k : tie.Need-add-k Inv-loop μ-loop
+add-k c = search needs
 
 loop-less : tie.Need-loop-less Inv-loop μ-loop
 loop-less c = search needs
 
 loop-again : tie.Need-loop-again Inv-loop μ-loop
 loop-again c =
-    let a = c .before .before .before .before .before .before .before .args in
-    let h = c .before .before .before .before .loop in (
-      sym (laws.place-miss (a .t .now) (h .place) (pagesOf (a .list .now)) _ (h .left) (omega arith) (c .before .before .list-end .ensures) (sym (c .before .is-same .ensures) ∙ c .if1 .left)) ∙ h .inv .0,
-      λ more. laws.end-more (a .t .now) (h .left - 1) (h .place) _ more (c .before .before .list-end .ensures) ∙ h .inv .1 (omega arith),
+    let c1 = c .before in let c2 = c1 .before in let c4 = c2 .before .before in let c7 = c4 .before .before .before in
+    let a = c7 .args in let h = c4 .loop in let ps = pagesOf (a .list .now) in
+    let to = ap (λ (n : ℕ). 65 + n) (c2 .end-at .ensures) in (
+      laws.next-from (a .t .now) (a .n) (h .k) (h .from) _ ps (h .inv .0) to,
+      sym (laws.equal-miss (a .t .now) (a .n) (h .k) (h .from) _ ps (h .inv .0) to (omega arith) (sym (c1 .is-same .ensures) ∙ c .if1 .left)) ∙ h .inv .1,
     )
 
 returns-2 : tie.Need-returns-2 Inv-loop μ-loop
 returns-2 c =
     let a = c .before .before .before .before .args in
     let h = c .before .loop in
-    (sym (laws.place-end (a .t .now) (h .place) (pagesOf (a .list .now)) 0 (h .left) (omega arith)) ∙ h .inv .0, λ some. absurd (some refl))
+    sym (laws.equal-end (a .t .now) (a .n) (h .k) (pagesOf (a .list .now)) (omega arith)) ∙ h .inv .1
 
 pub find-spec : {M : Type 1} → statement M
 find-spec =
@@ -60,11 +65,12 @@ find-spec =
     Inv-loop
     μ-loop
     loop-holds
-    list-end-requires
+    add-end-at
+    end-at-requires
+    add-to
     is-same-requires
-    sub-t9
     returns
-    sub-left
+    add-k
     loop-less
     loop-again
     returns-2)

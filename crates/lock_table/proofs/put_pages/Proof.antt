@@ -11,7 +11,7 @@ use Rattle.lock_table.proofs.put_pages.Statement.{statement}
 use Rattle.lock_table.proofs.put_pages.Tie as tie
 
 abbrev Inv-loop : tie.InvT-loop
-Inv-loop t₀ place list n i₀ t i = (length t ≡ length t₀) × (sets t (place + 1 + i) (drop i (pagesOf list)) ≡ sets t₀ (place + 1) (pagesOf list))
+Inv-loop t₀ place list n i₀ t i = (length t ≡ length t₀) × (sets t (place + i) (drop i (pagesOf list)) ≡ sets t₀ place (pagesOf list))
 
 abbrev μ-loop : tie.MeasureT-loop
 μ-loop t₀ place list n i₀ t i = n - i
@@ -20,25 +20,25 @@ page-count-requires : tie.Need-page-count-requires Inv-loop μ-loop
 page-count-requires c κs = search needs
 
 loop-holds : tie.Need-loop-holds Inv-loop μ-loop
-loop-holds c = let a = c .before .before .before .args in let z : a .place + 1 + 0 ≡ a .place + 1 = omega arith in (refl, ap (λ (k : ℕ). sets (a .t .now) k (pagesOf (a .list .now))) z)
+loop-holds c = let a = c .before .before .before .args in let z : a .place + 0 ≡ a .place = omega arith in (refl, ap (λ (k : ℕ). sets (a .t .now) k (pagesOf (a .list .now))) z)
 
 page-at-requires : tie.Need-page-at-requires Inv-loop μ-loop
 page-at-requires c κs = search needs
 
-add-i : tie.Need-add-i Inv-loop μ-loop
-add-i c = search needs
-
 put-after-requires : tie.Need-put-after-requires Inv-loop μ-loop
 put-after-requires c κs = search needs
+
+add-i : tie.Need-add-i Inv-loop μ-loop
+add-i c = search needs
 
 loop-less : tie.Need-loop-less Inv-loop μ-loop
 loop-less c = search needs
 
 loop-again : tie.Need-loop-again Inv-loop μ-loop
 loop-again c =
-    let a = c .before .before .before .before .before .before .before .before .before .before .args in
-    let h = c .before .before .before .before .before .before .loop in
-    (search needs, laws.sets-more (h .t) (a .place) (h .i) _ (pagesOf (a .list .now)) _ (omega (arith, c .before .before .before .before .before .before .before .page-count .ensures)) (c .before .before .before .before .page-at .ensures) (c .before .before .put-after .ensures) ∙ h .inv .1)
+    let c2 = c .before .before in let c4 = c2 .before .before in let c6 = c4 .before .before in let c7 = c6 .before in let c10 = c7 .before .before .before in
+    let a = c10 .args in let h = c6 .loop in
+    (search needs, laws.sets-more (h .t) (a .place) (h .i) _ (pagesOf (a .list .now)) _ (omega (arith, c7 .page-count .ensures)) (c4 .page-at .ensures) (c2 .put-after .ensures) ∙ h .inv .1)
 
 same-length : tie.Need-same-length Inv-loop μ-loop
 same-length c = search needs
@@ -58,8 +58,8 @@ put-pages-spec =
     page-count-requires
     loop-holds
     page-at-requires
-    add-i
     put-after-requires
+    add-i
     loop-less
     loop-again
     same-length

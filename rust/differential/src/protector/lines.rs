@@ -988,7 +988,7 @@ fn tables(world: &World) -> String {
         entries.collect::<Vec<_>>().join(",")
     });
     let locks = [0, 1].map(|vtl| {
-        let lists = world.locks(vtl).into_iter().map(|(_, pages)| {
+        let lists = world.locks(vtl).into_iter().map(|pages| {
             let pages: Vec<_> = pages.iter().map(u64::to_string).collect();
             format!("({})", pages.join(","))
         });

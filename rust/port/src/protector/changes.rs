@@ -127,10 +127,11 @@ fn overlays(words: &[u64]) -> String {
 
 /// `(P,P)(P)..`
 fn locks(words: &[u64]) -> String {
-    let mut rest = &words[1..];
-    let shown = (0..words[0]).map(|_| {
-        let (pages, behind) = rest[1..].split_at(rest[0] as usize);
-        rest = behind;
+    let pages = &words[table::FIRST_PAGE..];
+    let mut from = 0;
+    let shown = words[1..].iter().take(words[0] as usize).map(|&to| {
+        let pages = &pages[from..to as usize];
+        from = to as usize;
         format!("({})", show::joined(pages, ","))
     });
     show::joined(shown, "")

@@ -5,6 +5,8 @@ use crate::original::value;
 
 const OVERLAYS: usize = 641;
 const LOCKS: usize = 1089;
+/// Of the words of locked lists, those before the pages.
+const FIRST_PAGE: usize = 65;
 
 #[derive(Default)]
 pub struct Left {
@@ -58,10 +60,13 @@ impl Left {
         }
         for lists in &self.locks {
             let mut words = vec![lists.len() as u64];
+            let mut end = 0;
             for list in lists {
-                words.push(list.len() as u64);
-                words.extend(list);
+                end += list.len() as u64;
+                words.push(end);
             }
+            words.resize(FIRST_PAGE, 0);
+            words.extend(lists.iter().flatten());
             words.resize(LOCKS, 0);
             digest.words(&words);
         }

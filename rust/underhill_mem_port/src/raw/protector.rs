@@ -91,8 +91,11 @@ pub mod table {
     /// Where the overlays of each VTL begin, five words an entry: page, previous flags, own flags,
     /// count, source.
     pub const OVERLAYS: [usize; 2] = [0, 641];
-    /// Where the locked lists of each VTL begin: of each its length, then its pages.
+    /// Where the locked lists of each VTL begin: 64 words, of which word k is how many pages the
+    /// first k lists have together, then the pages of all.
     pub const LOCKS: [usize; 2] = [1282, 2371];
+    /// Where among these words the first page stands.
+    pub const FIRST_PAGE: usize = 65;
 }
 
 /// The bitmaps: page p is bit p % 8 of byte p / 8. The last four are empty if untracked.
