@@ -2,6 +2,7 @@
 ghost use mathlib.Core.Path.{_≡_};
 ghost use Prim.Native.Nat.{_+_, _<_, _≤_, _^_};
 ghost use lib.ListN.{length};
+ghost use Rattle.abi.specs.Flags.{flagsEnd};
 ghost use Rattle.permissions.specs.Flags.{flagsOf};
 ghost use Rattle.page_list.specs.Pages.{pagesOf};
 ghost use Rattle.mapping.specs.Maps.{maps, perms};
@@ -39,13 +40,16 @@ fn default_refusal(state: &[u64], lengths: Lengths, vtl: u64, flags: u64) -> u64
     0
 }
 
+// The default of a VTL: the word of the other's stays as it is.
 fn store_default(state: &mut [u64], vtl: GuestVtl, flags: u64)
-    requires { ⌜ length (now state) ≡ stateLen ⌝ }
+    requires { ⌜ (length (now state) ≡ stateLen) × (flags < flagsEnd) ⌝ }
     ensures { λ _. ⌜ now (state .exit) ≡ storedDefault (now (state .entry)) vtl flags ⌝ }
 {
-    let v = permissions::vtl_number(vtl);
-    let i = place::DEFAULT0 as u64 + v;
-    state[i as usize] = flags;
+    let defaults = protector_state::defaults(state);
+    let set = permissions::set_default(defaults, vtl, HvMapGpaFlags::from_bits(flags));
+    let word = protector_state::default_word(set, vtl);
+    let i = place::DEFAULT0 as u64 + permissions::vtl_number(vtl);
+    state[i as usize] = word;
 }
 
 // Whether a locked page of a VTL bars a change of its default.

@@ -15,9 +15,12 @@ use Rattle.abi.specs.Lengths.{ramEntryWords, ramLen}
 use Rattle.laws.specs.Bools.{digit}
 use Rattle.layout.specs.declared.MemoryRangeWithNode.{MemoryRangeWithNode}
 use Rattle.layout.specs.Layout.{entriesOf}
+use Rattle.permissions.specs.declared.GuestVtl.{GuestVtl}
+use Rattle.permissions.specs.declared.GuestVtl.the-variants.{Vtl0, Vtl1}
 use Rattle.permissions.specs.declared.OptionFlags.{OptionFlags}
 use Rattle.permissions.specs.declared.OptionFlags.the-variants.{Some, None}
-use Rattle.permissions.specs.Flags.{vtlOf, vtlNumber, isolationOf, fitFlags, flagsOf, boolOf}
+use Rattle.permissions.specs.declared.DefaultVtlPermissions.{DefaultVtlPermissions}
+use Rattle.permissions.specs.Flags.{vtlOf, vtlNumber, isolationOf, fitFlags, flagsOf, bitsOf, boolOf}
 use Rattle.visibility_steps.specs.declared.Phase.{Phase}
 use Rattle.visibility_steps.specs.declared.Phase.the-variants.{Idle, Halted, Wait, FlushAll, ProtectNone0, ProtectNone1, Invalidate, Release, Modify, Accept, Zero, ProtectDefault0, ProtectDefault1}
 use Rattle.visibility_steps.specs.declared.Request.{Request}
@@ -90,6 +93,18 @@ withRequest p q s = requestWords p q ++ drop place.afterRequest s
 abbrev pub optionOf : ℕ → OptionFlags
 optionOf n = cond (fitFlags n) (Some (flagsOf n)) None
 
+abbrev pub optionWord : OptionFlags → ℕ
+optionWord (Some f) = bitsOf f
+optionWord None = bits.noFlags
+
+abbrev pub defaultsOf : List ℕ → DefaultVtlPermissions
+defaultsOf s = record { vtl0 = flagsOf (getD s place.default0 0); vtl1 = optionOf (getD s place.default1 0) }
+
+-- the word of a VTL's default
+abbrev pub defaultWord : DefaultVtlPermissions → GuestVtl → ℕ
+defaultWord d Vtl0 = bitsOf (d .vtl0)
+defaultWord d Vtl1 = optionWord (d .vtl1)
+
 abbrev pub settingsOf : List ℕ → Settings
 settingsOf s =
     record {
@@ -97,7 +112,7 @@ settingsOf s =
       tracked = boolOf (getD s place.tracked 0);
       release = boolOf (getD s place.release 0);
       enabled = boolOf (getD s place.enabled 0);
-      defaults = record { vtl0 = flagsOf (getD s place.default0 0); vtl1 = optionOf (getD s place.default1 0) };
+      defaults = defaultsOf s;
     }
 
 -- ---- the RAM layout

@@ -9,12 +9,11 @@ ghost use Rattle.visibility_steps.specs.Steps.{isSnp, orNone, operationOn};
 ghost use Rattle.visibility_steps.specs.Next.{answerBy};
 ghost use Rattle.permissions.specs.HvError.{codeOf};
 ghost use Rattle.permissions.specs.Rmpadjust.{operandOf};
-ghost use Rattle.protector_state.specs.State.{stateLen, phaseNumber, firstPhases, phaseOf, phaseIn, requestOf, withRequest, optionOf, settingsOf, ramOf, builtState};
+ghost use Rattle.protector_state.specs.State.{stateLen, phaseNumber, firstPhases, phaseOf, phaseIn, requestOf, withRequest, optionOf, optionWord, defaultsOf, defaultWord, settingsOf, ramOf, builtState};
 ghost use Rattle.protector_state.specs.Reply.{finished, plain, onVtl, onRun, protects, modifies, askedOf, endedOf, flatOf, value};
 
 pub mod change;
 
-use abi::ALL_FLAGS;
 use abi::NO_FLAGS;
 use abi::RAM_ENTRY_WORDS;
 use abi::limit;
@@ -394,6 +393,38 @@ fn option_of(n: u64) -> OptionFlags
     }
 }
 
+fn option_word(flags: OptionFlags) -> u64
+    ensures { λ r. ⌜ r ≡ optionWord flags ⌝ }
+{
+    match flags {
+        OptionFlags::Some(given) => given.into_bits(),
+        OptionFlags::None => NO_FLAGS,
+    }
+}
+
+// The defaults in the state block.
+pub fn defaults(state: &[u64]) -> DefaultVtlPermissions
+    requires { ⌜ length (now state) ≡ stateLen ⌝ }
+    ensures { λ r. ⌜ r ≡ defaultsOf (now (state .entry)) ⌝ }
+{
+    DefaultVtlPermissions {
+        vtl0: HvMapGpaFlags::from_bits(state[place::DEFAULT0]),
+        vtl1: option_of(state[place::DEFAULT1]),
+    }
+}
+
+// The word of a VTL's default.
+pub fn default_word(defaults: DefaultVtlPermissions, vtl: GuestVtl) -> u64
+    ensures { λ r. ⌜ r ≡ defaultWord defaults vtl ⌝ }
+{
+    let vtl0 = defaults.vtl0;
+    let vtl1 = defaults.vtl1;
+    match vtl {
+        GuestVtl::Vtl0 => vtl0.into_bits(),
+        GuestVtl::Vtl1 => option_word(vtl1),
+    }
+}
+
 // The settings in the state block.
 pub fn settings(state: &[u64]) -> Settings
     requires { ⌜ length (now state) ≡ stateLen ⌝ }
@@ -404,10 +435,7 @@ pub fn settings(state: &[u64]) -> Settings
         tracked: state[place::TRACKED] == 1,
         release: state[place::RELEASE] == 1,
         enabled: state[place::ENABLED] == 1,
-        defaults: DefaultVtlPermissions {
-            vtl0: HvMapGpaFlags::from_bits(state[place::DEFAULT0]),
-            vtl1: option_of(state[place::DEFAULT1]),
-        },
+        defaults: defaults(state),
     }
 }
 
@@ -493,12 +521,15 @@ pub fn build_state(state: &mut [u64], ram: &[u64], isolation: u64, tracked: u64,
     ensures { λ _. ⌜ now (state .exit) ≡ builtState (now (ram .entry)) isolation tracked release ⌝ }
 {
     let n = layout::entry_count(ram);
+    let first = DefaultVtlPermissions::new();
+    let default0 = default_word(first, GuestVtl::Vtl0);
+    let default1 = default_word(first, GuestVtl::Vtl1);
     words::clear(state);
     state[place::ISOLATION] = isolation;
     state[place::TRACKED] = tracked;
     state[place::RELEASE] = release;
-    state[place::DEFAULT0] = ALL_FLAGS;
-    state[place::DEFAULT1] = NO_FLAGS;
+    state[place::DEFAULT0] = default0;
+    state[place::DEFAULT1] = default1;
     state[place::ENTRIES] = n;
     let mut i: usize = 0;
     while i < ram.len() {

@@ -18,17 +18,8 @@ shared-slice-read-t9 c = search needs
 shared-slice-read-t12 : tie.Need-shared-slice-read-t12
 shared-slice-read-t12 c = search needs
 
-shared-slice-read-from-bits : tie.Need-shared-slice-read-from-bits
-shared-slice-read-from-bits c = search needs
-
-from-bits-requires : tie.Need-from-bits-requires
-from-bits-requires c κs = search needs
-
-shared-slice-read-option-of : tie.Need-shared-slice-read-option-of
-shared-slice-read-option-of c = search needs
-
-option-of-requires : tie.Need-option-of-requires
-option-of-requires c κs = search needs
+defaults-requires : tie.Need-defaults-requires
+defaults-requires c κs = search needs
 
 returns : tie.Need-returns
 returns c = cc
@@ -42,8 +33,5 @@ settings-spec =
     shared-slice-read-t6
     shared-slice-read-t9
     shared-slice-read-t12
-    shared-slice-read-from-bits
-    from-bits-requires
-    shared-slice-read-option-of
-    option-of-requires
+    defaults-requires
     returns)
