@@ -111,26 +111,46 @@ pub fn apply_step(
     kernel: &mut [u8],
     user: &mut [u8],
     state: &mut [u64],
-    tables: &mut [u64],
     isolation: IsolationType,
-    x: ChangeStep,
+    step: ChangeStep,
 ) -> Reply
-    requires { ⌜ (length (now state) ≡ stateLen) × (length (now tables) ≡ tablesLen) × (x .written .first + x .written .count ≤ 2 ^ 64) ⌝ }
-    ensures { λ _. ⌜ perms (now (read .exit)) (now (write .exit)) (now (kernel .exit)) (now (user .exit)) ≡ permittedRun (x .written) (flagsOf (x .change .flags)) (perms (now (read .entry)) (now (write .entry)) (now (kernel .entry)) (now (user .entry))) ⌝ }
-    ensures { λ _. ⌜ now (state .exit) ≡ withChange (x .stage) (x .change) (now (state .entry)) ⌝ }
-    ensures { λ _. ⌜ now (tables .exit) ≡ entered (x .entry) (x .change) (now (tables .entry)) ⌝ }
-    ensures { λ r. ⌜ r ≡ flatOf isolation (x .answer) ⌝ }
+    requires { ⌜ (length (now state) ≡ stateLen) × (step .written .first + step .written .count ≤ 2 ^ 64) ⌝ }
+    ensures { λ _. ⌜ perms (now (read .exit)) (now (write .exit)) (now (kernel .exit)) (now (user .exit)) ≡ permittedRun (step .written) (flagsOf (step .change .flags)) (perms (now (read .entry)) (now (write .entry)) (now (kernel .entry)) (now (user .entry))) ⌝ }
+    ensures { λ _. ⌜ now (state .exit) ≡ withChange (step .stage) (step .change) (now (state .entry)) ⌝ }
+    ensures { λ r. ⌜ r ≡ flatOf isolation (step .answer) ⌝ }
 {
-    let stage = x.stage;
-    let change = x.change;
-    let answer = x.answer;
-    let run = x.written;
-    let entry = x.entry;
+    let stage = step.stage;
+    let change = step.change;
+    let answer = step.answer;
+    let run = step.written;
     let flags = HvMapGpaFlags::from_bits(change.flags);
     update_run(read, write, kernel, user, run, flags);
     protector_state::change::save(state, stage, change);
-    enter(tables, entry, change);
     protector_state::to_reply(isolation, answer)
+}
+
+// A step carried out, with its entry.
+pub fn apply_step(
+    read: &mut [u8],
+    write: &mut [u8],
+    kernel: &mut [u8],
+    user: &mut [u8],
+    state: &mut [u64],
+    tables: &mut [u64],
+    isolation: IsolationType,
+    step: ChangeStep,
+) -> Reply
+    requires { ⌜ (length (now state) ≡ stateLen) × (length (now tables) ≡ tablesLen) × (step .written .first + step .written .count ≤ 2 ^ 64) ⌝ }
+    ensures { λ _. ⌜ perms (now (read .exit)) (now (write .exit)) (now (kernel .exit)) (now (user .exit)) ≡ permittedRun (step .written) (flagsOf (step .change .flags)) (perms (now (read .entry)) (now (write .entry)) (now (kernel .entry)) (now (user .entry))) ⌝ }
+    ensures { λ _. ⌜ now (state .exit) ≡ withChange (step .stage) (step .change) (now (state .entry)) ⌝ }
+    ensures { λ _. ⌜ now (tables .exit) ≡ entered (step .entry) (step .change) (now (tables .entry)) ⌝ }
+    ensures { λ r. ⌜ r ≡ flatOf isolation (step .answer) ⌝ }
+{
+    let entry = step.entry;
+    let change = step.change;
+    let reply = write_step(read, write, kernel, user, state, isolation, step);
+    enter(tables, entry, change);
+    reply
 }
 
 // The next piece of a default change, where that is what waits.

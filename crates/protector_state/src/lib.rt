@@ -431,15 +431,16 @@ pub fn settings(state: &[u64]) -> Settings
     ensures { λ r. ⌜ r ≡ settingsOf (now (state .entry)) ⌝ }
 {
     Settings {
-        isolation: permissions::isolation_of(state[place::ISOLATION]),
-        tracked: state[place::TRACKED] == 1,
+        isolation: isolation(state),
+        tracked: is_tracked(state),
         release: state[place::RELEASE] == 1,
         enabled: state[place::ENABLED] == 1,
         defaults: defaults(state),
     }
 }
 
-fn isolation(state: &[u64]) -> IsolationType
+// The isolation type.
+pub fn isolation(state: &[u64]) -> IsolationType
     requires { ⌜ length (now state) ≡ stateLen ⌝ }
     ensures { λ r. ⌜ r ≡ settingsOf (now (state .entry)) .isolation ⌝ }
 {

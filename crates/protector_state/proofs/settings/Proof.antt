@@ -3,20 +3,17 @@ use borrow.Author.Needs.{needs}
 use Rattle.protector_state.proofs.settings.Statement.{statement}
 use Rattle.protector_state.proofs.settings.Tie as tie
 
-shared-slice-read-isolation-of : tie.Need-shared-slice-read-isolation-of
-shared-slice-read-isolation-of c = search needs
+isolation-requires : tie.Need-isolation-requires
+isolation-requires c κs = search needs
 
-isolation-of-requires : tie.Need-isolation-of-requires
-isolation-of-requires c κs = search needs
+is-tracked-requires : tie.Need-is-tracked-requires
+is-tracked-requires c κs = search needs
 
-shared-slice-read-t6 : tie.Need-shared-slice-read-t6
-shared-slice-read-t6 c = search needs
+shared-slice-read-t5 : tie.Need-shared-slice-read-t5
+shared-slice-read-t5 c = search needs
 
-shared-slice-read-t9 : tie.Need-shared-slice-read-t9
-shared-slice-read-t9 c = search needs
-
-shared-slice-read-t12 : tie.Need-shared-slice-read-t12
-shared-slice-read-t12 c = search needs
+shared-slice-read-t8 : tie.Need-shared-slice-read-t8
+shared-slice-read-t8 c = search needs
 
 defaults-requires : tie.Need-defaults-requires
 defaults-requires c κs = search needs
@@ -28,10 +25,9 @@ pub settings-spec : {M : Type 1} → statement M
 settings-spec =
     tie.close
     (tie.spec
-    shared-slice-read-isolation-of
-    isolation-of-requires
-    shared-slice-read-t6
-    shared-slice-read-t9
-    shared-slice-read-t12
+    isolation-requires
+    is-tracked-requires
+    shared-slice-read-t5
+    shared-slice-read-t8
     defaults-requires
     returns)
