@@ -13,11 +13,11 @@ use Rattle.recording.specs.Digest.{digestWord, digestOf}
 use Rattle.recording.specs.Lists.{partOf}
 use Rattle.playback.specs.declared.world.World.{World}
 use Rattle.playback.specs.declared.world.Call.{Call}
-use Rattle.playback.specs.World.{bytesIn, lentOf, after, withAsked, codeOf}
+use Rattle.playback.specs.World.{answers, cca, bytesIn, lentOf, after, withAsked, codeOf}
 
 -- the original hands CCA's backend no flags
 abbrev pub flagsOf : Reply → ℕ → ℕ
-flagsOf r isolation = cond (eqb isolation 4) 0 (r .flags)
+flagsOf r isolation = cond (eqb isolation cca) 0 (r .flags)
 
 abbrev pub fieldsOf : ℕ → Reply → ℕ → ℕ
 fieldsOf h r isolation =
@@ -45,4 +45,4 @@ finishedFrom zero at w c = w
 finishedFrom (suc n) at w c = cond (eqb (w .reply .operation) 0) w (finishedFrom n (at + 1) (answered w c (at + 1)) c)
 
 abbrev pub finishedOf : World → Call → World
-finishedOf w c = finishedFrom 8192 0 w c
+finishedOf w c = finishedFrom answers 0 w c

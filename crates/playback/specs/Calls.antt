@@ -14,9 +14,10 @@ use Rattle.overlay_entries.specs.Calls.{isOverlayIn, unregisterOf, registerOf}
 use Rattle.lock_entries.specs.Calls.{Kept, lockOf, unlockOf}
 use Rattle.setting_entries.specs.Calls.{Enabled, enableOf, enabledIn, defaultIn}
 use Rattle.recording.specs.Digest.{digestOf}
+use Rattle.recording.specs.Kinds as kind
 use Rattle.playback.specs.declared.world.World.{World}
 use Rattle.playback.specs.declared.world.Call.{Call}
-use Rattle.playback.specs.World.{bytesIf, bytesIn, lentOf, after, withThese, valued}
+use Rattle.playback.specs.World.{outBytes, unwritten, bytesIf, bytesIn, lentOf, after, withThese, valued}
 
 -- ---- build, and the calls that ask for operations
 
@@ -26,10 +27,10 @@ buildOf w c ram = after (bytesIf (c .b)) w (protector.buildOf (lentOf (bytesIf (
 -- kinds 1 to 5
 unfoldable pub changeIn : lent.World → Call → List ℕ → lent.Outcome
 changeIn w c l =
-    cond (eqb (c .kind) 1) (protector.visibilityOf w (c .a) (c .b) l)
-    (cond (eqb (c .kind) 2) (protectionOf w (c .a) (c .b) l)
-    (cond (eqb (c .kind) 3) (defaultOf w (c .a) (c .b))
-    (cond (eqb (c .kind) 4) (registerOf w (c .a) (c .b) (c .c) (c .d) (c .e)) (unregisterOf w (c .a) (c .b)))))
+    cond (eqb (c .kind) kind.changeHostVisibility) (protector.visibilityOf w (c .a) (c .b) l)
+    (cond (eqb (c .kind) kind.changeVtlProtections) (protectionOf w (c .a) (c .b) l)
+    (cond (eqb (c .kind) kind.changeDefaultVtlProtections) (defaultOf w (c .a) (c .b))
+    (cond (eqb (c .kind) kind.registerOverlayPage) (registerOf w (c .a) (c .b) (c .c) (c .d) (c .e)) (unregisterOf w (c .a) (c .b)))))
 
 abbrev pub changeOf : World → Call → List ℕ → World
 changeOf w c l = after (bytesIn w) w (changeIn (lentOf (bytesIn w) w) c l)
@@ -48,17 +49,17 @@ queriedOf w q = withThese w (w .state) (w .tables) (q .reply) (digestOf (w .aske
 
 -- the output before a query, of the length that the call names
 abbrev pub outOf : Call → List ℕ
-outOf c = take (min (c .a) 520) (replicate 520 165)
+outOf c = take (min (c .a) outBytes) (replicate outBytes unwritten)
 
 -- kinds 9 and 10
 abbrev pub settingOf : List ℕ → Call → Value
-settingOf s c = cond (eqb (c .kind) 9) (enabledIn s) (defaultIn s)
+settingOf s c = cond (eqb (c .kind) kind.vtl1ProtectionsEnabled) (enabledIn s) (defaultIn s)
 
 -- kinds 13 to 15
 unfoldable pub lookIn : List ℕ → Maps → Call → Value
 lookIn s m c =
-    cond (eqb (c .kind) 13) (faultIn s m (c .a) (c .b) (c .c) (c .d) (c .e))
-    (cond (eqb (c .kind) 14) (lowerIn s m (c .a) (c .b)) (accessIn s m (c .a)))
+    cond (eqb (c .kind) kind.pageFault) (faultIn s m (c .a) (c .b) (c .c) (c .d) (c .e))
+    (cond (eqb (c .kind) kind.queryLowerVtlPermissions) (lowerIn s m (c .a) (c .b)) (accessIn s m (c .a)))
 
 abbrev pub lookOf : World → Call → World
 lookOf w c = valued w (lookIn (w .state) (lentOf (bytesIn w) w .maps) c)
@@ -66,10 +67,10 @@ lookOf w c = valued w (lookIn (w .state) (lentOf (bytesIn w) w .maps) c)
 -- a call that is no build
 unfoldable pub callOf : World → Call → List ℕ → World
 callOf w c l =
-    cond (ltb (c .kind) 6) (changeOf w c l)
-    (cond (eqb (c .kind) 6) (keptIn w (lockOf (w .state) (w .tables) (c .a) l))
-    (cond (eqb (c .kind) 7) (keptIn w (unlockOf (w .state) (w .tables) (c .a) l))
-    (cond (eqb (c .kind) 8) (enabledOf w (enableOf (w .state)))
-    (cond (ltb (c .kind) 11) (valued w (settingOf (w .state) c))
-    (cond (eqb (c .kind) 11) (valued w (isOverlayIn (w .state) (w .tables) (c .a) (c .b)))
-    (cond (eqb (c .kind) 12) (queriedOf w (queryOf (w .state) (w .shared) l (outOf c))) (lookOf w c)))))))
+    cond (ltb (c .kind) kind.lockGpns) (changeOf w c l)
+    (cond (eqb (c .kind) kind.lockGpns) (keptIn w (lockOf (w .state) (w .tables) (c .a) l))
+    (cond (eqb (c .kind) kind.unlockGpns) (keptIn w (unlockOf (w .state) (w .tables) (c .a) l))
+    (cond (eqb (c .kind) kind.setVtl1ProtectionsEnabled) (enabledOf w (enableOf (w .state)))
+    (cond (ltb (c .kind) kind.isOverlayPage) (valued w (settingOf (w .state) c))
+    (cond (eqb (c .kind) kind.isOverlayPage) (valued w (isOverlayIn (w .state) (w .tables) (c .a) (c .b)))
+    (cond (eqb (c .kind) kind.queryHostVisibility) (queriedOf w (queryOf (w .state) (w .shared) l (outOf c))) (lookOf w c)))))))

@@ -4,6 +4,7 @@ use mathlib.Core.List.{List, _++_}
 use Prim.Native.Nat.{ℕ, _%_}
 use lib.Dec.{eqb}
 use lib.ListN.{getD, take, drop, replicate}
+use Rattle.abi.specs.Lengths.{stateLen, pagesLen, tablesLen}
 use Rattle.abi.specs.Places as place
 use Rattle.mapping.specs.Maps.{maps}
 use Rattle.protector_state.specs.declared.Reply.{Reply}
@@ -12,9 +13,32 @@ use Rattle.protector_state.specs.declared.Value.{Value}
 use Rattle.call_refusals.specs.World as lent
 use Rattle.playback.specs.declared.world.World.{World}
 
+-- layouts end at page 512: the bytes of a map
+abbrev pub mapBytes : ℕ
+mapBytes = 64
+
+-- the longest output of a query, and a byte of it that no call wrote
+abbrev pub outBytes : ℕ
+outBytes = 520
+
+abbrev pub unwritten : ℕ
+unwritten = 0xa5
+
+-- a call is answered so often at most
+abbrev pub answers : ℕ
+answers = 8192
+
+-- the isolation CCA as a number
+abbrev pub cca : ℕ
+cca = 4
+
+-- the codes of a failed operation are below it
+abbrev pub codes : ℕ
+codes = 65536
+
 -- how many bytes of each permission map are lent: all where permissions are tracked, else none
 abbrev pub bytesIf : ℕ → ℕ
-bytesIf tracked = cond (eqb tracked 1) 64 0
+bytesIf tracked = cond (eqb tracked 1) mapBytes 0
 
 abbrev pub bytesIn : World → ℕ
 bytesIn w = bytesIf (getD (w .state) place.tracked 0)
@@ -72,19 +96,19 @@ withAsked w h = withThese w (w .state) (w .tables) (w .reply) h
 abbrev pub noWorld : World
 noWorld =
     record {
-      private = replicate 64 0;
-      shared = replicate 64 0;
-      read = replicate 64 0;
-      write = replicate 64 0;
-      kernel = replicate 64 0;
-      user = replicate 64 0;
-      state = replicate 128 0;
-      pages = replicate 1024 0;
-      tables = replicate 3460 0;
+      private = replicate mapBytes 0;
+      shared = replicate mapBytes 0;
+      read = replicate mapBytes 0;
+      write = replicate mapBytes 0;
+      kernel = replicate mapBytes 0;
+      user = replicate mapBytes 0;
+      state = replicate stateLen 0;
+      pages = replicate pagesLen 0;
+      tables = replicate tablesLen 0;
       reply = finished 0 0 0 0;
       asked = 0;
     }
 
 -- a recorded code as the entries take it
 abbrev pub codeOf : ℕ → ℕ
-codeOf code = code % 65536
+codeOf code = code % codes

@@ -6,7 +6,7 @@ ghost use Rattle.queries.specs.Queries.{queryOf};
 ghost use Rattle.lock_entries.specs.Calls.{lockOf, unlockOf};
 ghost use Rattle.setting_entries.specs.Calls.{enableOf};
 ghost use Rattle.overlay_entries.specs.Calls.{isOverlayIn};
-ghost use Rattle.playback.specs.World.{lentOf, after, replied, valued};
+ghost use Rattle.playback.specs.World.{mapBytes, lentOf, after, replied, valued};
 ghost use Rattle.playback.specs.Calls.{buildOf, changeIn, changeOf, keptIn, enabledOf, queriedOf, outOf, settingOf, lookIn, lookOf, callOf};
 use crate::entries;
 use crate::world;
@@ -15,6 +15,7 @@ use crate::world::World;
 use abi::place;
 use protector_state::Value;
 use recording::digest;
+use recording::kind;
 
 fn replied(w: World, r: protector_state::Reply) -> World
     ensures { λ x. ⌜ x ≡ replied w r ⌝ }
@@ -31,19 +32,19 @@ fn valued(w: World, r: Value) -> World
 }
 
 fn change_in(w: World, n: usize, c: Call, list: &[u8]) -> World
-    requires { ⌜ n ≤ 64 ⌝ }
+    requires { ⌜ n ≤ mapBytes ⌝ }
     ensures { λ r. ⌜ r ≡ after n w (changeIn (lentOf n w) c (now (list .entry))) ⌝ }
 {
-    if c.kind == 1 {
+    if c.kind == kind::CHANGE_HOST_VISIBILITY {
         return entries::visibility(w, n, c, list);
     }
-    if c.kind == 2 {
+    if c.kind == kind::CHANGE_VTL_PROTECTIONS {
         return entries::protections(w, n, c, list);
     }
-    if c.kind == 3 {
+    if c.kind == kind::CHANGE_DEFAULT_VTL_PROTECTIONS {
         return entries::default(w, n, c);
     }
-    if c.kind == 4 {
+    if c.kind == kind::REGISTER_OVERLAY_PAGE {
         return entries::register(w, n, c);
     }
     entries::unregister(w, n, c)
@@ -112,7 +113,7 @@ fn is_overlay(w: World, c: Call) -> World
 fn setting_in(state: &[u64], c: Call) -> Value
     ensures { λ r. ⌜ r ≡ settingOf (now (state .entry)) c ⌝ }
 {
-    if c.kind == 9 {
+    if c.kind == kind::VTL1_PROTECTIONS_ENABLED {
         return setting_entries::protector_vtl1_protections_enabled(state);
     }
     setting_entries::protector_default_vtl0_protections(state)
@@ -141,8 +142,8 @@ fn query_in(w: World, list: &[u8], out: &mut [u8]) -> World
 fn query(w: World, c: Call, list: &[u8]) -> World
     ensures { λ r. ⌜ r ≡ queriedOf w (queryOf (w .state) (w .shared) (now (list .entry)) (outOf c)) ⌝ }
 {
-    let mut out = [0xa5u8; 520];
-    let n = numbers::min(c.a, 520) as usize;
+    let mut out = [world::UNWRITTEN; world::OUT_BYTES];
+    let n = numbers::min(c.a, world::OUT_BYTES as u64) as usize;
     query_in(w, list, &mut out[..n])
 }
 
@@ -158,7 +159,7 @@ fn look_in(
 ) -> Value
     ensures { λ r. ⌜ r ≡ lookIn (now (state .entry)) (maps (now (private .entry)) (now (shared .entry)) (now (read .entry)) (now (write .entry)) (now (kernel .entry)) (now (user .entry))) c ⌝ }
 {
-    if c.kind == 13 {
+    if c.kind == kind::PAGE_FAULT {
         return underhill_mem::protector_page_fault(
             private,
             shared,
@@ -174,7 +175,7 @@ fn look_in(
             c.e,
         );
     }
-    if c.kind == 14 {
+    if c.kind == kind::QUERY_LOWER_VTL_PERMISSIONS {
         return underhill_mem::protector_query_lower_vtl_permissions(
             private,
             shared,
@@ -227,25 +228,25 @@ fn look(w: World, c: Call) -> World
 pub fn call(w: World, c: Call, list: &[u8]) -> World
     ensures { λ r. ⌜ r ≡ callOf w c (now (list .entry)) ⌝ }
 {
-    if c.kind < 6 {
+    if c.kind < kind::LOCK_GPNS {
         return change(w, c, list);
     }
-    if c.kind == 6 {
+    if c.kind == kind::LOCK_GPNS {
         return lock(w, c, list);
     }
-    if c.kind == 7 {
+    if c.kind == kind::UNLOCK_GPNS {
         return unlock(w, c, list);
     }
-    if c.kind == 8 {
+    if c.kind == kind::SET_VTL1_PROTECTIONS_ENABLED {
         return enable(w);
     }
-    if c.kind < 11 {
+    if c.kind < kind::IS_OVERLAY_PAGE {
         return setting(w, c);
     }
-    if c.kind == 11 {
+    if c.kind == kind::IS_OVERLAY_PAGE {
         return is_overlay(w, c);
     }
-    if c.kind == 12 {
+    if c.kind == kind::QUERY_HOST_VISIBILITY {
         return query(w, c, list);
     }
     look(w, c)

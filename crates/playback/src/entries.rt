@@ -4,19 +4,20 @@ ghost use Prim.Native.Nat.{_≤_};
 ghost use Rattle.protector.specs.Calls.{buildOf, visibilityOf, answerDone, answerFailed};
 ghost use Rattle.protection_entries.specs.Calls.{defaultOf, protectionOf};
 ghost use Rattle.overlay_entries.specs.Calls.{unregisterOf, registerOf};
-ghost use Rattle.playback.specs.World.{lentOf, after, codeOf};
+ghost use Rattle.playback.specs.World.{mapBytes, lentOf, after, codeOf};
+use crate::world::CODES;
 use crate::world::Call;
 use crate::world::World;
 
 fn code_of(code: u64) -> u16
     ensures { λ r. ⌜ r ≡ codeOf code ⌝ }
 {
-    (code % 65536) as u16
+    (code % CODES) as u16
 }
 
 // The world after a build that is lent it.
 pub fn build(w: World, n: usize, c: Call, ram: &[u64]) -> World
-    requires { ⌜ n ≤ 64 ⌝ }
+    requires { ⌜ n ≤ mapBytes ⌝ }
     ensures { λ r. ⌜ r ≡ after n w (buildOf (lentOf n w) (now (ram .entry)) (c .a) (c .b) (c .c)) ⌝ }
 {
     let mut private = w.private;
@@ -59,7 +60,7 @@ pub fn build(w: World, n: usize, c: Call, ram: &[u64]) -> World
 
 // The world after a visibility change.
 pub fn visibility(w: World, n: usize, c: Call, list: &[u8]) -> World
-    requires { ⌜ n ≤ 64 ⌝ }
+    requires { ⌜ n ≤ mapBytes ⌝ }
     ensures { λ r. ⌜ r ≡ after n w (visibilityOf (lentOf n w) (c .a) (c .b) (now (list .entry))) ⌝ }
 {
     let mut private = w.private;
@@ -100,7 +101,7 @@ pub fn visibility(w: World, n: usize, c: Call, list: &[u8]) -> World
 
 // The world after a protection change.
 pub fn protections(w: World, n: usize, c: Call, list: &[u8]) -> World
-    requires { ⌜ n ≤ 64 ⌝ }
+    requires { ⌜ n ≤ mapBytes ⌝ }
     ensures { λ r. ⌜ r ≡ after n w (protectionOf (lentOf n w) (c .a) (c .b) (now (list .entry))) ⌝ }
 {
     let private = w.private;
@@ -139,7 +140,7 @@ pub fn protections(w: World, n: usize, c: Call, list: &[u8]) -> World
 
 // The world after a default change.
 pub fn default(w: World, n: usize, c: Call) -> World
-    requires { ⌜ n ≤ 64 ⌝ }
+    requires { ⌜ n ≤ mapBytes ⌝ }
     ensures { λ r. ⌜ r ≡ after n w (defaultOf (lentOf n w) (c .a) (c .b)) ⌝ }
 {
     let private = w.private;
@@ -177,7 +178,7 @@ pub fn default(w: World, n: usize, c: Call) -> World
 
 // The world after an overlay page is registered.
 pub fn register(w: World, n: usize, c: Call) -> World
-    requires { ⌜ n ≤ 64 ⌝ }
+    requires { ⌜ n ≤ mapBytes ⌝ }
     ensures { λ r. ⌜ r ≡ after n w (registerOf (lentOf n w) (c .a) (c .b) (c .c) (c .d) (c .e)) ⌝ }
 {
     let private = w.private;
@@ -218,7 +219,7 @@ pub fn register(w: World, n: usize, c: Call) -> World
 
 // The world after an overlay page is unregistered.
 pub fn unregister(w: World, n: usize, c: Call) -> World
-    requires { ⌜ n ≤ 64 ⌝ }
+    requires { ⌜ n ≤ mapBytes ⌝ }
     ensures { λ r. ⌜ r ≡ after n w (unregisterOf (lentOf n w) (c .a) (c .b)) ⌝ }
 {
     let private = w.private;
@@ -256,7 +257,7 @@ pub fn unregister(w: World, n: usize, c: Call) -> World
 
 // The world after the answer that the operation asked for is done.
 pub fn done(w: World, n: usize) -> World
-    requires { ⌜ n ≤ 64 ⌝ }
+    requires { ⌜ n ≤ mapBytes ⌝ }
     ensures { λ r. ⌜ r ≡ after n w (answerDone (lentOf n w)) ⌝ }
 {
     let mut private = w.private;
@@ -295,7 +296,7 @@ pub fn done(w: World, n: usize) -> World
 
 // The world after the answer that it failed, with the code and the pages processed that the call names.
 pub fn failed(w: World, n: usize, c: Call) -> World
-    requires { ⌜ n ≤ 64 ⌝ }
+    requires { ⌜ n ≤ mapBytes ⌝ }
     ensures { λ r. ⌜ r ≡ after n w (answerFailed (lentOf n w) (codeOf (c .code)) (c .processed)) ⌝ }
 {
     let mut private = w.private;
