@@ -22,30 +22,30 @@ use Rattle.playback.specs.World.{outBytes, unwritten, bytesIf, bytesIn, 
 -- ---- build, and the calls that ask for operations
 
 abbrev pub buildOf : World → Call → List ℕ → World
-buildOf w c ram = after (bytesIf (c .b)) w (protector.buildOf (lentOf (bytesIf (c .b)) w) ram (c .a) (c .b) (c .c))
+buildOf world c ram = after (bytesIf (c .b)) world (protector.buildOf (lentOf (bytesIf (c .b)) world) ram (c .a) (c .b) (c .c))
 
 -- kinds 1 to 5
 unfoldable pub changeIn : lent.World → Call → List ℕ → lent.Outcome
-changeIn w c l =
-    cond (eqb (c .kind) kind.changeHostVisibility) (protector.visibilityOf w (c .a) (c .b) l)
-    (cond (eqb (c .kind) kind.changeVtlProtections) (protectionOf w (c .a) (c .b) l)
-    (cond (eqb (c .kind) kind.changeDefaultVtlProtections) (defaultOf w (c .a) (c .b))
-    (cond (eqb (c .kind) kind.registerOverlayPage) (registerOf w (c .a) (c .b) (c .c) (c .d) (c .e)) (unregisterOf w (c .a) (c .b)))))
+changeIn world c l =
+    cond (eqb (c .kind) kind.changeHostVisibility) (protector.visibilityOf world (c .a) (c .b) l)
+    (cond (eqb (c .kind) kind.changeVtlProtections) (protectionOf world (c .a) (c .b) l)
+    (cond (eqb (c .kind) kind.changeDefaultVtlProtections) (defaultOf world (c .a) (c .b))
+    (cond (eqb (c .kind) kind.registerOverlayPage) (registerOf world (c .a) (c .b) (c .c) (c .d) (c .e)) (unregisterOf world (c .a) (c .b)))))
 
 abbrev pub changeOf : World → Call → List ℕ → World
-changeOf w c l = after (bytesIn w) w (changeIn (lentOf (bytesIn w) w) c l)
+changeOf world c l = after (bytesIn world) world (changeIn (lentOf (bytesIn world) world) c l)
 
 -- ---- the others
 
 abbrev pub keptIn : World → Kept → World
-keptIn w k = withThese w (w .state) (k .tables) (k .reply) (w .asked)
+keptIn world k = withThese world (world .state) (k .tables) (k .reply) (world .asked)
 
 abbrev pub enabledOf : World → Enabled → World
-enabledOf w e = withThese w (e .state) (w .tables) (e .reply) (w .asked)
+enabledOf world e = withThese world (e .state) (world .tables) (e .reply) (world .asked)
 
 -- the output goes into the digest
 abbrev pub queriedOf : World → Query → World
-queriedOf w q = withThese w (w .state) (w .tables) (q .reply) (digestOf (w .asked) (q .out))
+queriedOf world q = withThese world (world .state) (world .tables) (q .reply) (digestOf (world .asked) (q .out))
 
 -- the output before a query, of the length that the call names
 abbrev pub outOf : Call → List ℕ
@@ -62,15 +62,15 @@ lookIn s m c =
     (cond (eqb (c .kind) kind.queryLowerVtlPermissions) (lowerIn s m (c .a) (c .b)) (accessIn s m (c .a)))
 
 abbrev pub lookOf : World → Call → World
-lookOf w c = valued w (lookIn (w .state) (lentOf (bytesIn w) w .maps) c)
+lookOf world c = valued world (lookIn (world .state) (lentOf (bytesIn world) world .maps) c)
 
 -- a call that is no build
 unfoldable pub callOf : World → Call → List ℕ → World
-callOf w c l =
-    cond (ltb (c .kind) kind.lockGpns) (changeOf w c l)
-    (cond (eqb (c .kind) kind.lockGpns) (keptIn w (lockOf (w .state) (w .tables) (c .a) l))
-    (cond (eqb (c .kind) kind.unlockGpns) (keptIn w (unlockOf (w .state) (w .tables) (c .a) l))
-    (cond (eqb (c .kind) kind.setVtl1ProtectionsEnabled) (enabledOf w (enableOf (w .state)))
-    (cond (ltb (c .kind) kind.isOverlayPage) (valued w (settingOf (w .state) c))
-    (cond (eqb (c .kind) kind.isOverlayPage) (valued w (isOverlayIn (w .state) (w .tables) (c .a) (c .b)))
-    (cond (eqb (c .kind) kind.queryHostVisibility) (queriedOf w (queryOf (w .state) (w .shared) l (outOf c))) (lookOf w c)))))))
+callOf world c l =
+    cond (ltb (c .kind) kind.lockGpns) (changeOf world c l)
+    (cond (eqb (c .kind) kind.lockGpns) (keptIn world (lockOf (world .state) (world .tables) (c .a) l))
+    (cond (eqb (c .kind) kind.unlockGpns) (keptIn world (unlockOf (world .state) (world .tables) (c .a) l))
+    (cond (eqb (c .kind) kind.setVtl1ProtectionsEnabled) (enabledOf world (enableOf (world .state)))
+    (cond (ltb (c .kind) kind.isOverlayPage) (valued world (settingOf (world .state) c))
+    (cond (eqb (c .kind) kind.isOverlayPage) (valued world (isOverlayIn (world .state) (world .tables) (c .a) (c .b)))
+    (cond (eqb (c .kind) kind.queryHostVisibility) (queriedOf world (queryOf (world .state) (world .shared) l (outOf c))) (lookOf world c)))))))

@@ -41,56 +41,56 @@ abbrev pub bytesIf : ℕ → ℕ
 bytesIf tracked = cond (eqb tracked 1) mapBytes 0
 
 abbrev pub bytesIn : World → ℕ
-bytesIn w = bytesIf (getD (w .state) place.tracked 0)
+bytesIn world = bytesIf (getD (world .state) place.tracked 0)
 
 -- what is lent, n bytes of each permission map
 abbrev pub lentOf : ℕ → World → lent.World
-lentOf n w =
-    lent.world (maps (w .private) (w .shared) (take n (w .read)) (take n (w .write)) (take n (w .kernel)) (take n (w .user))) (w .state) (w .pages) (w .tables)
+lentOf n world =
+    lent.world (maps (world .private) (world .shared) (take n (world .read)) (take n (world .write)) (take n (world .kernel)) (take n (world .user))) (world .state) (world .pages) (world .tables)
 
 -- after a call that was lent so: what was lent as it is then, and the reply
 abbrev pub after : ℕ → World → lent.Outcome → World
-after n w o =
+after n world o =
     record {
       private = o .world .maps .private;
       shared = o .world .maps .shared;
-      read = o .world .maps .permissions .read ++ drop n (w .read);
-      write = o .world .maps .permissions .write ++ drop n (w .write);
-      kernel = o .world .maps .permissions .kernel ++ drop n (w .kernel);
-      user = o .world .maps .permissions .user ++ drop n (w .user);
+      read = o .world .maps .permissions .read ++ drop n (world .read);
+      write = o .world .maps .permissions .write ++ drop n (world .write);
+      kernel = o .world .maps .permissions .kernel ++ drop n (world .kernel);
+      user = o .world .maps .permissions .user ++ drop n (world .user);
       state = o .world .state;
       pages = o .world .pages;
       tables = o .world .tables;
       reply = o .reply;
-      asked = w .asked;
+      asked = world .asked;
     }
 
 -- another state block, other tables, reply and digest
 abbrev pub withThese : World → List ℕ → List ℕ → Reply → ℕ → World
-withThese w s t r h =
+withThese world state tables r h =
     record {
-      private = w .private;
-      shared = w .shared;
-      read = w .read;
-      write = w .write;
-      kernel = w .kernel;
-      user = w .user;
-      state = s;
-      pages = w .pages;
-      tables = t;
+      private = world .private;
+      shared = world .shared;
+      read = world .read;
+      write = world .write;
+      kernel = world .kernel;
+      user = world .user;
+      state = state;
+      pages = world .pages;
+      tables = tables;
       reply = r;
       asked = h;
     }
 
 -- a reply, and an answer that is one value, as a reply with the value in the place of the index
 abbrev pub replied : World → Reply → World
-replied w r = withThese w (w .state) (w .tables) r (w .asked)
+replied world r = withThese world (world .state) (world .tables) r (world .asked)
 
 abbrev pub valued : World → Value → World
-valued w v = replied w (finished (v .number) 0 (v .value) 0)
+valued world v = replied world (finished (v .number) 0 (v .value) 0)
 
 abbrev pub withAsked : World → ℕ → World
-withAsked w h = withThese w (w .state) (w .tables) (w .reply) h
+withAsked world h = withThese world (world .state) (world .tables) (world .reply) h
 
 -- before the first build
 abbrev pub noWorld : World

@@ -41,15 +41,15 @@ fn asked(h: u64, pages: &[u64], r: Reply, isolation: u64) -> u64
     all
 }
 
-fn answer(w: World, c: Call, at: u64) -> World
-    ensures { λ r. ⌜ r ≡ answered w c at ⌝ }
+fn answer(world: World, c: Call, at: u64) -> World
+    ensures { λ r. ⌜ r ≡ answered world c at ⌝ }
 {
-    let state = w.state;
-    let pages = w.pages;
-    let r = w.reply;
+    let state = world.state;
+    let pages = world.pages;
+    let r = world.reply;
     let n = world::bytes_if(state[place::TRACKED]);
-    let mut v = w;
-    v.asked = asked(w.asked, &pages, r, state[place::ISOLATION]);
+    let mut v = world;
+    v.asked = asked(world.asked, &pages, r, state[place::ISOLATION]);
     if at == c.place {
         return entries::failed(v, n, c);
     }

@@ -50,32 +50,32 @@ afterLine s at = afterRuns (callAt s at .runs) s (runsAt s at)
 
 -- a call run to its end
 unfoldable pub putOf : World → Call → List ℕ → List ℕ → World
-putOf w c l ram = cond (eqb (c .kind) kind.build) (buildOf (withAsked w start) c ram) (finishedOf (callOf (withAsked w start) c l) c)
+putOf world c l ram = cond (eqb (c .kind) kind.build) (buildOf (withAsked world start) c ram) (finishedOf (callOf (withAsked world start) c l) c)
 
 -- of a call that fails nowhere the place of the code says how often it is put before
 abbrev pub timesBefore : Call → ℕ
 timesBefore c = cond (eqb (c .place) 0) (c .code) 0
 
 unfoldable pub putTimes : ℕ → World → Call → List ℕ → List ℕ → World
-putTimes zero w c l ram = w
-putTimes (suc n) w c l ram = putTimes n (putOf w c l ram) c l ram
+putTimes zero world c l ram = world
+putTimes (suc n) world c l ram = putTimes n (putOf world c l ram) c l ram
 
 abbrev pub putOften : World → Call → List ℕ → List ℕ → World
-putOften w c l ram = putOf (putTimes (timesBefore c) w c l ram) c l ram
+putOften world c l ram = putOf (putTimes (timesBefore c) world c l ram) c l ram
 
 abbrev pub givenBy : World → List ℕ
-givenBy w = resultOf (w .reply .number) ∷ w .reply .code ∷ w .reply .index ∷ w .reply .count ∷ w .asked ∷ leftOf w ∷ []
+givenBy world = resultOf (world .reply .number) ∷ world .reply .code ∷ world .reply .index ∷ world .reply .count ∷ world .asked ∷ leftOf world ∷ []
 
 abbrev pub comparedTo : World → List ℕ → List ℕ → List ℕ
-comparedTo w f t = notedOf t f (givenBy w) (w .reply .number) (getD (w .state) place.isolation 0 % columns + 2)
+comparedTo world f t = notedOf t f (givenBy world) (world .reply .number) (getD (world .state) place.isolation 0 % columns + 2)
 
 abbrev pub worldAfter : List ℕ → World → ℕ → World
-worldAfter s w at = putOften w (callAt s at) (listAt s at) (ramAt s at)
+worldAfter s world at = putOften world (callAt s at) (listAt s at) (ramAt s at)
 
 -- so many lines: the counts, and the place after them
 unfoldable pub tallyAfter : ℕ → List ℕ → World → ℕ → List ℕ → List ℕ
-tallyAfter zero s w at t = t
-tallyAfter (suc n) s w at t = tallyAfter n s (worldAfter s w at) (afterLine s at) (comparedTo (worldAfter s w at) (fieldsAt s at) t)
+tallyAfter zero s world at t = t
+tallyAfter (suc n) s world at t = tallyAfter n s (worldAfter s world at) (afterLine s at) (comparedTo (worldAfter s world at) (fieldsAt s at) t)
 
 unfoldable pub afterLines : ℕ → List ℕ → ℕ → ℕ
 afterLines zero s at = at

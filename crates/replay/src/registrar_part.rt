@@ -39,15 +39,15 @@ fn compare(w: Registry, f: &[u64; field::ALL], tally: &mut [u64])
     tally::note(tally, f, &g, r.number, tally::REGISTRAR);
 }
 
-fn line(input: &[u8], s: Step, tally: &mut [u64]) -> Step
-    ensures { λ r. ⌜ (r .registry ≡ registryAfter (now (input .entry)) (s .registry) (s .next)) × (r .next ≡ afterLine (now (input .entry)) (s .next)) × (now (tally .exit) ≡ registryComparedTo (registryAfter (now (input .entry)) (s .registry) (s .next)) (fieldsAt (now (input .entry)) (s .next)) (now (tally .entry))) ⌝ }
+fn line(input: &[u8], step: Step, tally: &mut [u64]) -> Step
+    ensures { λ r. ⌜ (r .registry ≡ registryAfter (now (input .entry)) (step .registry) (step .next)) × (r .next ≡ afterLine (now (input .entry)) (step .next)) × (now (tally .exit) ≡ registryComparedTo (registryAfter (now (input .entry)) (step .registry) (step .next)) (fieldsAt (now (input .entry)) (step .next)) (now (tally .entry))) ⌝ }
 {
     let mut f = [0u64; field::ALL];
     let mut ram = [0u64; lists::RAM_WORDS];
-    let at = decode::numbers(input, s.next, &mut f);
+    let at = decode::numbers(input, step.next, &mut f);
     let c = tally::call_of(&f);
     let words = lists::ram(&mut ram, input, at, c.runs);
-    let w = registry::call(s.registry, c, lists::words_part(&ram, words));
+    let w = registry::call(step.registry, c, lists::words_part(&ram, words));
     compare(w, &f, tally);
     Step {
         registry: w,
