@@ -7,12 +7,12 @@ use Rattle.protector_state.specs.declared.Reply.{Reply}
 use Rattle.protector_state.specs.Reply.{finished, onVtl}
 
 abbrev pub flushReply : Stage → Change → Reply
-flushReply at.Idle q = finished 0 0 0 (q .count)
-flushReply at.Halted q = finished 0 0 0 (q .count)
-flushReply at.ProtectPages q = finished 0 0 0 (q .count)
-flushReply at.ProtectRam q = finished 0 0 0 (q .count)
-flushReply at.ProtectNew q = finished 0 0 0 (q .count)
-flushReply at.ProtectOld q = finished 0 0 0 (q .count)
-flushReply at.Wait q = finished 0 0 0 (q .count)
-flushReply at.Flush q = onVtl operation.flush (q .flush)
-flushReply at.TlbWait q = onVtl operation.tlbWait (q .vtl)
+flushReply at.Idle change = finished 0 0 0 (change .count)
+flushReply at.Halted change = finished 0 0 0 (change .count)
+flushReply at.ProtectPages change = finished 0 0 0 (change .count)
+flushReply at.ProtectRam change = finished 0 0 0 (change .count)
+flushReply at.ProtectNew change = finished 0 0 0 (change .count)
+flushReply at.ProtectOld change = finished 0 0 0 (change .count)
+flushReply at.Wait change = finished 0 0 0 (change .count)
+flushReply at.Flush change = onVtl operation.flush (change .flush)
+flushReply at.TlbWait change = onVtl operation.tlbWait (change .vtl)

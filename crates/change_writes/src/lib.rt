@@ -46,17 +46,17 @@ pub fn update_run(
     mapping::update_permission_bitmaps(read, write, kernel, user, run.first, last, flags);
 }
 
-fn add_in(overlays: &mut [u64], q: Change)
-    ensures { λ _. ⌜ now (overlays .exit) ≡ addWords (now (overlays .entry)) (entry (q .at) (q .previous) (q .flags) 1 (q .source)) ⌝ }
+fn add_in(overlays: &mut [u64], change: Change)
+    ensures { λ _. ⌜ now (overlays .exit) ≡ addWords (now (overlays .entry)) (entry (change .at) (change .previous) (change .flags) 1 (change .source)) ⌝ }
 {
     let _ = overlay_table::add(
         overlays,
         OverlayPage {
-            gpn: q.at,
-            previous_permissions: q.previous,
-            overlay_permissions: q.flags,
+            gpn: change.at,
+            previous_permissions: change.previous,
+            overlay_permissions: change.flags,
             ref_count: 1,
-            gpn_source: q.source,
+            gpn_source: change.source,
         },
     );
 }
@@ -70,14 +70,14 @@ fn remove_in(overlays: &mut [u64], gpn: u64)
     }
 }
 
-fn add(tables: &mut [u64], q: Change)
+fn add(tables: &mut [u64], change: Change)
     requires { ⌜ length (now tables) ≡ tablesLen ⌝ }
-    ensures { λ _. ⌜ now (tables .exit) ≡ withOverlays (now (tables .entry)) (q .vtl) (addWords (overlaysOf (now (tables .entry)) (q .vtl)) (entry (q .at) (q .previous) (q .flags) 1 (q .source))) ⌝ }
+    ensures { λ _. ⌜ now (tables .exit) ≡ withOverlays (now (tables .entry)) (change .vtl) (addWords (overlaysOf (now (tables .entry)) (change .vtl)) (entry (change .at) (change .previous) (change .flags) 1 (change .source))) ⌝ }
 {
-    let vtl = q.vtl;
+    let vtl = change.vtl;
     match vtl {
-        GuestVtl::Vtl0 => add_in(&mut tables[table::OVERLAYS0..table::OVERLAYS1], q),
-        GuestVtl::Vtl1 => add_in(&mut tables[table::OVERLAYS1..table::LOCKS0], q),
+        GuestVtl::Vtl0 => add_in(&mut tables[table::OVERLAYS0..table::OVERLAYS1], change),
+        GuestVtl::Vtl1 => add_in(&mut tables[table::OVERLAYS1..table::LOCKS0], change),
     }
 }
 
@@ -93,18 +93,43 @@ fn remove(tables: &mut [u64], q: Change)
 }
 
 // The overlay entry of a change.
-fn enter(tables: &mut [u64], entry: Entry, q: Change)
+fn enter(tables: &mut [u64], entry: Entry, change: Change)
     requires { ⌜ length (now tables) ≡ tablesLen ⌝ }
-    ensures { λ _. ⌜ now (tables .exit) ≡ entered entry q (now (tables .entry)) ⌝ }
+    ensures { λ _. ⌜ now (tables .exit) ≡ entered entry change (now (tables .entry)) ⌝ }
 {
     match entry {
         Entry::Keep => {}
-        Entry::Add => add(tables, q),
-        Entry::Remove => remove(tables, q),
+        Entry::Add => add(tables, change),
+        Entry::Remove => remove(tables, change),
     }
 }
 
-// A step carried out: its permissions and its entry written, its stage and change kept.
+// A step carried out but for its entry: its permissions written, its stage and change kept.
+pub fn write_step(
+    read: &mut [u8],
+    write: &mut [u8],
+    kernel: &mut [u8],
+    user: &mut [u8],
+    state: &mut [u64],
+    isolation: IsolationType,
+    step: ChangeStep,
+) -> Reply
+    requires { ⌜ (length (now state) ≡ stateLen) × (step .written .first + step .written .count ≤ 2 ^ 64) ⌝ }
+    ensures { λ _. ⌜ perms (now (read .exit)) (now (write .exit)) (now (kernel .exit)) (now (user .exit)) ≡ permittedRun (step .written) (flagsOf (step .change .flags)) (perms (now (read .entry)) (now (write .entry)) (now (kernel .entry)) (now (user .entry))) ⌝ }
+    ensures { λ _. ⌜ now (state .exit) ≡ withChange (step .stage) (step .change) (now (state .entry)) ⌝ }
+    ensures { λ r. ⌜ r ≡ flatOf isolation (step .answer) ⌝ }
+{
+    let stage = step.stage;
+    let change = step.change;
+    let answer = step.answer;
+    let run = step.written;
+    let flags = HvMapGpaFlags::from_bits(change.flags);
+    update_run(read, write, kernel, user, run, flags);
+    protector_state::change::save(state, stage, change);
+    protector_state::to_reply(isolation, answer)
+}
+
+// A step carried out, with its entry.
 pub fn apply_step(
     read: &mut [u8],
     write: &mut [u8],
@@ -113,24 +138,19 @@ pub fn apply_step(
     state: &mut [u64],
     tables: &mut [u64],
     isolation: IsolationType,
-    x: ChangeStep,
+    step: ChangeStep,
 ) -> Reply
-    requires { ⌜ (length (now state) ≡ stateLen) × (length (now tables) ≡ tablesLen) × (x .written .first + x .written .count ≤ 2 ^ 64) ⌝ }
-    ensures { λ _. ⌜ perms (now (read .exit)) (now (write .exit)) (now (kernel .exit)) (now (user .exit)) ≡ permittedRun (x .written) (flagsOf (x .change .flags)) (perms (now (read .entry)) (now (write .entry)) (now (kernel .entry)) (now (user .entry))) ⌝ }
-    ensures { λ _. ⌜ now (state .exit) ≡ withChange (x .stage) (x .change) (now (state .entry)) ⌝ }
-    ensures { λ _. ⌜ now (tables .exit) ≡ entered (x .entry) (x .change) (now (tables .entry)) ⌝ }
-    ensures { λ r. ⌜ r ≡ flatOf isolation (x .answer) ⌝ }
+    requires { ⌜ (length (now state) ≡ stateLen) × (length (now tables) ≡ tablesLen) × (step .written .first + step .written .count ≤ 2 ^ 64) ⌝ }
+    ensures { λ _. ⌜ perms (now (read .exit)) (now (write .exit)) (now (kernel .exit)) (now (user .exit)) ≡ permittedRun (step .written) (flagsOf (step .change .flags)) (perms (now (read .entry)) (now (write .entry)) (now (kernel .entry)) (now (user .entry))) ⌝ }
+    ensures { λ _. ⌜ now (state .exit) ≡ withChange (step .stage) (step .change) (now (state .entry)) ⌝ }
+    ensures { λ _. ⌜ now (tables .exit) ≡ entered (step .entry) (step .change) (now (tables .entry)) ⌝ }
+    ensures { λ r. ⌜ r ≡ flatOf isolation (step .answer) ⌝ }
 {
-    let stage = x.stage;
-    let change = x.change;
-    let answer = x.answer;
-    let run = x.written;
-    let entry = x.entry;
-    let flags = HvMapGpaFlags::from_bits(change.flags);
-    update_run(read, write, kernel, user, run, flags);
-    protector_state::change::save(state, stage, change);
+    let entry = step.entry;
+    let change = step.change;
+    let reply = write_step(read, write, kernel, user, state, isolation, step);
     enter(tables, entry, change);
-    protector_state::to_reply(isolation, answer)
+    reply
 }
 
 // The next piece of a default change, where that is what waits.
@@ -189,19 +209,19 @@ fn after_failed(state: &[u64]) -> ChangeStep
 }
 
 // What crosses for the stage that follows Wait, Flush or TlbWait.
-fn flush_reply(stage: Stage, q: Change) -> Reply
-    ensures { λ r. ⌜ r ≡ flushReply stage q ⌝ }
+fn flush_reply(stage: Stage, change: Change) -> Reply
+    ensures { λ r. ⌜ r ≡ flushReply stage change ⌝ }
 {
-    let vtl = q.vtl;
-    let flush = q.flush;
+    let vtl = change.vtl;
+    let flush = change.flush;
     match stage {
-        Stage::Idle => protector_state::finished(0, 0, 0, q.count),
-        Stage::Halted => protector_state::finished(0, 0, 0, q.count),
-        Stage::ProtectPages => protector_state::finished(0, 0, 0, q.count),
-        Stage::ProtectRam => protector_state::finished(0, 0, 0, q.count),
-        Stage::ProtectNew => protector_state::finished(0, 0, 0, q.count),
-        Stage::ProtectOld => protector_state::finished(0, 0, 0, q.count),
-        Stage::Wait => protector_state::finished(0, 0, 0, q.count),
+        Stage::Idle => protector_state::finished(0, 0, 0, change.count),
+        Stage::Halted => protector_state::finished(0, 0, 0, change.count),
+        Stage::ProtectPages => protector_state::finished(0, 0, 0, change.count),
+        Stage::ProtectRam => protector_state::finished(0, 0, 0, change.count),
+        Stage::ProtectNew => protector_state::finished(0, 0, 0, change.count),
+        Stage::ProtectOld => protector_state::finished(0, 0, 0, change.count),
+        Stage::Wait => protector_state::finished(0, 0, 0, change.count),
         Stage::Flush => protector_state::on_vtl(operation::FLUSH, flush),
         Stage::TlbWait => protector_state::on_vtl(operation::TLB_WAIT, vtl),
     }

@@ -1,8 +1,9 @@
 -- Flags and VTLs as numbers and back. Assumes nothing.
 use mathlib.Core.Bool.{Bool, true, false}
 use mathlib.Core.Path.{_≡_, refl, ap}
-use Prim.Native.Nat.{ℕ, _/_, _%_, _≤_, _<_}
+use Prim.Native.Nat.{ℕ, _+_, _*_, _/_, _%_, _≤_, _<_}
 use native.Mathlib.Omega.{arith}
+use native.Mathlib.Decide.{decLt}
 use lib.Dec.{eqb}
 use borrow.Author.Tests.{eq-eqb, ne-eqb, lt-ltb, le-ltb, le-leb, lt-leb}
 use Rattle.laws.specs.Bools.{digit, digit-le}
@@ -31,6 +32,25 @@ flags-bits f =
     let ek = told k (n / 4 % 2) (omega arith) in
     let eu = told u (n / 8 % 2) (omega arith) in
     rw (er, ew, ek, eu)
+
+-- the lowest bit of a number, as a flag and back
+lowest : (n : ℕ) → digit (eqb (n % 2) 1) ≡ n % 2
+lowest n = elim (decLt (n % 2) 1) [
+  | yes d ↦ let e : n % 2 ≡ 0 = omega arith in rw e
+  | no d ↦ let e : n % 2 ≡ 1 = omega arith in rw e
+]
+
+pub bits-flags : (n : ℕ) → n < 16 → bitsOf (flagsOf n) ≡ n
+bits-flags n h =
+    let er = lowest n in
+    let ew = lowest (n / 2) in
+    let ek = lowest (n / 4) in
+    let eu = lowest (n / 8) in
+    let two : n / 2 ≡ n / 2 % 2 + 2 * (n / 4) = omega arith in
+    let four : n / 4 ≡ n / 4 % 2 + 2 * (n / 8) = omega arith in
+    let eight : n / 8 ≡ n / 8 % 2 = omega arith in
+    let one : n ≡ n % 2 + 2 * (n / 2) = omega arith in
+    rw (er, ew, ek, eu) (omega (arith, one, two, four, eight))
 
 pub vtl-number : (v : GuestVtl) → vtlOf (vtlNumber v) ≡ v
 vtl-number Vtl0 = refl

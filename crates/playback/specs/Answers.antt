@@ -13,11 +13,11 @@ use Rattle.recording.specs.Digest.{digestWord, digestOf}
 use Rattle.recording.specs.Lists.{partOf}
 use Rattle.playback.specs.declared.world.World.{World}
 use Rattle.playback.specs.declared.world.Call.{Call}
-use Rattle.playback.specs.World.{bytesIn, lentOf, after, withAsked, codeOf}
+use Rattle.playback.specs.World.{answers, cca, bytesIn, lentOf, after, withAsked, codeOf}
 
 -- the original hands CCA's backend no flags
 abbrev pub flagsOf : Reply → ℕ → ℕ
-flagsOf r isolation = cond (eqb isolation 4) 0 (r .flags)
+flagsOf r isolation = cond (eqb isolation cca) 0 (r .flags)
 
 abbrev pub fieldsOf : ℕ → Reply → ℕ → ℕ
 fieldsOf h r isolation =
@@ -30,19 +30,19 @@ askedOf h pages r isolation =
 
 -- the operation asked for in the digest
 abbrev pub noted : World → World
-noted w = withAsked w (askedOf (w .asked) (w .pages) (w .reply) (getD (w .state) place.isolation 0))
+noted world = withAsked world (askedOf (world .asked) (world .pages) (world .reply) (getD (world .state) place.isolation 0))
 
 -- the operation asked for as the call's place says: done, or failed where it is the one
 abbrev pub answerIn : lent.World → Call → ℕ → lent.Outcome
-answerIn w c at = cond (eqb at (c .place)) (answerFailed w (codeOf (c .code)) (c .processed)) (answerDone w)
+answerIn world c at = cond (eqb at (c .place)) (answerFailed world (codeOf (c .code)) (c .processed)) (answerDone world)
 
 unfoldable pub answered : World → Call → ℕ → World
-answered w c at = after (bytesIn w) (noted w) (answerIn (lentOf (bytesIn w) w) c at)
+answered world c at = after (bytesIn world) (noted world) (answerIn (lentOf (bytesIn world) world) c at)
 
 -- so many answers at most, those before counted
 unfoldable pub finishedFrom : ℕ → ℕ → World → Call → World
-finishedFrom zero at w c = w
-finishedFrom (suc n) at w c = cond (eqb (w .reply .operation) 0) w (finishedFrom n (at + 1) (answered w c (at + 1)) c)
+finishedFrom zero at world c = world
+finishedFrom (suc n) at world c = cond (eqb (world .reply .operation) 0) world (finishedFrom n (at + 1) (answered world c (at + 1)) c)
 
 abbrev pub finishedOf : World → Call → World
-finishedOf w c = finishedFrom 8192 0 w c
+finishedOf world c = finishedFrom answers 0 world c

@@ -14,62 +14,63 @@ use Rattle.overlay_entries.specs.Calls.{isOverlayIn, unregisterOf, registerOf}
 use Rattle.lock_entries.specs.Calls.{Kept, lockOf, unlockOf}
 use Rattle.setting_entries.specs.Calls.{Enabled, enableOf, enabledIn, defaultIn}
 use Rattle.recording.specs.Digest.{digestOf}
+use Rattle.recording.specs.Kinds as kind
 use Rattle.playback.specs.declared.world.World.{World}
 use Rattle.playback.specs.declared.world.Call.{Call}
-use Rattle.playback.specs.World.{bytesIf, bytesIn, lentOf, after, withThese, valued}
+use Rattle.playback.specs.World.{outBytes, unwritten, bytesIf, bytesIn, lentOf, after, withThese, valued}
 
 -- ---- build, and the calls that ask for operations
 
 abbrev pub buildOf : World → Call → List ℕ → World
-buildOf w c ram = after (bytesIf (c .b)) w (protector.buildOf (lentOf (bytesIf (c .b)) w) ram (c .a) (c .b) (c .c))
+buildOf world c ram = after (bytesIf (c .b)) world (protector.buildOf (lentOf (bytesIf (c .b)) world) ram (c .a) (c .b) (c .c))
 
 -- kinds 1 to 5
 unfoldable pub changeIn : lent.World → Call → List ℕ → lent.Outcome
-changeIn w c l =
-    cond (eqb (c .kind) 1) (protector.visibilityOf w (c .a) (c .b) l)
-    (cond (eqb (c .kind) 2) (protectionOf w (c .a) (c .b) l)
-    (cond (eqb (c .kind) 3) (defaultOf w (c .a) (c .b))
-    (cond (eqb (c .kind) 4) (registerOf w (c .a) (c .b) (c .c) (c .d) (c .e)) (unregisterOf w (c .a) (c .b)))))
+changeIn world c l =
+    cond (eqb (c .kind) kind.changeHostVisibility) (protector.visibilityOf world (c .a) (c .b) l)
+    (cond (eqb (c .kind) kind.changeVtlProtections) (protectionOf world (c .a) (c .b) l)
+    (cond (eqb (c .kind) kind.changeDefaultVtlProtections) (defaultOf world (c .a) (c .b))
+    (cond (eqb (c .kind) kind.registerOverlayPage) (registerOf world (c .a) (c .b) (c .c) (c .d) (c .e)) (unregisterOf world (c .a) (c .b)))))
 
 abbrev pub changeOf : World → Call → List ℕ → World
-changeOf w c l = after (bytesIn w) w (changeIn (lentOf (bytesIn w) w) c l)
+changeOf world c l = after (bytesIn world) world (changeIn (lentOf (bytesIn world) world) c l)
 
 -- ---- the others
 
 abbrev pub keptIn : World → Kept → World
-keptIn w k = withThese w (w .state) (k .tables) (k .reply) (w .asked)
+keptIn world k = withThese world (world .state) (k .tables) (k .reply) (world .asked)
 
 abbrev pub enabledOf : World → Enabled → World
-enabledOf w e = withThese w (e .state) (w .tables) (e .reply) (w .asked)
+enabledOf world e = withThese world (e .state) (world .tables) (e .reply) (world .asked)
 
 -- the output goes into the digest
 abbrev pub queriedOf : World → Query → World
-queriedOf w q = withThese w (w .state) (w .tables) (q .reply) (digestOf (w .asked) (q .out))
+queriedOf world q = withThese world (world .state) (world .tables) (q .reply) (digestOf (world .asked) (q .out))
 
 -- the output before a query, of the length that the call names
 abbrev pub outOf : Call → List ℕ
-outOf c = take (min (c .a) 520) (replicate 520 165)
+outOf c = take (min (c .a) outBytes) (replicate outBytes unwritten)
 
 -- kinds 9 and 10
 abbrev pub settingOf : List ℕ → Call → Value
-settingOf s c = cond (eqb (c .kind) 9) (enabledIn s) (defaultIn s)
+settingOf s c = cond (eqb (c .kind) kind.vtl1ProtectionsEnabled) (enabledIn s) (defaultIn s)
 
 -- kinds 13 to 15
 unfoldable pub lookIn : List ℕ → Maps → Call → Value
 lookIn s m c =
-    cond (eqb (c .kind) 13) (faultIn s m (c .a) (c .b) (c .c) (c .d) (c .e))
-    (cond (eqb (c .kind) 14) (lowerIn s m (c .a) (c .b)) (accessIn s m (c .a)))
+    cond (eqb (c .kind) kind.pageFault) (faultIn s m (c .a) (c .b) (c .c) (c .d) (c .e))
+    (cond (eqb (c .kind) kind.queryLowerVtlPermissions) (lowerIn s m (c .a) (c .b)) (accessIn s m (c .a)))
 
 abbrev pub lookOf : World → Call → World
-lookOf w c = valued w (lookIn (w .state) (lentOf (bytesIn w) w .maps) c)
+lookOf world c = valued world (lookIn (world .state) (lentOf (bytesIn world) world .maps) c)
 
 -- a call that is no build
 unfoldable pub callOf : World → Call → List ℕ → World
-callOf w c l =
-    cond (ltb (c .kind) 6) (changeOf w c l)
-    (cond (eqb (c .kind) 6) (keptIn w (lockOf (w .state) (w .tables) (c .a) l))
-    (cond (eqb (c .kind) 7) (keptIn w (unlockOf (w .state) (w .tables) (c .a) l))
-    (cond (eqb (c .kind) 8) (enabledOf w (enableOf (w .state)))
-    (cond (ltb (c .kind) 11) (valued w (settingOf (w .state) c))
-    (cond (eqb (c .kind) 11) (valued w (isOverlayIn (w .state) (w .tables) (c .a) (c .b)))
-    (cond (eqb (c .kind) 12) (queriedOf w (queryOf (w .state) (w .shared) l (outOf c))) (lookOf w c)))))))
+callOf world c l =
+    cond (ltb (c .kind) kind.lockGpns) (changeOf world c l)
+    (cond (eqb (c .kind) kind.lockGpns) (keptIn world (lockOf (world .state) (world .tables) (c .a) l))
+    (cond (eqb (c .kind) kind.unlockGpns) (keptIn world (unlockOf (world .state) (world .tables) (c .a) l))
+    (cond (eqb (c .kind) kind.setVtl1ProtectionsEnabled) (enabledOf world (enableOf (world .state)))
+    (cond (ltb (c .kind) kind.isOverlayPage) (valued world (settingOf (world .state) c))
+    (cond (eqb (c .kind) kind.isOverlayPage) (valued world (isOverlayIn (world .state) (world .tables) (c .a) (c .b)))
+    (cond (eqb (c .kind) kind.queryHostVisibility) (queriedOf world (queryOf (world .state) (world .shared) l (outOf c))) (lookOf world c)))))))

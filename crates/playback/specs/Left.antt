@@ -8,15 +8,15 @@ use Rattle.recording.specs.Digest.{start, digestWord, digestOf}
 use Rattle.playback.specs.declared.world.World.{World}
 
 abbrev pub marksOf : World → ℕ
-marksOf w = digestOf (digestOf start (w .private)) (w .shared)
+marksOf world = digestOf (digestOf start (world .private)) (world .shared)
 
 abbrev pub permissionsOf : ℕ → World → ℕ
-permissionsOf h w = digestOf (digestOf (digestOf (digestOf h (w .read)) (w .write)) (w .kernel)) (w .user)
+permissionsOf h world = digestOf (digestOf (digestOf (digestOf h (world .read)) (world .write)) (world .kernel)) (world .user)
 
 -- two maps, or six where permissions are tracked
 unfoldable pub mapsOf : World → ℕ
-mapsOf w = cond (eqb (getD (w .state) place.tracked 0) 1) (permissionsOf (marksOf w) w) (marksOf w)
+mapsOf world = cond (eqb (getD (world .state) place.tracked 0) 1) (permissionsOf (marksOf world) world) (marksOf world)
 
 abbrev pub leftOf : World → ℕ
-leftOf w =
-    digestOf (digestWord (digestWord (digestWord (mapsOf w) (getD (w .state) place.enabled 0)) (getD (w .state) place.default0 0)) (getD (w .state) place.default1 0)) (w .tables)
+leftOf world =
+    digestOf (digestWord (digestWord (digestWord (mapsOf world) (getD (world .state) place.enabled 0)) (getD (world .state) place.default0 0)) (getD (world .state) place.default1 0)) (world .tables)

@@ -6,8 +6,14 @@ use lib.Dec.{eqb}
 use Rattle.registrar_state.specs.declared.Reply.{Reply}
 use Rattle.registrar_state.specs.World as lent
 use Rattle.recording.specs.Digest.{start, digestWord, digestOf}
+use Rattle.recording.specs.Kinds as kind
 use Rattle.playback.specs.declared.world.Call.{Call}
 use Rattle.playback.specs.declared.registry.Registry.{Registry}
+use Rattle.playback.specs.World.{answers}
+
+-- layouts end at chunk 512: the words of a bitmap
+abbrev pub bitmapWords : ℕ
+bitmapWords = 8
 
 abbrev pub lentOf : Registry → lent.World
 lentOf w = lent.world (w .state) (w .registered) (w .failed)
@@ -19,7 +25,7 @@ after o h = record { state = o .world .state; registered = o .world .registered;
 -- kinds 16 to 18
 unfoldable pub startIn : lent.World → Call → List ℕ → lent.Outcome
 startIn w c ram =
-    cond (eqb (c .kind) 16) (lent.buildOf w ram (c .a) (c .b)) (cond (eqb (c .kind) 17) (lent.registerOf w (c .a) (c .b)) (lent.allOf w (c .a) (c .b)))
+    cond (eqb (c .kind) kind.registrarBuild) (lent.buildOf w ram (c .a) (c .b)) (cond (eqb (c .kind) kind.register) (lent.registerOf w (c .a) (c .b)) (lent.allOf w (c .a) (c .b)))
 
 -- the Register asked for goes into the digest and is done, or failed where the call's place says so
 abbrev pub noted : ℕ → Reply → ℕ
@@ -38,7 +44,7 @@ finishedFrom (suc n) at w c = cond (eqb (w .reply .asked) 0) w (finishedFrom n (
 
 -- a call run to its end
 abbrev pub callOf : Registry → Call → List ℕ → Registry
-callOf w c ram = finishedFrom 8192 0 (after (startIn (lentOf w) c ram) start) c
+callOf w c ram = finishedFrom answers 0 (after (startIn (lentOf w) c ram) start) c
 
 -- the fields of a span that is not aligned
 abbrev pub askedOf : Registry → ℕ

@@ -3,6 +3,8 @@ ghost use mathlib.Core.Path.{_≡_};
 ghost use Rattle.playback.specs.Answers.{flagsOf, fieldsOf, askedOf, answered, finishedOf};
 use crate::entries;
 use crate::world;
+use crate::world::ANSWERS;
+use crate::world::CCA;
 use crate::world::Call;
 use crate::world::World;
 use abi::operation;
@@ -14,7 +16,7 @@ use recording::digest;
 fn flags_of(r: Reply, isolation: u64) -> u64
     ensures { λ x. ⌜ x ≡ flagsOf r isolation ⌝ }
 {
-    if isolation == 4 {
+    if isolation == CCA {
         return 0;
     }
     r.flags
@@ -39,28 +41,28 @@ fn asked(h: u64, pages: &[u64], r: Reply, isolation: u64) -> u64
     all
 }
 
-fn answer(w: World, c: Call, at: u64) -> World
-    ensures { λ r. ⌜ r ≡ answered w c at ⌝ }
+fn answer(world: World, c: Call, at: u64) -> World
+    ensures { λ r. ⌜ r ≡ answered world c at ⌝ }
 {
-    let state = w.state;
-    let pages = w.pages;
-    let r = w.reply;
+    let state = world.state;
+    let pages = world.pages;
+    let r = world.reply;
     let n = world::bytes_if(state[place::TRACKED]);
-    let mut v = w;
-    v.asked = asked(w.asked, &pages, r, state[place::ISOLATION]);
+    let mut v = world;
+    v.asked = asked(world.asked, &pages, r, state[place::ISOLATION]);
     if at == c.place {
         return entries::failed(v, n, c);
     }
     entries::done(v, n)
 }
 
-// The world when the call asks for nothing more, or after 8,192 answers.
+// The world when the call asks for nothing more, or after so many answers.
 pub fn finish(first: World, c: Call) -> World
     ensures { λ r. ⌜ r ≡ finishedOf first c ⌝ }
 {
     let mut w = first;
     let mut at: u64 = 0;
-    while at < 8192 {
+    while at < ANSWERS {
         if w.reply.operation == 0 {
             return w;
         }

@@ -4,30 +4,31 @@ ghost use Prim.Native.Nat.{_≤_};
 ghost use Rattle.protector.specs.Calls.{buildOf, visibilityOf, answerDone, answerFailed};
 ghost use Rattle.protection_entries.specs.Calls.{defaultOf, protectionOf};
 ghost use Rattle.overlay_entries.specs.Calls.{unregisterOf, registerOf};
-ghost use Rattle.playback.specs.World.{lentOf, after, codeOf};
+ghost use Rattle.playback.specs.World.{mapBytes, lentOf, after, codeOf};
+use crate::world::CODES;
 use crate::world::Call;
 use crate::world::World;
 
 fn code_of(code: u64) -> u16
     ensures { λ r. ⌜ r ≡ codeOf code ⌝ }
 {
-    (code % 65536) as u16
+    (code % CODES) as u16
 }
 
 // The world after a build that is lent it.
-pub fn build(w: World, n: usize, c: Call, ram: &[u64]) -> World
-    requires { ⌜ n ≤ 64 ⌝ }
-    ensures { λ r. ⌜ r ≡ after n w (buildOf (lentOf n w) (now (ram .entry)) (c .a) (c .b) (c .c)) ⌝ }
+pub fn build(world: World, n: usize, c: Call, ram: &[u64]) -> World
+    requires { ⌜ n ≤ mapBytes ⌝ }
+    ensures { λ r. ⌜ r ≡ after n world (buildOf (lentOf n world) (now (ram .entry)) (c .a) (c .b) (c .c)) ⌝ }
 {
-    let mut private = w.private;
-    let mut shared = w.shared;
-    let mut read = w.read;
-    let mut write = w.write;
-    let mut kernel = w.kernel;
-    let mut user = w.user;
-    let mut state = w.state;
-    let mut pages = w.pages;
-    let mut tables = w.tables;
+    let mut private = world.private;
+    let mut shared = world.shared;
+    let mut read = world.read;
+    let mut write = world.write;
+    let mut kernel = world.kernel;
+    let mut user = world.user;
+    let mut state = world.state;
+    let mut pages = world.pages;
+    let mut tables = world.tables;
     let r = underhill_mem::protector_build(
         ram,
         c.a,
@@ -43,7 +44,7 @@ pub fn build(w: World, n: usize, c: Call, ram: &[u64]) -> World
         &mut pages,
         &mut tables,
     );
-    let mut v = w;
+    let mut v = world;
     v.private = private;
     v.shared = shared;
     v.read = read;
@@ -58,19 +59,19 @@ pub fn build(w: World, n: usize, c: Call, ram: &[u64]) -> World
 }
 
 // The world after a visibility change.
-pub fn visibility(w: World, n: usize, c: Call, list: &[u8]) -> World
-    requires { ⌜ n ≤ 64 ⌝ }
-    ensures { λ r. ⌜ r ≡ after n w (visibilityOf (lentOf n w) (c .a) (c .b) (now (list .entry))) ⌝ }
+pub fn visibility(world: World, n: usize, c: Call, list: &[u8]) -> World
+    requires { ⌜ n ≤ mapBytes ⌝ }
+    ensures { λ r. ⌜ r ≡ after n world (visibilityOf (lentOf n world) (c .a) (c .b) (now (list .entry))) ⌝ }
 {
-    let mut private = w.private;
-    let mut shared = w.shared;
-    let mut read = w.read;
-    let mut write = w.write;
-    let mut kernel = w.kernel;
-    let mut user = w.user;
-    let mut state = w.state;
-    let mut pages = w.pages;
-    let tables = w.tables;
+    let mut private = world.private;
+    let mut shared = world.shared;
+    let mut read = world.read;
+    let mut write = world.write;
+    let mut kernel = world.kernel;
+    let mut user = world.user;
+    let mut state = world.state;
+    let mut pages = world.pages;
+    let tables = world.tables;
     let r = underhill_mem::protector_change_host_visibility(
         &mut private,
         &mut shared,
@@ -85,7 +86,7 @@ pub fn visibility(w: World, n: usize, c: Call, list: &[u8]) -> World
         c.b,
         list,
     );
-    let mut v = w;
+    let mut v = world;
     v.private = private;
     v.shared = shared;
     v.read = read;
@@ -99,19 +100,19 @@ pub fn visibility(w: World, n: usize, c: Call, list: &[u8]) -> World
 }
 
 // The world after a protection change.
-pub fn protections(w: World, n: usize, c: Call, list: &[u8]) -> World
-    requires { ⌜ n ≤ 64 ⌝ }
-    ensures { λ r. ⌜ r ≡ after n w (protectionOf (lentOf n w) (c .a) (c .b) (now (list .entry))) ⌝ }
+pub fn protections(world: World, n: usize, c: Call, list: &[u8]) -> World
+    requires { ⌜ n ≤ mapBytes ⌝ }
+    ensures { λ r. ⌜ r ≡ after n world (protectionOf (lentOf n world) (c .a) (c .b) (now (list .entry))) ⌝ }
 {
-    let private = w.private;
-    let shared = w.shared;
-    let mut read = w.read;
-    let mut write = w.write;
-    let mut kernel = w.kernel;
-    let mut user = w.user;
-    let mut state = w.state;
-    let mut pages = w.pages;
-    let tables = w.tables;
+    let private = world.private;
+    let shared = world.shared;
+    let mut read = world.read;
+    let mut write = world.write;
+    let mut kernel = world.kernel;
+    let mut user = world.user;
+    let mut state = world.state;
+    let mut pages = world.pages;
+    let tables = world.tables;
     let r = protection_entries::protector_change_vtl_protections(
         &private,
         &shared,
@@ -126,7 +127,7 @@ pub fn protections(w: World, n: usize, c: Call, list: &[u8]) -> World
         c.b,
         list,
     );
-    let mut v = w;
+    let mut v = world;
     v.read = read;
     v.write = write;
     v.kernel = kernel;
@@ -138,19 +139,19 @@ pub fn protections(w: World, n: usize, c: Call, list: &[u8]) -> World
 }
 
 // The world after a default change.
-pub fn default(w: World, n: usize, c: Call) -> World
-    requires { ⌜ n ≤ 64 ⌝ }
-    ensures { λ r. ⌜ r ≡ after n w (defaultOf (lentOf n w) (c .a) (c .b)) ⌝ }
+pub fn default(world: World, n: usize, c: Call) -> World
+    requires { ⌜ n ≤ mapBytes ⌝ }
+    ensures { λ r. ⌜ r ≡ after n world (defaultOf (lentOf n world) (c .a) (c .b)) ⌝ }
 {
-    let private = w.private;
-    let shared = w.shared;
-    let mut read = w.read;
-    let mut write = w.write;
-    let mut kernel = w.kernel;
-    let mut user = w.user;
-    let mut state = w.state;
-    let pages = w.pages;
-    let mut tables = w.tables;
+    let private = world.private;
+    let shared = world.shared;
+    let mut read = world.read;
+    let mut write = world.write;
+    let mut kernel = world.kernel;
+    let mut user = world.user;
+    let mut state = world.state;
+    let pages = world.pages;
+    let mut tables = world.tables;
     let r = protection_entries::protector_change_default_vtl_protections(
         &private,
         &shared,
@@ -164,7 +165,7 @@ pub fn default(w: World, n: usize, c: Call) -> World
         c.a,
         c.b,
     );
-    let mut v = w;
+    let mut v = world;
     v.read = read;
     v.write = write;
     v.kernel = kernel;
@@ -176,19 +177,19 @@ pub fn default(w: World, n: usize, c: Call) -> World
 }
 
 // The world after an overlay page is registered.
-pub fn register(w: World, n: usize, c: Call) -> World
-    requires { ⌜ n ≤ 64 ⌝ }
-    ensures { λ r. ⌜ r ≡ after n w (registerOf (lentOf n w) (c .a) (c .b) (c .c) (c .d) (c .e)) ⌝ }
+pub fn register(world: World, n: usize, c: Call) -> World
+    requires { ⌜ n ≤ mapBytes ⌝ }
+    ensures { λ r. ⌜ r ≡ after n world (registerOf (lentOf n world) (c .a) (c .b) (c .c) (c .d) (c .e)) ⌝ }
 {
-    let private = w.private;
-    let shared = w.shared;
-    let mut read = w.read;
-    let mut write = w.write;
-    let mut kernel = w.kernel;
-    let mut user = w.user;
-    let mut state = w.state;
-    let pages = w.pages;
-    let mut tables = w.tables;
+    let private = world.private;
+    let shared = world.shared;
+    let mut read = world.read;
+    let mut write = world.write;
+    let mut kernel = world.kernel;
+    let mut user = world.user;
+    let mut state = world.state;
+    let pages = world.pages;
+    let mut tables = world.tables;
     let r = overlay_entries::protector_register_overlay_page(
         &private,
         &shared,
@@ -205,7 +206,7 @@ pub fn register(w: World, n: usize, c: Call) -> World
         c.d,
         c.e,
     );
-    let mut v = w;
+    let mut v = world;
     v.read = read;
     v.write = write;
     v.kernel = kernel;
@@ -217,19 +218,19 @@ pub fn register(w: World, n: usize, c: Call) -> World
 }
 
 // The world after an overlay page is unregistered.
-pub fn unregister(w: World, n: usize, c: Call) -> World
-    requires { ⌜ n ≤ 64 ⌝ }
-    ensures { λ r. ⌜ r ≡ after n w (unregisterOf (lentOf n w) (c .a) (c .b)) ⌝ }
+pub fn unregister(world: World, n: usize, c: Call) -> World
+    requires { ⌜ n ≤ mapBytes ⌝ }
+    ensures { λ r. ⌜ r ≡ after n world (unregisterOf (lentOf n world) (c .a) (c .b)) ⌝ }
 {
-    let private = w.private;
-    let shared = w.shared;
-    let mut read = w.read;
-    let mut write = w.write;
-    let mut kernel = w.kernel;
-    let mut user = w.user;
-    let mut state = w.state;
-    let pages = w.pages;
-    let mut tables = w.tables;
+    let private = world.private;
+    let shared = world.shared;
+    let mut read = world.read;
+    let mut write = world.write;
+    let mut kernel = world.kernel;
+    let mut user = world.user;
+    let mut state = world.state;
+    let pages = world.pages;
+    let mut tables = world.tables;
     let r = overlay_entries::protector_unregister_overlay_page(
         &private,
         &shared,
@@ -243,7 +244,7 @@ pub fn unregister(w: World, n: usize, c: Call) -> World
         c.a,
         c.b,
     );
-    let mut v = w;
+    let mut v = world;
     v.read = read;
     v.write = write;
     v.kernel = kernel;
@@ -255,19 +256,19 @@ pub fn unregister(w: World, n: usize, c: Call) -> World
 }
 
 // The world after the answer that the operation asked for is done.
-pub fn done(w: World, n: usize) -> World
-    requires { ⌜ n ≤ 64 ⌝ }
-    ensures { λ r. ⌜ r ≡ after n w (answerDone (lentOf n w)) ⌝ }
+pub fn done(world: World, n: usize) -> World
+    requires { ⌜ n ≤ mapBytes ⌝ }
+    ensures { λ r. ⌜ r ≡ after n world (answerDone (lentOf n world)) ⌝ }
 {
-    let mut private = w.private;
-    let mut shared = w.shared;
-    let mut read = w.read;
-    let mut write = w.write;
-    let mut kernel = w.kernel;
-    let mut user = w.user;
-    let mut state = w.state;
-    let mut pages = w.pages;
-    let mut tables = w.tables;
+    let mut private = world.private;
+    let mut shared = world.shared;
+    let mut read = world.read;
+    let mut write = world.write;
+    let mut kernel = world.kernel;
+    let mut user = world.user;
+    let mut state = world.state;
+    let mut pages = world.pages;
+    let mut tables = world.tables;
     let r = underhill_mem::protector_answer_done(
         &mut private,
         &mut shared,
@@ -279,7 +280,7 @@ pub fn done(w: World, n: usize) -> World
         &mut pages,
         &mut tables,
     );
-    let mut v = w;
+    let mut v = world;
     v.private = private;
     v.shared = shared;
     v.read = read;
@@ -294,19 +295,19 @@ pub fn done(w: World, n: usize) -> World
 }
 
 // The world after the answer that it failed, with the code and the pages processed that the call names.
-pub fn failed(w: World, n: usize, c: Call) -> World
-    requires { ⌜ n ≤ 64 ⌝ }
-    ensures { λ r. ⌜ r ≡ after n w (answerFailed (lentOf n w) (codeOf (c .code)) (c .processed)) ⌝ }
+pub fn failed(world: World, n: usize, c: Call) -> World
+    requires { ⌜ n ≤ mapBytes ⌝ }
+    ensures { λ r. ⌜ r ≡ after n world (answerFailed (lentOf n world) (codeOf (c .code)) (c .processed)) ⌝ }
 {
-    let mut private = w.private;
-    let mut shared = w.shared;
-    let mut read = w.read;
-    let mut write = w.write;
-    let mut kernel = w.kernel;
-    let mut user = w.user;
-    let mut state = w.state;
-    let mut pages = w.pages;
-    let mut tables = w.tables;
+    let mut private = world.private;
+    let mut shared = world.shared;
+    let mut read = world.read;
+    let mut write = world.write;
+    let mut kernel = world.kernel;
+    let mut user = world.user;
+    let mut state = world.state;
+    let mut pages = world.pages;
+    let mut tables = world.tables;
     let r = underhill_mem::protector_answer_failed(
         &mut private,
         &mut shared,
@@ -320,7 +321,7 @@ pub fn failed(w: World, n: usize, c: Call) -> World
         code_of(c.code),
         c.processed,
     );
-    let mut v = w;
+    let mut v = world;
     v.private = private;
     v.shared = shared;
     v.read = read;

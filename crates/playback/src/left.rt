@@ -5,37 +5,37 @@ use crate::world::World;
 use abi::place;
 use recording::digest;
 
-fn permissions(h: u64, w: World) -> u64
-    ensures { λ r. ⌜ r ≡ permissionsOf h w ⌝ }
+fn permissions(h: u64, world: World) -> u64
+    ensures { λ r. ⌜ r ≡ permissionsOf h world ⌝ }
 {
-    let read = w.read;
-    let write = w.write;
-    let kernel = w.kernel;
-    let user = w.user;
+    let read = world.read;
+    let write = world.write;
+    let kernel = world.kernel;
+    let user = world.user;
     let two = digest::bytes(digest::bytes(h, &read), &write);
     digest::bytes(digest::bytes(two, &kernel), &user)
 }
 
-fn maps(w: World) -> u64
-    ensures { λ r. ⌜ r ≡ mapsOf w ⌝ }
+fn maps(world: World) -> u64
+    ensures { λ r. ⌜ r ≡ mapsOf world ⌝ }
 {
-    let private = w.private;
-    let shared = w.shared;
-    let state = w.state;
+    let private = world.private;
+    let shared = world.shared;
+    let state = world.state;
     let marks = digest::bytes(digest::bytes(digest::START, &private), &shared);
     if state[place::TRACKED] == 1 {
-        return permissions(marks, w);
+        return permissions(marks, world);
     }
     marks
 }
 
 // The digest of the maps, the settings and the tables.
-pub fn left(w: World) -> u64
-    ensures { λ r. ⌜ r ≡ leftOf w ⌝ }
+pub fn left(world: World) -> u64
+    ensures { λ r. ⌜ r ≡ leftOf world ⌝ }
 {
-    let state = w.state;
-    let tables = w.tables;
-    let enabled = digest::word(maps(w), state[place::ENABLED]);
+    let state = world.state;
+    let tables = world.tables;
+    let enabled = digest::word(maps(world), state[place::ENABLED]);
     let first = digest::word(enabled, state[place::DEFAULT0]);
     let settings = digest::word(first, state[place::DEFAULT1]);
     digest::words(settings, &tables)

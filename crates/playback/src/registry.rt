@@ -2,15 +2,22 @@
 ghost use mathlib.Core.Path.{_≡_};
 ghost use Rattle.registrar_state.specs.World as lent;
 ghost use Rattle.recording.specs.Digest.{start};
+ghost use Rattle.playback.specs.World.{answers};
 ghost use Rattle.playback.specs.Registry.{lentOf, after, startIn, answered, finishedFrom, callOf, askedOf, leftOf};
+use crate::world::ANSWERS;
 use crate::world::Call;
+use abi::REGISTRAR_WORDS;
 use recording::digest;
+use recording::kind;
 use registrar_state::Reply;
 
+// Layouts end at chunk 512.
+pub const BITMAP_WORDS: usize = 8;
+
 pub struct Registry {
-    pub state: [u64; 108],
-    pub registered: [u64; 8],
-    pub failed: [u64; 8],
+    pub state: [u64; REGISTRAR_WORDS],
+    pub registered: [u64; BITMAP_WORDS],
+    pub failed: [u64; BITMAP_WORDS],
     pub reply: Reply,
     pub asked: u64,
 }
@@ -116,21 +123,21 @@ fn answer(w: Registry, c: Call, at: u64) -> Registry
 fn start(w: Registry, c: Call, ram: &[u64]) -> Registry
     ensures { λ r. ⌜ r ≡ after (startIn (lentOf w) c (now (ram .entry))) start ⌝ }
 {
-    if c.kind == 16 {
+    if c.kind == kind::REGISTRAR_BUILD {
         return build(w, c, ram);
     }
-    if c.kind == 17 {
+    if c.kind == kind::REGISTER {
         return register(w, c);
     }
     register_all(w, c)
 }
 
 fn finish(first: Registry, c: Call) -> Registry
-    ensures { λ r. ⌜ r ≡ finishedFrom 8192 0 first c ⌝ }
+    ensures { λ r. ⌜ r ≡ finishedFrom answers 0 first c ⌝ }
 {
     let mut w = first;
     let mut at: u64 = 0;
-    while at < 8192 {
+    while at < ANSWERS {
         if w.reply.asked == 0 {
             return w;
         }
@@ -140,7 +147,7 @@ fn finish(first: Registry, c: Call) -> Registry
     w
 }
 
-// The registry after a call that is run to its end, or to 8,192 answers.
+// The registry after a call that is run to its end, or to so many answers.
 pub fn call(w: Registry, c: Call, ram: &[u64]) -> Registry
     ensures { λ r. ⌜ r ≡ callOf w c (now (ram .entry)) ⌝ }
 {

@@ -1,20 +1,40 @@
 // What is lent to the protector's calls, and a recorded call.
 ghost use mathlib.Core.Path.{_≡_};
 ghost use Prim.Native.Nat.{_≤_};
-ghost use Rattle.playback.specs.World.{bytesIf, noWorld};
+ghost use Rattle.playback.specs.World.{mapBytes, bytesIf, noWorld};
+use abi::PAGES_WORDS;
+use abi::STATE_WORDS;
+use abi::TABLES_WORDS;
 use protector_state::Reply;
+
+// Layouts end at page 512: the bytes of a map.
+pub const MAP_BYTES: usize = 64;
+
+// The longest output of a query, and a byte of it that no call wrote.
+pub const OUT_BYTES: usize = 520;
+
+pub const UNWRITTEN: u8 = 0xa5;
+
+// A call is answered so often at most.
+pub const ANSWERS: u64 = 8192;
+
+// The isolation CCA as a number.
+pub const CCA: u64 = 4;
+
+// The codes of a failed operation are below it.
+pub const CODES: u64 = 65536;
 
 // The runs of docs/ABI.md, the last reply, and the digest of what the call under way asked for.
 pub struct World {
-    pub private: [u8; 64],
-    pub shared: [u8; 64],
-    pub read: [u8; 64],
-    pub write: [u8; 64],
-    pub kernel: [u8; 64],
-    pub user: [u8; 64],
-    pub state: [u64; 128],
-    pub pages: [u64; 1024],
-    pub tables: [u64; 3460],
+    pub private: [u8; MAP_BYTES],
+    pub shared: [u8; MAP_BYTES],
+    pub read: [u8; MAP_BYTES],
+    pub write: [u8; MAP_BYTES],
+    pub kernel: [u8; MAP_BYTES],
+    pub user: [u8; MAP_BYTES],
+    pub state: [u64; STATE_WORDS],
+    pub pages: [u64; PAGES_WORDS as usize],
+    pub tables: [u64; TABLES_WORDS as usize],
     pub reply: Reply,
     pub asked: u64,
 }
@@ -35,10 +55,10 @@ pub struct Call {
 
 // How many bytes of each permission map are lent: all where permissions are tracked, else none.
 pub fn bytes_if(tracked: u64) -> usize
-    ensures { λ r. ⌜ (r ≡ bytesIf tracked) × (r ≤ 64) ⌝ }
+    ensures { λ r. ⌜ (r ≡ bytesIf tracked) × (r ≤ mapBytes) ⌝ }
 {
     if tracked == 1 {
-        return 64;
+        return MAP_BYTES;
     }
     0
 }
@@ -48,15 +68,15 @@ pub fn nothing() -> World
     ensures { λ r. ⌜ r ≡ noWorld ⌝ }
 {
     World {
-        private: [0; 64],
-        shared: [0; 64],
-        read: [0; 64],
-        write: [0; 64],
-        kernel: [0; 64],
-        user: [0; 64],
-        state: [0; 128],
-        pages: [0; 1024],
-        tables: [0; 3460],
+        private: [0; MAP_BYTES],
+        shared: [0; MAP_BYTES],
+        read: [0; MAP_BYTES],
+        write: [0; MAP_BYTES],
+        kernel: [0; MAP_BYTES],
+        user: [0; MAP_BYTES],
+        state: [0; STATE_WORDS],
+        pages: [0; PAGES_WORDS as usize],
+        tables: [0; TABLES_WORDS as usize],
         reply: protector_state::finished(0, 0, 0, 0),
         asked: 0,
     }

@@ -8,11 +8,12 @@ use lib.Dec.{eqb, ltb}
 use native.Mathlib.Numerals.{add-one}
 use lib.ListN.{length, getD, take, drop, length-set, drop-of-length-le}
 use lib.Seq.{drop-cons}
-use borrow.Author.Tests.{eqb-true}
-use Rattle.laws.specs.Refusal.{when-passed}
+use borrow.Author.Tests.{ltb-true, eqb-true}
+use Rattle.abi.specs.Flags.{flagsEnd}
+use Rattle.laws.specs.Refusal.{passed, when-passed}
 use Rattle.layout.specs.Layout.{entriesOf}
 use Rattle.permissions.specs.declared.GuestVtl.{GuestVtl}
-use Rattle.permissions.specs.Flags.{vtlNumber, flagsOf}
+use Rattle.permissions.specs.Flags.{fitVtl, vtlNumber, fitFlags, flagsOf}
 use Rattle.permissions.specs.HvError.{codeOf}
 use Rattle.page_list.specs.declared.PageRun.{PageRun}
 use Rattle.page_list.specs.Pages.{pagesOf, isLong}
@@ -75,12 +76,15 @@ ram-within tracked v flags r h = go (eqb (r .count) 0)
 -- ---- a default change that isn't refused: its lengths
 
 module _ (w : World) (vtl flags n : ℕ) (e : n ≡ defaultRefusal (w .state) (fits w) vtl flags) (z : n ≡ 0) where
-  default-passed : (length (w .state) ≡ stateLen) × (fits w ≡ true)
+  default-passed : (length (w .state) ≡ stateLen) × (fits w ≡ true) × (flags < flagsEnd)
   unfolding defaultRefusal
-  default-passed = let a = is-ready (w .state) (fits w) _ (sym e ∙ z) in (a .long, a .fits)
+  default-passed =
+      let a = is-ready (w .state) (fits w) _ (sym e ∙ z) in
+      let b = passed (fitVtl vtl) 7 _ (a .goes) in
+      (a .long, a .fits, ltb-true flags flagsEnd (passed (fitFlags flags) 7 _ (b .1) .0))
 
-  pub state-fits : length (w .state) ≡ stateLen
-  state-fits = default-passed .0
+  pub default-fits : (length (w .state) ≡ stateLen) × (flags < flagsEnd)
+  default-fits = (default-passed .0, default-passed .2)
 
   pub stored-fits : (v : GuestVtl) (s : List ℕ) → s ≡ storedDefault (w .state) v flags → length s ≡ stateLen
   stored-fits v s q = ap length q ∙ length-set (w .state) (20 + vtlNumber v) flags ∙ default-passed .0

@@ -27,36 +27,36 @@ use Rattle.call_refusals.specs.Refusals.{ready, pageRefusal, firstRefusal}
 -- ---- a default change: 4, 20, 19, 4, 8
 
 unfoldable pub defaultRefusal : List ℕ → Bool → ℕ → ℕ → ℕ
-defaultRefusal s fit vtl flags =
-    ready s fit
+defaultRefusal state fit vtl flags =
+    ready state fit
     (unless (fitVtl vtl) refusal.unfitNumber
     (unless (fitFlags flags) refusal.unfitNumber
     0))
 
 -- the default is stored before locks are looked at ("Defaults"): that of VTL1 stands behind that of VTL0
 abbrev pub storedDefault : List ℕ → GuestVtl → ℕ → List ℕ
-storedDefault s v flags = set s (place.default0 + vtlNumber v) flags
+storedDefault state v flags = set state (place.default0 + vtlNumber v) flags
 
 abbrev pub stored : World → GuestVtl → ℕ → World
 stored w v flags = world (w .maps) (storedDefault (w .state) v flags) (w .pages) (w .tables)
 
 -- 10: a private RAM page without an overlay is locked, in the target VTL
 abbrev pub barred : List ℕ → List ℕ → List ℕ → GuestVtl → Bool
-barred private s tables v = barring.barred private (overlaysOf tables v) (locksOf tables v) (entriesIn s)
+barred private state tables v = barring.barred private (overlaysOf tables v) (locksOf tables v) (entriesIn state)
 
 -- the target VTL's overlays on private RAM pages get the new previous permissions, before the first Protect
 abbrev pub renewedTables : List ℕ → List ℕ → List ℕ → GuestVtl → ℕ → List ℕ
-renewedTables private s tables v flags = withOverlays tables v (renewed private (entriesIn s) flags (overlaysOf tables v))
+renewedTables private state tables v flags = withOverlays tables v (renewed private (entriesIn state) flags (overlaysOf tables v))
 
 abbrev pub renewedIn : World → GuestVtl → ℕ → World
 renewedIn w v flags = world (w .maps) (w .state) (w .pages) (renewedTables (w .maps .private) (w .state) (w .tables) v flags)
 
 -- the first piece is looked for from page 0 on
 abbrev pub firstPiece : List ℕ → List ℕ → List ℕ → GuestVtl → PageRun
-firstPiece private s tables v = nextPiece private (overlaysOf tables v) (entriesIn s) 0
+firstPiece private state tables v = nextPiece private (overlaysOf tables v) (entriesIn state) 0
 
 abbrev pub defaultStep : List ℕ → List ℕ → List ℕ → GuestVtl → ℕ → ChangeStep
-defaultStep private s tables v flags = changes.startRam (settingsOf s .tracked) v flags (firstPiece private s tables v)
+defaultStep private state tables v flags = changes.startRam (settingsOf state .tracked) v flags (firstPiece private state tables v)
 
 unfoldable pub defaultStarted : World → GuestVtl → ℕ → Outcome
 defaultStarted w v flags = carriedChange w (w .pages) (defaultStep (w .maps .private) (w .state) (w .tables) v flags)
@@ -74,29 +74,29 @@ abbrev pub anyShared : List ℕ → List ℕ → Bool
 anyShared shared ps = barring.anyOf (bitAt 8 shared) ps
 
 abbrev pub eachRefusal : List ℕ → List ℕ → GuestVtl → List ℕ → ℕ
-eachRefusal s tables v l = firstRefusal (pageRefusal (entriesIn s) (overlaysOf tables v) (locksOf tables v) true) (pagesOf l)
+eachRefusal state tables v l = firstRefusal (pageRefusal (entriesIn state) (overlaysOf tables v) (locksOf tables v) true) (pagesOf l)
 
 abbrev pub pagesRefusal : List ℕ → List ℕ → List ℕ → GuestVtl → List ℕ → ℕ
-pagesRefusal s shared tables v l =
-    first (eachRefusal s tables v l)
+pagesRefusal state shared tables v l =
+    first (eachRefusal state tables v l)
     (when (anyShared shared (pagesOf l)) refusal.shared
     0)
 
 unfoldable pub protectionRefusal : List ℕ → Bool → List ℕ → List ℕ → ℕ → ℕ → List ℕ → ℕ
-protectionRefusal s fit shared tables vtl flags l =
-    ready s fit
+protectionRefusal state fit shared tables vtl flags l =
+    ready state fit
     (when (isLong l) refusal.longList
     (unless (fitVtl vtl) refusal.unfitNumber
     (unless (fitFlags flags) refusal.unfitNumber
     (when (isRagged l) refusal.unfitNumber
-    (pagesRefusal s shared tables (vtlOf vtl) l)))))
+    (pagesRefusal state shared tables (vtlOf vtl) l)))))
 
 -- all listed pages with their places, in list order
 abbrev pub allListed : List ℕ → List ℕ → List ℕ
-allListed l t = tableOf (λ p. true) (pagesOf l) t
+allListed l pages = tableOf (λ p. true) (pagesOf l) pages
 
 abbrev pub protectionStep : List ℕ → List ℕ → GuestVtl → ℕ → ℕ → ChangeStep
-protectionStep s t v flags n = changes.startPages (settingsOf s .tracked) v flags n t
+protectionStep state pages v flags n = changes.startPages (settingsOf state .tracked) v flags n pages
 
 unfoldable pub protectionTaken : World → GuestVtl → ℕ → List ℕ → Outcome
 protectionTaken w v flags l = carriedChange w (allListed l (w .pages)) (protectionStep (w .state) (allListed l (w .pages)) v flags (length (pagesOf l)))

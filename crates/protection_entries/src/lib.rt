@@ -2,6 +2,7 @@
 ghost use mathlib.Core.Path.{_≡_};
 ghost use Prim.Native.Nat.{_+_, _<_, _≤_, _^_};
 ghost use lib.ListN.{length};
+ghost use Rattle.abi.specs.Flags.{flagsEnd};
 ghost use Rattle.permissions.specs.Flags.{flagsOf};
 ghost use Rattle.page_list.specs.Pages.{pagesOf};
 ghost use Rattle.mapping.specs.Maps.{maps, perms};
@@ -39,13 +40,16 @@ fn default_refusal(state: &[u64], lengths: Lengths, vtl: u64, flags: u64) -> u64
     0
 }
 
+// The default of a VTL: the word of the other's stays as it is.
 fn store_default(state: &mut [u64], vtl: GuestVtl, flags: u64)
-    requires { ⌜ length (now state) ≡ stateLen ⌝ }
+    requires { ⌜ (length (now state) ≡ stateLen) × (flags < flagsEnd) ⌝ }
     ensures { λ _. ⌜ now (state .exit) ≡ storedDefault (now (state .entry)) vtl flags ⌝ }
 {
-    let v = permissions::vtl_number(vtl);
-    let i = place::DEFAULT0 as u64 + v;
-    state[i as usize] = flags;
+    let defaults = protector_state::defaults(state);
+    let set = permissions::set_default(defaults, vtl, HvMapGpaFlags::from_bits(flags));
+    let word = protector_state::default_word(set, vtl);
+    let i = place::DEFAULT0 as u64 + permissions::vtl_number(vtl);
+    state[i as usize] = word;
 }
 
 // Whether a locked page of a VTL bars a change of its default.
@@ -115,7 +119,7 @@ fn default_step(
     ensures { λ r. ⌜ r .written .first + r .written .count ≤ 2 ^ 64 ⌝ }
 {
     let piece = first_piece(private, state, tables, vtl);
-    change_steps::start_ram(state[place::TRACKED] == 1, vtl, flags, piece)
+    change_steps::start_ram(protector_state::is_tracked(state), vtl, flags, piece)
 }
 
 // A step that enters no overlay carried out.
@@ -125,22 +129,15 @@ fn apply_step(
     kernel: &mut [u8],
     user: &mut [u8],
     state: &mut [u64],
-    x: ChangeStep,
+    step: ChangeStep,
 ) -> Reply
-    requires { ⌜ (length (now state) ≡ stateLen) × (x .written .first + x .written .count ≤ 2 ^ 64) ⌝ }
-    ensures { λ _. ⌜ perms (now (read .exit)) (now (write .exit)) (now (kernel .exit)) (now (user .exit)) ≡ permittedRun (x .written) (flagsOf (x .change .flags)) (perms (now (read .entry)) (now (write .entry)) (now (kernel .entry)) (now (user .entry))) ⌝ }
-    ensures { λ _. ⌜ now (state .exit) ≡ withChange (x .stage) (x .change) (now (state .entry)) ⌝ }
-    ensures { λ r. ⌜ r ≡ flatOf (settingsOf (now (state .entry)) .isolation) (x .answer) ⌝ }
+    requires { ⌜ (length (now state) ≡ stateLen) × (step .written .first + step .written .count ≤ 2 ^ 64) ⌝ }
+    ensures { λ _. ⌜ perms (now (read .exit)) (now (write .exit)) (now (kernel .exit)) (now (user .exit)) ≡ permittedRun (step .written) (flagsOf (step .change .flags)) (perms (now (read .entry)) (now (write .entry)) (now (kernel .entry)) (now (user .entry))) ⌝ }
+    ensures { λ _. ⌜ now (state .exit) ≡ withChange (step .stage) (step .change) (now (state .entry)) ⌝ }
+    ensures { λ r. ⌜ r ≡ flatOf (settingsOf (now (state .entry)) .isolation) (step .answer) ⌝ }
 {
-    let isolation = permissions::isolation_of(state[place::ISOLATION]);
-    let stage = x.stage;
-    let change = x.change;
-    let answer = x.answer;
-    let run = x.written;
-    let flags = HvMapGpaFlags::from_bits(change.flags);
-    change_writes::update_run(read, write, kernel, user, run, flags);
-    protector_state::change::save(state, stage, change);
-    protector_state::to_reply(isolation, answer)
+    let isolation = protector_state::isolation(state);
+    change_writes::write_step(read, write, kernel, user, state, isolation, step)
 }
 
 // A VTL has another default, to which its overlays on private RAM will return: asks for a Protect of each run of private RAM
@@ -184,8 +181,8 @@ pub extern "C" fn protector_change_default_vtl_protections(
         return protector_state::refused(refusal::LOCKED);
     }
     update_previous_permissions(tables, private, state, v, flags);
-    let x = default_step(private, state, tables, v, flags);
-    apply_step(read, write, kernel, user, state, x)
+    let step = default_step(private, state, tables, v, flags);
+    apply_step(read, write, kernel, user, state, step)
 }
 
 // Whether a page of a list is shared.
@@ -258,7 +255,7 @@ fn protection_step(state: &[u64], pages: &[u64], vtl: GuestVtl, flags: u64, n: u
     ensures { λ r. ⌜ r ≡ protectionStep (now (state .entry)) (now (pages .entry)) vtl flags n ⌝ }
     ensures { λ r. ⌜ r .written .first + r .written .count ≤ 2 ^ 64 ⌝ }
 {
-    change_steps::start_pages(state[place::TRACKED] == 1, vtl, flags, n, pages)
+    change_steps::start_pages(protector_state::is_tracked(state), vtl, flags, n, pages)
 }
 
 // A VTL has other flags for the pages of a list: asks for a Protect of each run in it, then for Wait, Flush and TlbWait. A
@@ -300,6 +297,6 @@ pub extern "C" fn protector_change_vtl_protections(
     let v = permissions::vtl_of(vtl);
     let count = page_list::page_count(list);
     request_pages::store_all(pages, list);
-    let x = protection_step(state, pages, v, flags, count);
-    apply_step(read, write, kernel, user, state, x)
+    let step = protection_step(state, pages, v, flags, count);
+    apply_step(read, write, kernel, user, state, step)
 }

@@ -9,7 +9,13 @@ use lib.Seq.{take-all, take-length}
 use Rattle.laws.specs.Bools.{digit, chose, chose-not}
 use Rattle.words.proofs.Laws.{filled-next}
 use Rattle.layout.specs.Layout.{entriesOf}
-use Rattle.permissions.specs.Flags.{vtlNumber}
+use Rattle.abi.specs.Flags.{flagsEnd}
+use Rattle.permissions.specs.declared.GuestVtl.{GuestVtl}
+use Rattle.permissions.specs.declared.GuestVtl.the-variants.{Vtl0, Vtl1}
+use Rattle.permissions.specs.declared.DefaultVtlPermissions.{DefaultVtlPermissions}
+use Rattle.permissions.specs.Flags.{vtlNumber, flagsOf}
+use Rattle.permissions.specs.Defaults.{withDefault}
+use Rattle.permissions.proofs.Laws.{bits-flags}
 use Rattle.visibility_steps.specs.declared.Phase.{Phase}
 use Rattle.visibility_steps.specs.declared.Request.{Request}
 use Rattle.permissions.specs.declared.IsolationType.{IsolationType}
@@ -19,7 +25,7 @@ use Rattle.visibility_steps.specs.declared.Answer.the-variants.{Done, AccessDen
 use Rattle.visibility_steps.specs.Steps as visibilitySteps
 use Rattle.protector_state.specs.declared.Reply.{Reply}
 use Rattle.protector_state.specs.Reply.{finished, endedOf, flatOf}
-use Rattle.protector_state.specs.State.{phaseNumber, withRequest, ramOf, builtState}
+use Rattle.protector_state.specs.State.{phaseNumber, withRequest, defaultWord, ramOf, builtState}
 
 -- ---- the request's words
 
@@ -43,6 +49,12 @@ pub request-saved : (p : Phase) (q : Request) (s : List ℕ) (n share vtl stoppe
 request-saved p q s n share vtl stopped failed h e0 e1 e2 e5 e6 =
     saved n share vtl (q .n) (q .at) stopped failed (q .index) (q .code) (q .count) s h ∙ rw (e0, e1, e2, e5, e6) refl
 
+-- ---- the word of a default that is set
+
+pub word-set : (d : DefaultVtlPermissions) (v : GuestVtl) (n : ℕ) → n < flagsEnd → defaultWord (withDefault d v (flagsOf n)) v ≡ n
+word-set d Vtl0 n h = bits-flags n h
+word-set d Vtl1 n h = bits-flags n h
+
 -- ---- the layout's words
 
 pub ram-is : (s : List ℕ) (n : ℕ) → length s ≡ 128 → n ≡ min (getD s 31 0) 32 → take (32 + 3 * n - 32) (drop 32 s) ≡ ramOf s
@@ -59,10 +71,10 @@ abbrev pub filledTo : List ℕ → ℕ → ℕ → ℕ → ℕ → List ℕ
 filledTo ram iso tracked release i =
     0 ∷ 0 ∷ 0 ∷ 0 ∷ 0 ∷ 0 ∷ 0 ∷ 0 ∷ 0 ∷ 0 ∷ 0 ∷ 0 ∷ 0 ∷ 0 ∷ 0 ∷ 0 ∷ iso ∷ tracked ∷ release ∷ 0 ∷ 15 ∷ 16 ∷ 0 ∷ 0 ∷ 0 ∷ 0 ∷ 0 ∷ 0 ∷ 0 ∷ 0 ∷ 0 ∷ length (entriesOf ram) ∷ (take i ram ++ replicate (96 - i) 0)
 
-pub filled-none : (s t ram : List ℕ) (iso tracked release n : ℕ) → length s ≡ 128 → t ≡ replicate (length s) 0 → n ≡ length (entriesOf ram)
-    → set (set (set (set (set (set t 16 iso) 17 tracked) 18 release) 20 15) 21 16) 31 n ≡ filledTo ram iso tracked release 0
-filled-none s t ram iso tracked release n h f e =
-    ap₂ (λ (l : List ℕ) (m : ℕ). set (set (set (set (set (set l 16 iso) 17 tracked) 18 release) 20 15) 21 16) 31 m) (f ∙ ap (λ (k : ℕ). replicate k 0) h) e
+pub filled-none : (s t ram : List ℕ) (iso tracked release a b n : ℕ) → length s ≡ 128 → t ≡ replicate (length s) 0 → a ≡ 15 → b ≡ 16 → n ≡ length (entriesOf ram)
+    → set (set (set (set (set (set t 16 iso) 17 tracked) 18 release) 20 a) 21 b) 31 n ≡ filledTo ram iso tracked release 0
+filled-none s t ram iso tracked release a b n h f d0 d1 e =
+    rw (d0, d1) (ap₂ (λ (l : List ℕ) (m : ℕ). set (set (set (set (set (set l 16 iso) 17 tracked) 18 release) 20 15) 21 16) 31 m) (f ∙ ap (λ (k : ℕ). replicate k 0) h) e)
 
 module _ (ram : List ℕ) (iso tracked release i : ℕ) where
   pub filled-more : i < length ram → i < 96 → set (filledTo ram iso tracked release i) (32 + i) (getD ram i 0) ≡ filledTo ram iso tracked release (i + 1)

@@ -38,28 +38,28 @@ stageOf n =
     Halted))))))
 
 abbrev pub stageIn : List ℕ → Stage
-stageIn s = stageOf (getD s place.phase 0)
+stageIn state = stageOf (getD state place.phase 0)
 
 -- whether such a change is under way
 abbrev pub isChanging : List ℕ → Bool
-isChanging s = leb stage.protectPages (getD s place.phase 0) && ltb (getD s place.phase 0) stage.end
+isChanging state = leb stage.protectPages (getD state place.phase 0) && ltb (getD state place.phase 0) stage.end
 
 abbrev pub changeIn : List ℕ → Change
-changeIn s =
+changeIn state =
     record {
-      vtl = vtlOf (getD s place.vtl 0);
-      flush = vtlOf (getD s place.flush 0);
-      n = min (getD s place.used 0) limit.listedPages;
-      at = getD s place.at 0;
-      flags = getD s place.flags 0;
-      previous = getD s place.previous 0;
-      source = getD s place.source 0;
-      count = getD s place.count 0;
+      vtl = vtlOf (getD state place.vtl 0);
+      flush = vtlOf (getD state place.flush 0);
+      n = min (getD state place.used 0) limit.listedPages;
+      at = getD state place.at 0;
+      flags = getD state place.flags 0;
+      previous = getD state place.previous 0;
+      source = getD state place.source 0;
+      count = getD state place.count 0;
     }
 
 abbrev pub changeWords : Stage → Change → List ℕ
-changeWords g q =
-    stageNumber g ∷ 0 ∷ vtlNumber (q .vtl) ∷ q .n ∷ q .at ∷ 0 ∷ 0 ∷ 0 ∷ 0 ∷ q .count ∷ vtlNumber (q .flush) ∷ q .flags ∷ q .previous ∷ q .source ∷ []
+changeWords g change =
+    stageNumber g ∷ 0 ∷ vtlNumber (change .vtl) ∷ change .n ∷ change .at ∷ 0 ∷ 0 ∷ 0 ∷ 0 ∷ change .count ∷ vtlNumber (change .flush) ∷ change .flags ∷ change .previous ∷ change .source ∷ []
 
 abbrev pub withChange : Stage → Change → List ℕ → List ℕ
-withChange g q s = changeWords g q ++ drop place.afterChange s
+withChange g change state = changeWords g change ++ drop place.afterChange state

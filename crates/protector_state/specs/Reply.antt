@@ -44,8 +44,8 @@ protects i v f r =
 
 -- a Modify has how many pages it asks for; they are the first of the request's table
 abbrev pub modifies : Bool → ℕ → Reply
-modifies s n =
-    record { number = 0; code = 0; index = 0; count = 0; operation = operation.modify; vtl = 0; flags = 0; operand = 0; first = 0; pages = n; shared = digit s }
+modifies share n =
+    record { number = 0; code = 0; index = 0; count = 0; operation = operation.modify; vtl = 0; flags = 0; operand = 0; first = 0; pages = n; shared = digit share }
 
 unfoldable pub askedOf : IsolationType → Operation → Reply
 askedOf i Wait = plain operation.wait
@@ -69,10 +69,10 @@ flatOf i (Refused number) = finished number (codeOf number) 0 0
 
 -- what a visibility change that ends gives, whatever the isolation
 abbrev pub endedOf : Request → Reply
-endedOf q =
-    cond (q .stopped) (finished refusal.accessDenied (codeOf refusal.accessDenied) (q .index) (q .count))
-    (cond (q .failed) (finished refusal.backendFailed (q .code) (q .index) (q .count))
-    (finished 0 0 0 (q .count)))
+endedOf request =
+    cond (request .stopped) (finished refusal.accessDenied (codeOf refusal.accessDenied) (request .index) (request .count))
+    (cond (request .failed) (finished refusal.backendFailed (request .code) (request .index) (request .count))
+    (finished 0 0 0 (request .count)))
 
 -- what crosses for a reading: a number, 0 where none, and the value
 abbrev pub value : ℕ → ℕ → Value

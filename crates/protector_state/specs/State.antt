@@ -15,9 +15,12 @@ use Rattle.abi.specs.Lengths.{ramEntryWords, ramLen}
 use Rattle.laws.specs.Bools.{digit}
 use Rattle.layout.specs.declared.MemoryRangeWithNode.{MemoryRangeWithNode}
 use Rattle.layout.specs.Layout.{entriesOf}
+use Rattle.permissions.specs.declared.GuestVtl.{GuestVtl}
+use Rattle.permissions.specs.declared.GuestVtl.the-variants.{Vtl0, Vtl1}
 use Rattle.permissions.specs.declared.OptionFlags.{OptionFlags}
 use Rattle.permissions.specs.declared.OptionFlags.the-variants.{Some, None}
-use Rattle.permissions.specs.Flags.{vtlOf, vtlNumber, isolationOf, fitFlags, flagsOf, boolOf}
+use Rattle.permissions.specs.declared.DefaultVtlPermissions.{DefaultVtlPermissions}
+use Rattle.permissions.specs.Flags.{vtlOf, vtlNumber, isolationOf, fitFlags, flagsOf, bitsOf, boolOf}
 use Rattle.visibility_steps.specs.declared.Phase.{Phase}
 use Rattle.visibility_steps.specs.declared.Phase.the-variants.{Idle, Halted, Wait, FlushAll, ProtectNone0, ProtectNone1, Invalidate, Release, Modify, Accept, Zero, ProtectDefault0, ProtectDefault1}
 use Rattle.visibility_steps.specs.declared.Request.{Request}
@@ -62,51 +65,63 @@ phaseOf n =
     (firstPhases n))))))
 
 abbrev pub phaseIn : List ℕ → Phase
-phaseIn s = phaseOf (getD s place.phase 0)
+phaseIn state = phaseOf (getD state place.phase 0)
 
 abbrev pub requestOf : List ℕ → Request
-requestOf s =
+requestOf state =
     record {
-      share = boolOf (getD s place.share 0);
-      vtl = vtlOf (getD s place.vtl 0);
-      n = min (getD s place.used 0) limit.listedPages;
-      at = getD s place.at 0;
-      stopped = boolOf (getD s place.stopped 0);
-      failed = boolOf (getD s place.failed 0);
-      index = getD s place.index 0;
-      code = getD s place.code 0;
-      count = getD s place.count 0;
+      share = boolOf (getD state place.share 0);
+      vtl = vtlOf (getD state place.vtl 0);
+      n = min (getD state place.used 0) limit.listedPages;
+      at = getD state place.at 0;
+      stopped = boolOf (getD state place.stopped 0);
+      failed = boolOf (getD state place.failed 0);
+      index = getD state place.index 0;
+      code = getD state place.code 0;
+      count = getD state place.count 0;
     }
 
 abbrev pub requestWords : Phase → Request → List ℕ
-requestWords p q =
-    phaseNumber p ∷ digit (q .share) ∷ vtlNumber (q .vtl) ∷ q .n ∷ q .at ∷ digit (q .stopped) ∷ digit (q .failed) ∷ q .index ∷ q .code ∷ q .count ∷ []
+requestWords p request =
+    phaseNumber p ∷ digit (request .share) ∷ vtlNumber (request .vtl) ∷ request .n ∷ request .at ∷ digit (request .stopped) ∷ digit (request .failed) ∷ request .index ∷ request .code ∷ request .count ∷ []
 
 abbrev pub withRequest : Phase → Request → List ℕ → List ℕ
-withRequest p q s = requestWords p q ++ drop place.afterRequest s
+withRequest p request state = requestWords p request ++ drop place.afterRequest state
 
 -- ---- the settings: isolation, tracked, release flag, protections enabled, default of VTL0, default of VTL1 (16 where none is given)
 
 abbrev pub optionOf : ℕ → OptionFlags
 optionOf n = cond (fitFlags n) (Some (flagsOf n)) None
 
+abbrev pub optionWord : OptionFlags → ℕ
+optionWord (Some f) = bitsOf f
+optionWord None = bits.noFlags
+
+abbrev pub defaultsOf : List ℕ → DefaultVtlPermissions
+defaultsOf state = record { vtl0 = flagsOf (getD state place.default0 0); vtl1 = optionOf (getD state place.default1 0) }
+
+-- the word of a VTL's default
+abbrev pub defaultWord : DefaultVtlPermissions → GuestVtl → ℕ
+defaultWord d Vtl0 = bitsOf (d .vtl0)
+defaultWord d Vtl1 = optionWord (d .vtl1)
+
 abbrev pub settingsOf : List ℕ → Settings
-settingsOf s =
+settingsOf state =
     record {
-      isolation = isolationOf (getD s place.isolation 0);
-      tracked = boolOf (getD s place.tracked 0);
-      release = boolOf (getD s place.release 0);
-      enabled = boolOf (getD s place.enabled 0);
-      defaults = record { vtl0 = flagsOf (getD s place.default0 0); vtl1 = optionOf (getD s place.default1 0) };
+      isolation = isolationOf (getD state place.isolation 0);
+      tracked = boolOf (getD state place.tracked 0);
+      release = boolOf (getD state place.release 0);
+      enabled = boolOf (getD state place.enabled 0);
+      defaults = defaultsOf state;
     }
 
 -- ---- the RAM layout
 
 abbrev pub ramOf : List ℕ → List ℕ
-ramOf s = take (ramEntryWords * getD s place.entries 0) (drop place.ram s)
+ramOf state = take (ramEntryWords * getD state place.entries 0) (drop place.ram state)
 
 abbrev pub entriesIn : List ℕ → List MemoryRangeWithNode
-entriesIn s = entriesOf (ramOf s)
+entriesIn state = entriesOf (ramOf state)
 
 -- ---- as a build leaves it: nothing under way, protections not enabled, the first defaults
 

@@ -87,27 +87,27 @@ pub fn load(state: &[u64]) -> Change
     }
 }
 
-pub fn save(state: &mut [u64], stage: Stage, q: Change)
+pub fn save(state: &mut [u64], stage: Stage, change: Change)
     requires { ⌜ length (now state) ≡ stateLen ⌝ }
-    ensures { λ _. ⌜ now (state .exit) ≡ withChange stage q (now (state .entry)) ⌝ }
+    ensures { λ _. ⌜ now (state .exit) ≡ withChange stage change (now (state .entry)) ⌝ }
 {
-    let vtl = q.vtl;
-    let flush = q.flush;
+    let vtl = change.vtl;
+    let flush = change.flush;
     let g = stage_number(stage);
     let v = permissions::vtl_number(vtl);
     let f = permissions::vtl_number(flush);
     state[place::PHASE] = g;
     state[place::SHARE] = 0;
     state[place::VTL] = v;
-    state[place::USED] = q.n;
-    state[place::AT] = q.at;
+    state[place::USED] = change.n;
+    state[place::AT] = change.at;
     state[place::STOPPED] = 0;
     state[place::FAILED] = 0;
     state[place::INDEX] = 0;
     state[place::CODE] = 0;
-    state[place::COUNT] = q.count;
+    state[place::COUNT] = change.count;
     state[place::FLUSH] = f;
-    state[place::FLAGS] = q.flags;
-    state[place::PREVIOUS] = q.previous;
-    state[place::SOURCE] = q.source;
+    state[place::FLAGS] = change.flags;
+    state[place::PREVIOUS] = change.previous;
+    state[place::SOURCE] = change.source;
 }

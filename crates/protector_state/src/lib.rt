@@ -9,12 +9,11 @@ ghost use Rattle.visibility_steps.specs.Steps.{isSnp, orNone, operationOn};
 ghost use Rattle.visibility_steps.specs.Next.{answerBy};
 ghost use Rattle.permissions.specs.HvError.{codeOf};
 ghost use Rattle.permissions.specs.Rmpadjust.{operandOf};
-ghost use Rattle.protector_state.specs.State.{stateLen, phaseNumber, firstPhases, phaseOf, phaseIn, requestOf, withRequest, optionOf, settingsOf, ramOf, builtState};
+ghost use Rattle.protector_state.specs.State.{stateLen, phaseNumber, firstPhases, phaseOf, phaseIn, requestOf, withRequest, optionOf, optionWord, defaultsOf, defaultWord, settingsOf, ramOf, builtState};
 ghost use Rattle.protector_state.specs.Reply.{finished, plain, onVtl, onRun, protects, modifies, askedOf, endedOf, flatOf, value};
 
 pub mod change;
 
-use abi::ALL_FLAGS;
 use abi::NO_FLAGS;
 use abi::RAM_ENTRY_WORDS;
 use abi::limit;
@@ -255,16 +254,21 @@ pub fn to_reply(isolation: IsolationType, answer: Answer) -> Reply
     }
 }
 
-fn ended(q: Request) -> Reply
-    ensures { λ r. ⌜ r ≡ endedOf q ⌝ }
+fn ended(request: Request) -> Reply
+    ensures { λ r. ⌜ r ≡ endedOf request ⌝ }
 {
-    if q.stopped {
-        return stopped(q.index, q.count);
+    if request.stopped {
+        return stopped(request.index, request.count);
     }
-    if q.failed {
-        return finished(refusal::BACKEND_FAILED, q.code, q.index, q.count);
+    if request.failed {
+        return finished(
+            refusal::BACKEND_FAILED,
+            request.code,
+            request.index,
+            request.count,
+        );
     }
-    finished(0, 0, 0, q.count)
+    finished(0, 0, 0, request.count)
 }
 
 fn phase_number(phase: Phase) -> u64
@@ -362,26 +366,26 @@ pub fn load(state: &[u64]) -> Request
 }
 
 // A phase and its request are stored: no other word is written.
-pub fn save(state: &mut [u64], phase: Phase, q: Request)
+pub fn save(state: &mut [u64], phase: Phase, request: Request)
     requires { ⌜ length (now state) ≡ stateLen ⌝ }
-    ensures { λ _. ⌜ now (state .exit) ≡ withRequest phase q (now (state .entry)) ⌝ }
+    ensures { λ _. ⌜ now (state .exit) ≡ withRequest phase request (now (state .entry)) ⌝ }
 {
-    let vtl = q.vtl;
+    let vtl = request.vtl;
     let p = phase_number(phase);
     let v = permissions::vtl_number(vtl);
-    let share = permissions::bool_to_u64(q.share);
-    let stopped = permissions::bool_to_u64(q.stopped);
-    let failed = permissions::bool_to_u64(q.failed);
+    let share = permissions::bool_to_u64(request.share);
+    let stopped = permissions::bool_to_u64(request.stopped);
+    let failed = permissions::bool_to_u64(request.failed);
     state[place::PHASE] = p;
     state[place::SHARE] = share;
     state[place::VTL] = v;
-    state[place::USED] = q.n;
-    state[place::AT] = q.at;
+    state[place::USED] = request.n;
+    state[place::AT] = request.at;
     state[place::STOPPED] = stopped;
     state[place::FAILED] = failed;
-    state[place::INDEX] = q.index;
-    state[place::CODE] = q.code;
-    state[place::COUNT] = q.count;
+    state[place::INDEX] = request.index;
+    state[place::CODE] = request.code;
+    state[place::COUNT] = request.count;
 }
 
 fn option_of(n: u64) -> OptionFlags
@@ -394,24 +398,54 @@ fn option_of(n: u64) -> OptionFlags
     }
 }
 
+fn option_word(flags: OptionFlags) -> u64
+    ensures { λ r. ⌜ r ≡ optionWord flags ⌝ }
+{
+    match flags {
+        OptionFlags::Some(given) => given.into_bits(),
+        OptionFlags::None => NO_FLAGS,
+    }
+}
+
+// The defaults in the state block.
+pub fn defaults(state: &[u64]) -> DefaultVtlPermissions
+    requires { ⌜ length (now state) ≡ stateLen ⌝ }
+    ensures { λ r. ⌜ r ≡ defaultsOf (now (state .entry)) ⌝ }
+{
+    DefaultVtlPermissions {
+        vtl0: HvMapGpaFlags::from_bits(state[place::DEFAULT0]),
+        vtl1: option_of(state[place::DEFAULT1]),
+    }
+}
+
+// The word of a VTL's default.
+pub fn default_word(defaults: DefaultVtlPermissions, vtl: GuestVtl) -> u64
+    ensures { λ r. ⌜ r ≡ defaultWord defaults vtl ⌝ }
+{
+    let vtl0 = defaults.vtl0;
+    let vtl1 = defaults.vtl1;
+    match vtl {
+        GuestVtl::Vtl0 => vtl0.into_bits(),
+        GuestVtl::Vtl1 => option_word(vtl1),
+    }
+}
+
 // The settings in the state block.
 pub fn settings(state: &[u64]) -> Settings
     requires { ⌜ length (now state) ≡ stateLen ⌝ }
     ensures { λ r. ⌜ r ≡ settingsOf (now (state .entry)) ⌝ }
 {
     Settings {
-        isolation: permissions::isolation_of(state[place::ISOLATION]),
-        tracked: state[place::TRACKED] == 1,
+        isolation: isolation(state),
+        tracked: is_tracked(state),
         release: state[place::RELEASE] == 1,
         enabled: state[place::ENABLED] == 1,
-        defaults: DefaultVtlPermissions {
-            vtl0: HvMapGpaFlags::from_bits(state[place::DEFAULT0]),
-            vtl1: option_of(state[place::DEFAULT1]),
-        },
+        defaults: defaults(state),
     }
 }
 
-fn isolation(state: &[u64]) -> IsolationType
+// The isolation type.
+pub fn isolation(state: &[u64]) -> IsolationType
     requires { ⌜ length (now state) ≡ stateLen ⌝ }
     ensures { λ r. ⌜ r ≡ settingsOf (now (state .entry)) .isolation ⌝ }
 {
@@ -442,9 +476,9 @@ fn default_vtl1(state: &[u64]) -> HvMapGpaFlags
 }
 
 // What crosses for the operation of a phase. Only what it needs is read from the state.
-fn asked_at(state: &[u64], phase: Phase, q: Request, run: PageRun) -> Reply
+fn asked_at(state: &[u64], phase: Phase, request: Request, run: PageRun) -> Reply
     requires { ⌜ length (now state) ≡ stateLen ⌝ }
-    ensures { λ r. ⌜ r ≡ askedOf (settingsOf (now (state .entry)) .isolation) (operationOn (settingsOf (now (state .entry))) phase q run) ⌝ }
+    ensures { λ r. ⌜ r ≡ askedOf (settingsOf (now (state .entry)) .isolation) (operationOn (settingsOf (now (state .entry))) phase request run) ⌝ }
 {
     let vtl0 = GuestVtl::Vtl0;
     let vtl1 = GuestVtl::Vtl1;
@@ -457,7 +491,7 @@ fn asked_at(state: &[u64], phase: Phase, q: Request, run: PageRun) -> Reply
         Phase::ProtectNone1 => protect(isolation(state), vtl1, HvMapGpaFlags::none(), run),
         Phase::Invalidate => on_run(operation::INVALIDATE, run),
         Phase::Release => on_run(operation::RELEASE, run),
-        Phase::Modify => modify(q.share, q.n),
+        Phase::Modify => modify(request.share, request.n),
         Phase::Accept => on_run(operation::ACCEPT, run),
         Phase::Zero => on_run(operation::ZERO, run),
         Phase::ProtectDefault0 => protect(isolation(state), vtl0, default_vtl0(state), run),
@@ -466,13 +500,13 @@ fn asked_at(state: &[u64], phase: Phase, q: Request, run: PageRun) -> Reply
 }
 
 // What crosses for what an answer leads to.
-pub fn next_reply(state: &[u64], turn: Turn, phase: Phase, q: Request, run: PageRun) -> Reply
+pub fn next_reply(state: &[u64], turn: Turn, phase: Phase, request: Request, run: PageRun) -> Reply
     requires { ⌜ length (now state) ≡ stateLen ⌝ }
-    ensures { λ r. ⌜ r ≡ flatOf (settingsOf (now (state .entry)) .isolation) (answerBy turn (settingsOf (now (state .entry))) phase q run) ⌝ }
+    ensures { λ r. ⌜ r ≡ flatOf (settingsOf (now (state .entry)) .isolation) (answerBy turn (settingsOf (now (state .entry))) phase request run) ⌝ }
 {
     match turn {
-        Turn::Ask => asked_at(state, phase, q, run),
-        Turn::End => ended(q),
+        Turn::Ask => asked_at(state, phase, request, run),
+        Turn::End => ended(request),
         Turn::Keep => refused(refusal::NOTHING_ASKED),
     }
 }
@@ -493,12 +527,15 @@ pub fn build_state(state: &mut [u64], ram: &[u64], isolation: u64, tracked: u64,
     ensures { λ _. ⌜ now (state .exit) ≡ builtState (now (ram .entry)) isolation tracked release ⌝ }
 {
     let n = layout::entry_count(ram);
+    let first = DefaultVtlPermissions::new();
+    let default0 = default_word(first, GuestVtl::Vtl0);
+    let default1 = default_word(first, GuestVtl::Vtl1);
     words::clear(state);
     state[place::ISOLATION] = isolation;
     state[place::TRACKED] = tracked;
     state[place::RELEASE] = release;
-    state[place::DEFAULT0] = ALL_FLAGS;
-    state[place::DEFAULT1] = NO_FLAGS;
+    state[place::DEFAULT0] = default0;
+    state[place::DEFAULT1] = default1;
     state[place::ENTRIES] = n;
     let mut i: usize = 0;
     while i < ram.len() {

@@ -1,3 +1,4 @@
 pub mod Decode
 pub mod Digest
+pub mod Kinds
 pub mod Lists

@@ -4,6 +4,9 @@ ghost use Prim.Native.Nat.{_*_, _%_};
 ghost use Rattle.recording.specs.Lists.{afterRuns, filling, withByte, withBytes, withPages, withRuns, entryPlace, withEntry, withEntries, partOf};
 use crate::decode;
 
+// The longest layout.
+pub const RAM_WORDS: usize = 96;
+
 // How many bytes of a list are filled, and the place after the runs read.
 pub struct Filled {
     pub len: usize,

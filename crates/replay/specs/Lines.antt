@@ -4,10 +4,13 @@ use mathlib.Core.List.{List, [], _∷_}
 use Prim.Native.Nat.{ℕ, zero, suc, _+_, _%_}
 use lib.Dec.{eqb}
 use lib.ListN.{getD, replicate}
+use Rattle.abi.specs.Lengths.{registrarLen, ramLen}
+use Rattle.abi.specs.Limits as limit
 use Rattle.abi.specs.Places as place
 use Rattle.registrar_state.specs.World as chunks
 use Rattle.recording.specs.Decode.{numbersAt, afterNumbers}
 use Rattle.recording.specs.Digest.{start}
+use Rattle.recording.specs.Kinds as kind
 use Rattle.recording.specs.Lists.{Filling, filling, afterRuns, withRuns, entryPlace, withEntries, partOf}
 use Rattle.playback.specs.declared.world.World.{World}
 use Rattle.playback.specs.declared.world.Call.{Call}
@@ -17,27 +20,28 @@ use Rattle.playback.specs.Calls.{buildOf, callOf}
 use Rattle.playback.specs.Answers.{finishedOf}
 use Rattle.playback.specs.Left.{leftOf}
 use Rattle.playback.specs.Registry as registry
-use Rattle.replay.specs.Tally.{recorded, resultOf, notedOf}
+use Rattle.replay.specs.Fields as field
+use Rattle.replay.specs.Tally.{columns, registrar, recorded, resultOf, notedOf}
 
 -- ---- a line: its sixteen numbers, the runs that follow, the place after them
 
 abbrev pub fieldsAt : List ℕ → ℕ → List ℕ
-fieldsAt s at = numbersAt 16 s at
+fieldsAt s at = numbersAt field.all s at
 
 abbrev pub runsAt : List ℕ → ℕ → ℕ
-runsAt s at = afterNumbers 16 s at
+runsAt s at = afterNumbers field.all s at
 
 abbrev pub callAt : List ℕ → ℕ → Call
 callAt s at = recorded (fieldsAt s at)
 
 abbrev pub filledAt : List ℕ → ℕ → Filling
-filledAt s at = withRuns (callAt s at .runs) s (runsAt s at) (filling (replicate 4096 0) 0)
+filledAt s at = withRuns (callAt s at .runs) s (runsAt s at) (filling (replicate limit.listBytes 0) 0)
 
 abbrev pub listAt : List ℕ → ℕ → List ℕ
 listAt s at = partOf (filledAt s at .bytes) (filledAt s at .at)
 
 abbrev pub ramAt : List ℕ → ℕ → List ℕ
-ramAt s at = partOf (withEntries (callAt s at .runs) s (runsAt s at) 0 (replicate 96 0)) (entryPlace (callAt s at .runs))
+ramAt s at = partOf (withEntries (callAt s at .runs) s (runsAt s at) 0 (replicate ramLen 0)) (entryPlace (callAt s at .runs))
 
 abbrev pub afterLine : List ℕ → ℕ → ℕ
 afterLine s at = afterRuns (callAt s at .runs) s (runsAt s at)
@@ -46,32 +50,32 @@ afterLine s at = afterRuns (callAt s at .runs) s (runsAt s at)
 
 -- a call run to its end
 unfoldable pub putOf : World → Call → List ℕ → List ℕ → World
-putOf w c l ram = cond (eqb (c .kind) 0) (buildOf (withAsked w start) c ram) (finishedOf (callOf (withAsked w start) c l) c)
+putOf world c l ram = cond (eqb (c .kind) kind.build) (buildOf (withAsked world start) c ram) (finishedOf (callOf (withAsked world start) c l) c)
 
 -- of a call that fails nowhere the place of the code says how often it is put before
 abbrev pub timesBefore : Call → ℕ
 timesBefore c = cond (eqb (c .place) 0) (c .code) 0
 
 unfoldable pub putTimes : ℕ → World → Call → List ℕ → List ℕ → World
-putTimes zero w c l ram = w
-putTimes (suc n) w c l ram = putTimes n (putOf w c l ram) c l ram
+putTimes zero world c l ram = world
+putTimes (suc n) world c l ram = putTimes n (putOf world c l ram) c l ram
 
 abbrev pub putOften : World → Call → List ℕ → List ℕ → World
-putOften w c l ram = putOf (putTimes (timesBefore c) w c l ram) c l ram
+putOften world c l ram = putOf (putTimes (timesBefore c) world c l ram) c l ram
 
 abbrev pub givenBy : World → List ℕ
-givenBy w = resultOf (w .reply .number) ∷ w .reply .code ∷ w .reply .index ∷ w .reply .count ∷ w .asked ∷ leftOf w ∷ []
+givenBy world = resultOf (world .reply .number) ∷ world .reply .code ∷ world .reply .index ∷ world .reply .count ∷ world .asked ∷ leftOf world ∷ []
 
 abbrev pub comparedTo : World → List ℕ → List ℕ → List ℕ
-comparedTo w f t = notedOf t f (givenBy w) (w .reply .number) (getD (w .state) place.isolation 0 % 4 + 2)
+comparedTo world f t = notedOf t f (givenBy world) (world .reply .number) (getD (world .state) place.isolation 0 % columns + 2)
 
 abbrev pub worldAfter : List ℕ → World → ℕ → World
-worldAfter s w at = putOften w (callAt s at) (listAt s at) (ramAt s at)
+worldAfter s world at = putOften world (callAt s at) (listAt s at) (ramAt s at)
 
 -- so many lines: the counts, and the place after them
 unfoldable pub tallyAfter : ℕ → List ℕ → World → ℕ → List ℕ → List ℕ
-tallyAfter zero s w at t = t
-tallyAfter (suc n) s w at t = tallyAfter n s (worldAfter s w at) (afterLine s at) (comparedTo (worldAfter s w at) (fieldsAt s at) t)
+tallyAfter zero s world at t = t
+tallyAfter (suc n) s world at t = tallyAfter n s (worldAfter s world at) (afterLine s at) (comparedTo (worldAfter s world at) (fieldsAt s at) t)
 
 unfoldable pub afterLines : ℕ → List ℕ → ℕ → ℕ
 afterLines zero s at = at
@@ -81,13 +85,13 @@ afterLines (suc n) s at = afterLines n s (afterLine s at)
 
 -- before the first build
 abbrev pub noRegistry : Registry
-noRegistry = record { state = replicate 108 0; registered = replicate 8 0; failed = replicate 8 0; reply = chunks.simple 0 0 0 0 0 0; asked = 0 }
+noRegistry = record { state = replicate registrarLen 0; registered = replicate registry.bitmapWords 0; failed = replicate registry.bitmapWords 0; reply = chunks.simple 0 0 0 0 0 0; asked = 0 }
 
 abbrev pub givenByRegistry : Registry → List ℕ
 givenByRegistry w = resultOf (w .reply .number) ∷ 0 ∷ w .reply .address ∷ w .reply .count ∷ registry.askedOf w ∷ registry.leftOf w ∷ []
 
 abbrev pub registryComparedTo : Registry → List ℕ → List ℕ → List ℕ
-registryComparedTo w f t = notedOf t f (givenByRegistry w) (w .reply .number) 3
+registryComparedTo w f t = notedOf t f (givenByRegistry w) (w .reply .number) registrar
 
 abbrev pub registryAfter : List ℕ → Registry → ℕ → Registry
 registryAfter s w at = registry.callOf w (callAt s at) (ramAt s at)

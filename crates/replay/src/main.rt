@@ -1,10 +1,13 @@
 // Recorded answers of the original, held against the proved entries. The input is the file of recorded calls.
+mod field;
+mod given;
 mod protector_part;
 mod registrar_part;
 mod tally;
 
 use libc::STDIN_FILENO;
 use libc::STDOUT_FILENO;
+use recording::kind;
 
 fn say(text: &[u8]) {
     io::write_all(STDOUT_FILENO, text);
@@ -16,24 +19,24 @@ fn say_number(n: u64) {
 
 fn say_name(kind: u64) {
     match kind {
-        0 => say(b"protector_build"),
-        1 => say(b"change_host_visibility"),
-        2 => say(b"change_vtl_protections"),
-        3 => say(b"change_default_vtl_protections"),
-        4 => say(b"register_overlay_page"),
-        5 => say(b"unregister_overlay_page"),
-        6 => say(b"lock_gpns"),
-        7 => say(b"unlock_gpns"),
-        8 => say(b"set_vtl1_protections_enabled"),
-        9 => say(b"vtl1_protections_enabled"),
-        10 => say(b"default_vtl0_protections"),
-        11 => say(b"is_overlay_page"),
-        12 => say(b"query_host_visibility"),
-        13 => say(b"page_fault"),
-        14 => say(b"query_lower_vtl_permissions"),
-        15 => say(b"query_access_permission"),
-        16 => say(b"registrar_build"),
-        17 => say(b"register"),
+        kind::BUILD => say(b"protector_build"),
+        kind::CHANGE_HOST_VISIBILITY => say(b"change_host_visibility"),
+        kind::CHANGE_VTL_PROTECTIONS => say(b"change_vtl_protections"),
+        kind::CHANGE_DEFAULT_VTL_PROTECTIONS => say(b"change_default_vtl_protections"),
+        kind::REGISTER_OVERLAY_PAGE => say(b"register_overlay_page"),
+        kind::UNREGISTER_OVERLAY_PAGE => say(b"unregister_overlay_page"),
+        kind::LOCK_GPNS => say(b"lock_gpns"),
+        kind::UNLOCK_GPNS => say(b"unlock_gpns"),
+        kind::SET_VTL1_PROTECTIONS_ENABLED => say(b"set_vtl1_protections_enabled"),
+        kind::VTL1_PROTECTIONS_ENABLED => say(b"vtl1_protections_enabled"),
+        kind::DEFAULT_VTL0_PROTECTIONS => say(b"default_vtl0_protections"),
+        kind::IS_OVERLAY_PAGE => say(b"is_overlay_page"),
+        kind::QUERY_HOST_VISIBILITY => say(b"query_host_visibility"),
+        kind::PAGE_FAULT => say(b"page_fault"),
+        kind::QUERY_LOWER_VTL_PERMISSIONS => say(b"query_lower_vtl_permissions"),
+        kind::QUERY_ACCESS_PERMISSION => say(b"query_access_permission"),
+        kind::REGISTRAR_BUILD => say(b"registrar_build"),
+        kind::REGISTER => say(b"register"),
         _ => say(b"register_all_aligned"),
     }
 }
@@ -48,7 +51,7 @@ fn say_column(column: u64) {
 }
 
 fn say_cell(tally: &[u64], kind: u64, column: u64) {
-    let place = kind % 20 * 4 + column % 4;
+    let place = kind % tally::KINDS * tally::COLUMNS + column % tally::COLUMNS;
     let calls = numbers::word_at(tally, tally::CALLS + place);
     if calls == 0 {
         return;
@@ -65,12 +68,12 @@ fn say_row(tally: &[u64], kind: u64) {
     say_cell(tally, kind, 0);
     say_cell(tally, kind, 1);
     say_cell(tally, kind, 2);
-    say_cell(tally, kind, 3);
+    say_cell(tally, kind, tally::REGISTRAR);
     say(b"\n");
 }
 
 fn say_refusal(tally: &[u64], number: u64) {
-    let calls = numbers::word_at(tally, 16 + number % 32);
+    let calls = numbers::word_at(tally, tally::BY_NUMBER + number % tally::NUMBERS);
     if calls == 0 {
         return;
     }
@@ -82,8 +85,8 @@ fn say_refusal(tally: &[u64], number: u64) {
 }
 
 fn say_end(tally: &[u64]) {
-    say_number(numbers::word_at(tally, 0));
-    let others = numbers::word_at(tally, 2);
+    say_number(numbers::word_at(tally, tally::ALL));
+    let others = numbers::word_at(tally, tally::OTHERS);
     if others == 0 {
         say(b" calls, all as recorded\n");
         return;
@@ -95,12 +98,12 @@ fn say_end(tally: &[u64]) {
 
 fn say_all(tally: &[u64]) {
     let mut kind: u64 = 0;
-    while kind < 19 {
+    while kind < kind::END {
         say_row(tally, kind);
         kind += 1;
     }
     let mut number: u64 = 0;
-    while number < 32 {
+    while number < tally::NUMBERS {
         say_refusal(tally, number);
         number += 1;
     }
@@ -123,15 +126,29 @@ fn say_given(result: u64, code: u64, index: u64, count: u64, asked: u64, left: u
 }
 
 // The first call that isn't as recorded.
-fn say_difference(call: u64, f: &[u64; 16], g: &[u64; 6]) {
+fn say_difference(call: u64, f: &[u64; field::ALL], g: &[u64; given::ALL]) {
     say(b"call ");
     say_number(call);
     say(b", ");
-    say_name(f[0]);
+    say_name(f[field::KIND]);
     say(b"\nrecorded ");
-    say_given(f[9], f[10], f[11], f[12], f[13], f[14]);
+    say_given(
+        f[field::RESULT],
+        f[field::CODE],
+        f[field::INDEX],
+        f[field::COUNT],
+        f[field::ASKED],
+        f[field::LEFT],
+    );
     say(b"given    ");
-    say_given(g[0], g[1], g[2], g[3], g[4], g[5]);
+    say_given(
+        g[given::RESULT],
+        g[given::CODE],
+        g[given::INDEX],
+        g[given::COUNT],
+        g[given::ASKED],
+        g[given::LEFT],
+    );
 }
 
 fn replay(input: &[u8], tally: &mut [u64]) {

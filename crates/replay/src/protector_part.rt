@@ -3,7 +3,10 @@ ghost use mathlib.Core.Path.{_≡_};
 ghost use Rattle.recording.specs.Decode.{numberAt};
 ghost use Rattle.playback.specs.World.{noWorld};
 ghost use Rattle.replay.specs.Lines.{fieldsAt, afterLine, putOf, timesBefore, putOften, comparedTo, worldAfter, tallyAfter, afterLines};
+use crate::field;
+use crate::given;
 use crate::tally;
+use abi::limit;
 use abi::place;
 use playback::answers;
 use playback::calls;
@@ -12,6 +15,7 @@ use playback::world;
 use playback::world::Call;
 use playback::world::World;
 use recording::decode;
+use recording::kind;
 use recording::lists;
 
 // What is lent to the next call, and the place of its line.
@@ -20,12 +24,12 @@ struct Step {
     next: usize,
 }
 
-fn put(w: World, c: Call, list: &[u8], ram: &[u64]) -> World
-    ensures { λ r. ⌜ r ≡ putOf w c (now (list .entry)) (now (ram .entry)) ⌝ }
+fn put(world: World, c: Call, list: &[u8], ram: &[u64]) -> World
+    ensures { λ r. ⌜ r ≡ putOf world c (now (list .entry)) (now (ram .entry)) ⌝ }
 {
-    let mut fresh = w;
+    let mut fresh = world;
     fresh.asked = recording::digest::START;
-    if c.kind == 0 {
+    if c.kind == kind::BUILD {
         return calls::build(fresh, c, ram);
     }
     answers::finish(calls::call(fresh, c, list), c)
@@ -41,10 +45,10 @@ fn times_before(c: Call) -> u64
     0
 }
 
-fn put_often(w: World, c: Call, list: &[u8], ram: &[u64]) -> World
-    ensures { λ r. ⌜ r ≡ putOften w c (now (list .entry)) (now (ram .entry)) ⌝ }
+fn put_often(world: World, c: Call, list: &[u8], ram: &[u64]) -> World
+    ensures { λ r. ⌜ r ≡ putOften world c (now (list .entry)) (now (ram .entry)) ⌝ }
 {
-    let mut v = w;
+    let mut v = world;
     let mut left = times_before(c);
     while 0 < left {
         v = put(v, c, list, ram);
@@ -53,30 +57,30 @@ fn put_often(w: World, c: Call, list: &[u8], ram: &[u64]) -> World
     put(v, c, list, ram)
 }
 
-fn compare(w: World, f: &[u64; 16], tally: &mut [u64])
-    ensures { λ _. ⌜ now (tally .exit) ≡ comparedTo w (now (f .entry)) (now (tally .entry)) ⌝ }
+fn compare(world: World, f: &[u64; field::ALL], tally: &mut [u64])
+    ensures { λ _. ⌜ now (tally .exit) ≡ comparedTo world (now (f .entry)) (now (tally .entry)) ⌝ }
 {
-    let r = w.reply;
-    let state = w.state;
+    let r = world.reply;
+    let state = world.state;
     let result = tally::result_of(r.number);
-    let left = left::left(w);
-    let g: [u64; 6] = [result, r.code, r.index, r.count, w.asked, left];
-    let column = state[place::ISOLATION] % 4 + 2;
+    let left = left::left(world);
+    let g: [u64; given::ALL] = [result, r.code, r.index, r.count, world.asked, left];
+    let column = state[place::ISOLATION] % tally::COLUMNS + 2;
     tally::note(tally, f, &g, r.number, column);
 }
 
-fn line(input: &[u8], s: Step, tally: &mut [u64]) -> Step
-    ensures { λ r. ⌜ (r .world ≡ worldAfter (now (input .entry)) (s .world) (s .next)) × (r .next ≡ afterLine (now (input .entry)) (s .next)) × (now (tally .exit) ≡ comparedTo (worldAfter (now (input .entry)) (s .world) (s .next)) (fieldsAt (now (input .entry)) (s .next)) (now (tally .entry))) ⌝ }
+fn line(input: &[u8], step: Step, tally: &mut [u64]) -> Step
+    ensures { λ r. ⌜ (r .world ≡ worldAfter (now (input .entry)) (step .world) (step .next)) × (r .next ≡ afterLine (now (input .entry)) (step .next)) × (now (tally .exit) ≡ comparedTo (worldAfter (now (input .entry)) (step .world) (step .next)) (fieldsAt (now (input .entry)) (step .next)) (now (tally .entry))) ⌝ }
 {
-    let mut f = [0u64; 16];
-    let mut list = [0u8; 4096];
-    let mut ram = [0u64; 96];
-    let at = decode::numbers(input, s.next, &mut f);
+    let mut f = [0u64; field::ALL];
+    let mut list = [0u8; limit::LIST_BYTES];
+    let mut ram = [0u64; lists::RAM_WORDS];
+    let at = decode::numbers(input, step.next, &mut f);
     let c = tally::call_of(&f);
     let filled = lists::fill(&mut list, input, at, c.runs);
     let words = lists::ram(&mut ram, input, at, c.runs);
     let w = put_often(
-        s.world,
+        step.world,
         c,
         lists::part(&list, filled.len),
         lists::words_part(&ram, words),

@@ -42,7 +42,7 @@ returns : tie.Need-returns
 returns c =
     let c4 = c .before .before .before .before in
     let a = c4 .before .before .before .args in
-    laws.put-vtl0 (a .tables .now) _ (λ o. addWords o (entry (a .q .at) (a .q .previous) (a .q .flags) 1 (a .q .source))) (a .q .vtl) (c .before .before .add-in .ensures)
+    laws.put-vtl0 (a .tables .now) _ (λ o. addWords o (entry (a .change .at) (a .change .previous) (a .change .flags) 1 (a .change .source))) (a .change .vtl) (c .before .before .add-in .ensures)
     (c4 .enum-told .given .1)
 
 same-length-2 : tie.Need-same-length-2
@@ -52,7 +52,7 @@ returns-2 : tie.Need-returns-2
 returns-2 c =
     let c4 = c .before .before .before .before in
     let a = c4 .before .before .before .args in
-    laws.put-vtl1 (a .tables .now) _ (λ o. addWords o (entry (a .q .at) (a .q .previous) (a .q .flags) 1 (a .q .source))) (a .q .vtl) (c .before .before .add-in2 .ensures)
+    laws.put-vtl1 (a .tables .now) _ (λ o. addWords o (entry (a .change .at) (a .change .previous) (a .change .flags) 1 (a .change .source))) (a .change .vtl) (c .before .before .add-in2 .ensures)
     (c4 .enum-told2 .given .1)
 
 pub add-spec : {M : Type 1} → statement M

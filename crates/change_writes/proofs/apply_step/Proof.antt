@@ -1,26 +1,13 @@
 -- `change_writes::apply_step` meets its contract. Assumes nothing.
 use borrow.Author.Needs.{needs}
-use mathlib.Core.Path.{ap, _∙_}
-use Rattle.permissions.specs.declared.HvMapGpaFlags.{HvMapGpaFlags}
-use Rattle.mapping.specs.Maps.{perms}
-use Rattle.protector.specs.Writes.{permittedRun}
 use Rattle.change_writes.proofs.apply_step.Statement.{statement}
 use Rattle.change_writes.proofs.apply_step.Tie as tie
-
-from-bits-requires : tie.Need-from-bits-requires
-from-bits-requires c κs = search needs
-
-update-run-requires : tie.Need-update-run-requires
-update-run-requires c κs = search needs
-
-save-requires : tie.Need-save-requires
-save-requires c κs = search needs
 
 enter-requires : tie.Need-enter-requires
 enter-requires c κs = search needs
 
-to-reply-requires : tie.Need-to-reply-requires
-to-reply-requires c κs = search needs
+write-step-requires : tie.Need-write-step-requires
+write-step-requires c κs = search needs
 
 same-length : tie.Need-same-length
 same-length c = search needs
@@ -42,23 +29,15 @@ same-length-6 c = search needs
 
 returns : tie.Need-returns
 returns c =
-    let c7 = c .before .before .before .before .before .before .before in let c17 = c7 .before .before .before .before .before .before .before .before .before .before in
-    let c22 = c17 .before .before .before .before .before in
-    let a = c22 .before .before .before .before .before .before .before .before .before .args in (
-      c17 .update-run .ensures ∙ ap (λ (f : HvMapGpaFlags). permittedRun (a .x .written) f (perms (a .read .now) (a .write .now) (a .kernel .now) (a .user .now)))
-          (c22 .from-bits .ensures),
-      (c7 .save .ensures, (c .before .before .before .enter .ensures, c .to-reply .ensures)),
-    )
+    let c2 = c .before .before in let e = c2 .before .before .before .before .before .before .before .before .before .before .before .before .write-step .ensures in
+    (e .0, (e .1 .0, (c2 .enter .ensures, e .1 .1)))
 
 pub apply-step-spec : {M : Type 1} → statement M
 apply-step-spec =
     tie.close
     (tie.spec
-    from-bits-requires
-    update-run-requires
-    save-requires
+    write-step-requires
     enter-requires
-    to-reply-requires
     same-length
     same-length-2
     same-length-3

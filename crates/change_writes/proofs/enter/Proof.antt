@@ -23,21 +23,21 @@ remove-requires c κs = search needs
 
 returns : tie.Need-returns
 unfolding entered
-returns c = ap (λ (e : Entry). entered e (c .before .before .before .args .q) (c .before .before .before .args .tables .now)) (sym (c .enum-told .given .1))
+returns c = ap (λ (e : Entry). entered e (c .before .before .before .args .change) (c .before .before .before .args .tables .now)) (sym (c .enum-told .given .1))
 
 same-length : tie.Need-same-length
 same-length c = search needs
 
 returns-2 : tie.Need-returns-2
 unfolding entered
-returns-2 c = c .before .before .add .ensures ∙ ap (λ (e : Entry). entered e (c .before .before .before .before .before .before .before .args .q) (c .before .before .before .before .before .before .before .args .tables .now)) (sym (c .before .before .before .before .enum-told2 .given .1))
+returns-2 c = c .before .before .add .ensures ∙ ap (λ (e : Entry). entered e (c .before .before .before .before .before .before .before .args .change) (c .before .before .before .before .before .before .before .args .tables .now)) (sym (c .before .before .before .before .enum-told2 .given .1))
 
 same-length-2 : tie.Need-same-length-2
 same-length-2 c = search needs
 
 returns-3 : tie.Need-returns-3
 unfolding entered
-returns-3 c = c .before .before .remove .ensures ∙ ap (λ (e : Entry). entered e (c .before .before .before .before .before .before .before .args .q) (c .before .before .before .before .before .before .before .args .tables .now)) (sym (c .before .before .before .before .enum-told3 .given .1))
+returns-3 c = c .before .before .remove .ensures ∙ ap (λ (e : Entry). entered e (c .before .before .before .before .before .before .before .args .change) (c .before .before .before .before .before .before .before .args .tables .now)) (sym (c .before .before .before .before .enum-told3 .given .1))
 
 pub enter-spec : {M : Type 1} → statement M
 enter-spec =

@@ -1,4 +1,4 @@
--- `default_change::set_in` meets its contract: a walk of its MIR, by hand. The record is copied into a local, the local is lent for a lifetime that the walk makes, `set` is called, the lifetime ends, and the local comes back at the value that `set` ensures.
+-- `permissions::set_default` meets its contract: a walk of its MIR, by hand. The record is copied into a local, the local is lent for a lifetime that the walk makes, `set` is called, the lifetime ends, and the local comes back at the value that `set` ensures.
 -- All that the proof knows of `set` is that it meets its contract.
 -- Assumes nothing.
 use mathlib.Core.Path.{_≡_, refl, sym, ap, subst}

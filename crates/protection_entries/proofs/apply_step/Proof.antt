@@ -1,31 +1,16 @@
 -- `protection_entries::apply_step` meets its contract. Assumes nothing.
 use borrow.Author.Needs.{needs}
 use mathlib.Core.Path.{ap, _∙_}
-use Rattle.permissions.specs.declared.HvMapGpaFlags.{HvMapGpaFlags}
 use Rattle.permissions.specs.declared.IsolationType.{IsolationType}
-use Rattle.mapping.specs.Maps.{perms}
 use Rattle.protector_state.specs.Reply.{flatOf}
-use Rattle.protector.specs.Writes.{permittedRun}
 use Rattle.protection_entries.proofs.apply_step.Statement.{statement}
 use Rattle.protection_entries.proofs.apply_step.Tie as tie
 
-slice-read-isolation-of : tie.Need-slice-read-isolation-of
-slice-read-isolation-of c = search needs
+isolation-requires : tie.Need-isolation-requires
+isolation-requires c κs = search needs
 
-isolation-of-requires : tie.Need-isolation-of-requires
-isolation-of-requires c κs = search needs
-
-from-bits-requires : tie.Need-from-bits-requires
-from-bits-requires c κs = search needs
-
-update-run-requires : tie.Need-update-run-requires
-update-run-requires c κs = search needs
-
-save-requires : tie.Need-save-requires
-save-requires c κs = search needs
-
-to-reply-requires : tie.Need-to-reply-requires
-to-reply-requires c κs = search needs
+write-step-requires : tie.Need-write-step-requires
+write-step-requires c κs = search needs
 
 same-length : tie.Need-same-length
 same-length c = search needs
@@ -44,24 +29,17 @@ same-length-5 c = search needs
 
 returns : tie.Need-returns
 returns c =
-    let c13 = c .before .before .before .before .before .before .before .before .before .before .before .before .before in let c18 = c13 .before .before .before .before .before in
-    let c21 = c18 .before .before .before in
-    let a = c21 .before .before .before .before .before .before .before .args in (
-      c13 .update-run .ensures ∙ ap (λ (f : HvMapGpaFlags). permittedRun (a .x .written) f (perms (a .read .now) (a .write .now) (a .kernel .now) (a .user .now)))
-          (c18 .from-bits .ensures),
-      (c .before .before .before .save .ensures, c .to-reply .ensures ∙ ap (λ (i : IsolationType). flatOf i (a .x .answer)) (c21 .isolation-of .ensures)),
-    )
+    let c10 = c .before .before .before .before .before .before .before .before .before .before in let c16 = c10 .before .before .before .before .before .before in
+    let a = c16 .before .before .before .before .before .before .before .args in
+    let e = c10 .write-step .ensures in
+    (e .0, (e .1 .0, e .1 .1 ∙ ap (λ (i : IsolationType). flatOf i (a .step .answer)) (c16 .isolation .ensures)))
 
 pub apply-step-spec : {M : Type 1} → statement M
 apply-step-spec =
     tie.close
     (tie.spec
-    slice-read-isolation-of
-    isolation-of-requires
-    from-bits-requires
-    update-run-requires
-    save-requires
-    to-reply-requires
+    isolation-requires
+    write-step-requires
     same-length
     same-length-2
     same-length-3

@@ -33,7 +33,7 @@ vtl-of-requires c κs = search needs
 store-default-requires : tie.Need-store-default-requires
 store-default-requires c κs =
     let a = c .before .before .before .before .before .before .before .before .before .before .before .before .before .before .args in
-    laws.state-fits (world (maps (a .private .now) (a .shared .now) (a .read .now) (a .write .now) (a .kernel .now) (a .user .now)) (a .state .now) (a .pages .now)
+    laws.default-fits (world (maps (a .private .now) (a .shared .now) (a .read .now) (a .write .now) (a .kernel .now) (a .user .now)) (a .state .now) (a .pages .now)
     (a .tables .now)) (a .vtl) (a .flags) _ (c .before .before .before .default-refusal .ensures) (c .before .before .if1 .left)
 
 has-locked-page-requires : tie.Need-has-locked-page-requires

@@ -1,6 +1,6 @@
 -- `protector::apply` meets its contract. Assumes nothing.
 use borrow.Author.Needs.{needs}
-use Rattle.mapping.specs.Maps.{maps, perms}
+use Rattle.mapping.specs.Maps.{maps}
 use Rattle.protector.proofs.Laws as laws
 use Rattle.protector.proofs.apply.Statement.{statement}
 use Rattle.protector.proofs.apply.Tie as tie

@@ -117,91 +117,91 @@ unfolding askedOf
 returns c =
     let a = c .before .before .before .before .args in
     c .plain .ensures
-    ∙ ap (λ (p : Phase). askedOf (settingsOf (a .state .now) .isolation) (operationOn (settingsOf (a .state .now)) p (a .q) (a .run))) (sym (c .before .enum-told .given .1))
+    ∙ ap (λ (p : Phase). askedOf (settingsOf (a .state .now) .isolation) (operationOn (settingsOf (a .state .now)) p (a .request) (a .run))) (sym (c .before .enum-told .given .1))
 
 returns-2 : tie.Need-returns-2
 unfolding askedOf
 returns-2 c =
     let a = c .before .before .before .before .args in
     c .plain2 .ensures
-    ∙ ap (λ (p : Phase). askedOf (settingsOf (a .state .now) .isolation) (operationOn (settingsOf (a .state .now)) p (a .q) (a .run))) (sym (c .before .enum-told2 .given .1))
+    ∙ ap (λ (p : Phase). askedOf (settingsOf (a .state .now) .isolation) (operationOn (settingsOf (a .state .now)) p (a .request) (a .run))) (sym (c .before .enum-told2 .given .1))
 
 returns-3 : tie.Need-returns-3
 unfolding askedOf
 returns-3 c =
     let a = c .before .before .before .before .args in
     c .plain3 .ensures
-    ∙ ap (λ (p : Phase). askedOf (settingsOf (a .state .now) .isolation) (operationOn (settingsOf (a .state .now)) p (a .q) (a .run))) (sym (c .before .enum-told3 .given .1))
+    ∙ ap (λ (p : Phase). askedOf (settingsOf (a .state .now) .isolation) (operationOn (settingsOf (a .state .now)) p (a .request) (a .run))) (sym (c .before .enum-told3 .given .1))
 
 returns-4 : tie.Need-returns-4
 unfolding askedOf
 returns-4 c =
     let a = c .before .before .before .before .args in
     c .plain4 .ensures
-    ∙ ap (λ (p : Phase). askedOf (settingsOf (a .state .now) .isolation) (operationOn (settingsOf (a .state .now)) p (a .q) (a .run))) (sym (c .before .enum-told4 .given .1))
+    ∙ ap (λ (p : Phase). askedOf (settingsOf (a .state .now) .isolation) (operationOn (settingsOf (a .state .now)) p (a .request) (a .run))) (sym (c .before .enum-told4 .given .1))
 
 returns-5 : tie.Need-returns-5
 unfolding askedOf
 returns-5 c =
     let a = c .before .before .before .before .before .before .args in
     c .protect .ensures ∙ ap₂ (λ (i : IsolationType) (f : HvMapGpaFlags). protects i Vtl0 f (a .run)) (c .before .before .isolation .ensures) (c .before .none .ensures)
-    ∙ ap (λ (p : Phase). askedOf (settingsOf (a .state .now) .isolation) (operationOn (settingsOf (a .state .now)) p (a .q) (a .run))) (sym (c .before .before .before .enum-told5 .given .1))
+    ∙ ap (λ (p : Phase). askedOf (settingsOf (a .state .now) .isolation) (operationOn (settingsOf (a .state .now)) p (a .request) (a .run))) (sym (c .before .before .before .enum-told5 .given .1))
 
 returns-6 : tie.Need-returns-6
 unfolding askedOf
 returns-6 c =
     let a = c .before .before .before .before .before .before .args in
     c .protect2 .ensures ∙ ap₂ (λ (i : IsolationType) (f : HvMapGpaFlags). protects i Vtl1 f (a .run)) (c .before .before .isolation2 .ensures) (c .before .none2 .ensures)
-    ∙ ap (λ (p : Phase). askedOf (settingsOf (a .state .now) .isolation) (operationOn (settingsOf (a .state .now)) p (a .q) (a .run))) (sym (c .before .before .before .enum-told6 .given .1))
+    ∙ ap (λ (p : Phase). askedOf (settingsOf (a .state .now) .isolation) (operationOn (settingsOf (a .state .now)) p (a .request) (a .run))) (sym (c .before .before .before .enum-told6 .given .1))
 
 returns-7 : tie.Need-returns-7
 unfolding askedOf
 returns-7 c =
     let a = c .before .before .before .before .args in
     c .on-run .ensures
-    ∙ ap (λ (p : Phase). askedOf (settingsOf (a .state .now) .isolation) (operationOn (settingsOf (a .state .now)) p (a .q) (a .run))) (sym (c .before .enum-told7 .given .1))
+    ∙ ap (λ (p : Phase). askedOf (settingsOf (a .state .now) .isolation) (operationOn (settingsOf (a .state .now)) p (a .request) (a .run))) (sym (c .before .enum-told7 .given .1))
 
 returns-8 : tie.Need-returns-8
 unfolding askedOf
 returns-8 c =
     let a = c .before .before .before .before .args in
     c .on-run2 .ensures
-    ∙ ap (λ (p : Phase). askedOf (settingsOf (a .state .now) .isolation) (operationOn (settingsOf (a .state .now)) p (a .q) (a .run))) (sym (c .before .enum-told8 .given .1))
+    ∙ ap (λ (p : Phase). askedOf (settingsOf (a .state .now) .isolation) (operationOn (settingsOf (a .state .now)) p (a .request) (a .run))) (sym (c .before .enum-told8 .given .1))
 
 returns-9 : tie.Need-returns-9
 unfolding askedOf
 returns-9 c =
     let a = c .before .before .before .before .args in
     c .modify .ensures
-    ∙ ap (λ (p : Phase). askedOf (settingsOf (a .state .now) .isolation) (operationOn (settingsOf (a .state .now)) p (a .q) (a .run))) (sym (c .before .enum-told9 .given .1))
+    ∙ ap (λ (p : Phase). askedOf (settingsOf (a .state .now) .isolation) (operationOn (settingsOf (a .state .now)) p (a .request) (a .run))) (sym (c .before .enum-told9 .given .1))
 
 returns-10 : tie.Need-returns-10
 unfolding askedOf
 returns-10 c =
     let a = c .before .before .before .before .args in
     c .on-run3 .ensures
-    ∙ ap (λ (p : Phase). askedOf (settingsOf (a .state .now) .isolation) (operationOn (settingsOf (a .state .now)) p (a .q) (a .run))) (sym (c .before .enum-told10 .given .1))
+    ∙ ap (λ (p : Phase). askedOf (settingsOf (a .state .now) .isolation) (operationOn (settingsOf (a .state .now)) p (a .request) (a .run))) (sym (c .before .enum-told10 .given .1))
 
 returns-11 : tie.Need-returns-11
 unfolding askedOf
 returns-11 c =
     let a = c .before .before .before .before .args in
     c .on-run4 .ensures
-    ∙ ap (λ (p : Phase). askedOf (settingsOf (a .state .now) .isolation) (operationOn (settingsOf (a .state .now)) p (a .q) (a .run))) (sym (c .before .enum-told11 .given .1))
+    ∙ ap (λ (p : Phase). askedOf (settingsOf (a .state .now) .isolation) (operationOn (settingsOf (a .state .now)) p (a .request) (a .run))) (sym (c .before .enum-told11 .given .1))
 
 returns-12 : tie.Need-returns-12
 unfolding askedOf
 returns-12 c =
     let a = c .before .before .before .before .before .before .args in
     c .protect3 .ensures ∙ ap₂ (λ (i : IsolationType) (f : HvMapGpaFlags). protects i Vtl0 f (a .run)) (c .before .before .isolation3 .ensures) (c .before .default-vtl0 .ensures)
-    ∙ ap (λ (p : Phase). askedOf (settingsOf (a .state .now) .isolation) (operationOn (settingsOf (a .state .now)) p (a .q) (a .run))) (sym (c .before .before .before .enum-told12 .given .1))
+    ∙ ap (λ (p : Phase). askedOf (settingsOf (a .state .now) .isolation) (operationOn (settingsOf (a .state .now)) p (a .request) (a .run))) (sym (c .before .before .before .enum-told12 .given .1))
 
 returns-13 : tie.Need-returns-13
 unfolding askedOf
 returns-13 c =
     let a = c .before .before .before .before .before .before .args in
     c .protect4 .ensures ∙ ap₂ (λ (i : IsolationType) (f : HvMapGpaFlags). protects i Vtl1 f (a .run)) (c .before .before .isolation4 .ensures) (c .before .default-vtl1 .ensures)
-    ∙ ap (λ (p : Phase). askedOf (settingsOf (a .state .now) .isolation) (operationOn (settingsOf (a .state .now)) p (a .q) (a .run))) (sym (c .before .before .before .enum-told13 .given .1))
+    ∙ ap (λ (p : Phase). askedOf (settingsOf (a .state .now) .isolation) (operationOn (settingsOf (a .state .now)) p (a .request) (a .run))) (sym (c .before .before .before .enum-told13 .given .1))
 
 pub asked-at-spec : {M : Type 1} → statement M
 asked-at-spec =

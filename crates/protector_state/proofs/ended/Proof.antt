@@ -7,19 +7,19 @@ stopped-requires : tie.Need-stopped-requires
 stopped-requires c κs = search needs
 
 returns : tie.Need-returns
-returns c = laws.ended-stopped (c .before .before .args .q) _ (c .before .if1 .taken) (c .stopped .ensures)
+returns c = laws.ended-stopped (c .before .before .args .request) _ (c .before .if1 .taken) (c .stopped .ensures)
 
 finished-requires : tie.Need-finished-requires
 finished-requires c κs = search needs
 
 returns-2 : tie.Need-returns-2
-returns-2 c = laws.ended-failed (c .before .before .before .args .q) _ (c .before .before .if1 .left) (c .before .if2 .taken) (c .finished .ensures)
+returns-2 c = laws.ended-failed (c .before .before .before .args .request) _ (c .before .before .if1 .left) (c .before .if2 .taken) (c .finished .ensures)
 
 finished-requires-2 : tie.Need-finished-requires-2
 finished-requires-2 c κs = search needs
 
 returns-3 : tie.Need-returns-3
-returns-3 c = laws.ended-done (c .before .before .before .args .q) _ (c .before .before .if1 .left) (c .before .if2 .left) (c .finished2 .ensures)
+returns-3 c = laws.ended-done (c .before .before .before .args .request) _ (c .before .before .if1 .left) (c .before .if2 .left) (c .finished2 .ensures)
 
 pub ended-spec : {M : Type 1} → statement M
 ended-spec =

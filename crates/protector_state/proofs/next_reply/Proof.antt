@@ -30,19 +30,19 @@ returns : tie.Need-returns
 unfolding flatOf
 returns c =
     let a = c .before .before .before .before .args in
-    c .asked-at .ensures ∙ ap (λ (k : Turn). flatOf (settingsOf (a .state .now) .isolation) (answerBy k (settingsOf (a .state .now)) (a .phase) (a .q) (a .run))) (sym (c .before .enum-told .given .1))
+    c .asked-at .ensures ∙ ap (λ (k : Turn). flatOf (settingsOf (a .state .now) .isolation) (answerBy k (settingsOf (a .state .now)) (a .phase) (a .request) (a .run))) (sym (c .before .enum-told .given .1))
 
 returns-2 : tie.Need-returns-2
 returns-2 c =
     let a = c .before .before .before .before .args in
-    c .ended .ensures ∙ laws.ended-flat (settingsOf (a .state .now) .isolation) (a .q)
-    ∙ ap (λ (k : Turn). flatOf (settingsOf (a .state .now) .isolation) (answerBy k (settingsOf (a .state .now)) (a .phase) (a .q) (a .run))) (sym (c .before .enum-told2 .given .1))
+    c .ended .ensures ∙ laws.ended-flat (settingsOf (a .state .now) .isolation) (a .request)
+    ∙ ap (λ (k : Turn). flatOf (settingsOf (a .state .now) .isolation) (answerBy k (settingsOf (a .state .now)) (a .phase) (a .request) (a .run))) (sym (c .before .enum-told2 .given .1))
 
 returns-3 : tie.Need-returns-3
 unfolding flatOf
 returns-3 c =
     let a = c .before .before .before .before .args in
-    c .refused .ensures ∙ ap (λ (k : Turn). flatOf (settingsOf (a .state .now) .isolation) (answerBy k (settingsOf (a .state .now)) (a .phase) (a .q) (a .run))) (sym (c .before .enum-told3 .given .1))
+    c .refused .ensures ∙ ap (λ (k : Turn). flatOf (settingsOf (a .state .now) .isolation) (answerBy k (settingsOf (a .state .now)) (a .phase) (a .request) (a .run))) (sym (c .before .enum-told3 .given .1))
 
 pub next-reply-spec : {M : Type 1} → statement M
 next-reply-spec =

@@ -57,7 +57,7 @@ same-length c = search needs
 returns : tie.Need-returns
 returns c =
     let a = c .before .before .before .before .before .before .args in
-    laws.request-saved (a .phase) (a .q) (a .state .now) _ _ _ _ _ (omega arith) (c .before .before .before .before .phase-number .ensures) (c .before .before .bool-to-u64 .ensures .0)
+    laws.request-saved (a .phase) (a .request) (a .state .now) _ _ _ _ _ (omega arith) (c .before .before .before .before .phase-number .ensures) (c .before .before .bool-to-u64 .ensures .0)
     (c .before .before .before .vtl-number .ensures) (c .before .bool-to-u642 .ensures .0) (c .bool-to-u643 .ensures .0)
 
 pub save-spec : {M : Type 1} → statement M

@@ -3,32 +3,20 @@ use borrow.Author.Needs.{needs}
 use Rattle.protector_state.proofs.settings.Statement.{statement}
 use Rattle.protector_state.proofs.settings.Tie as tie
 
-shared-slice-read-isolation-of : tie.Need-shared-slice-read-isolation-of
-shared-slice-read-isolation-of c = search needs
+isolation-requires : tie.Need-isolation-requires
+isolation-requires c κs = search needs
 
-isolation-of-requires : tie.Need-isolation-of-requires
-isolation-of-requires c κs = search needs
+is-tracked-requires : tie.Need-is-tracked-requires
+is-tracked-requires c κs = search needs
 
-shared-slice-read-t6 : tie.Need-shared-slice-read-t6
-shared-slice-read-t6 c = search needs
+shared-slice-read-t5 : tie.Need-shared-slice-read-t5
+shared-slice-read-t5 c = search needs
 
-shared-slice-read-t9 : tie.Need-shared-slice-read-t9
-shared-slice-read-t9 c = search needs
+shared-slice-read-t8 : tie.Need-shared-slice-read-t8
+shared-slice-read-t8 c = search needs
 
-shared-slice-read-t12 : tie.Need-shared-slice-read-t12
-shared-slice-read-t12 c = search needs
-
-shared-slice-read-from-bits : tie.Need-shared-slice-read-from-bits
-shared-slice-read-from-bits c = search needs
-
-from-bits-requires : tie.Need-from-bits-requires
-from-bits-requires c κs = search needs
-
-shared-slice-read-option-of : tie.Need-shared-slice-read-option-of
-shared-slice-read-option-of c = search needs
-
-option-of-requires : tie.Need-option-of-requires
-option-of-requires c κs = search needs
+defaults-requires : tie.Need-defaults-requires
+defaults-requires c κs = search needs
 
 returns : tie.Need-returns
 returns c = cc
@@ -37,13 +25,9 @@ pub settings-spec : {M : Type 1} → statement M
 settings-spec =
     tie.close
     (tie.spec
-    shared-slice-read-isolation-of
-    isolation-of-requires
-    shared-slice-read-t6
-    shared-slice-read-t9
-    shared-slice-read-t12
-    shared-slice-read-from-bits
-    from-bits-requires
-    shared-slice-read-option-of
-    option-of-requires
+    isolation-requires
+    is-tracked-requires
+    shared-slice-read-t5
+    shared-slice-read-t8
+    defaults-requires
     returns)

@@ -19,7 +19,7 @@ change-in-requires c κs = search needs
 returns : tie.Need-returns
 returns c =
     let a = c .before .before .before .before .args in
-    c .change-in .ensures ∙ ap (λ (k : ℕ). after k (a .w) (changeIn (lentOf k (a .w)) (a .c) (a .list .now))) (c .before .bytes-if .ensures .0)
+    c .change-in .ensures ∙ ap (λ (k : ℕ). after k (a .world) (changeIn (lentOf k (a .world)) (a .c) (a .list .now))) (c .before .bytes-if .ensures .0)
 
 pub change-spec : {M : Type 1} → statement M
 change-spec = tie.close (tie.spec array-read-bytes-if bytes-if-requires change-in-requires returns)

@@ -18,7 +18,7 @@ valued-requires : tie.Need-valued-requires
 valued-requires c κs = search needs
 
 returns : tie.Need-returns
-returns c = c .valued .ensures ∙ ap (valued (c .before .before .before .before .before .before .args .w)) (c .before .protector-is-overlay-page .ensures)
+returns c = c .valued .ensures ∙ ap (valued (c .before .before .before .before .before .before .args .world)) (c .before .protector-is-overlay-page .ensures)
 
 pub is-overlay-spec : {M : Type 1} → statement M
 is-overlay-spec =

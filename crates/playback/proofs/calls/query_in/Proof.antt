@@ -24,7 +24,7 @@ same-length c = search needs
 
 returns : tie.Need-returns
 returns c =
-    let w = c .before .before .before .before .before .before .before .before .before .before .before .before .args .w in
+    let w = c .before .before .before .before .before .before .before .before .before .before .before .before .args .world in
     let q = c .before .before .before .before .protector-query-host-visibility in
     ap (λ (h : ℕ). withThese w (w .state) (w .tables) (q .result) h) (c .bytes .ensures) ∙ ap (queriedOf w) (q .ensures)
 

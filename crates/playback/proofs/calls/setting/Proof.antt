@@ -15,7 +15,7 @@ valued-requires : tie.Need-valued-requires
 valued-requires c κs = search needs
 
 returns : tie.Need-returns
-returns c = c .valued .ensures ∙ ap (valued (c .before .before .before .before .args .w)) (c .before .setting-in .ensures)
+returns c = c .valued .ensures ∙ ap (valued (c .before .before .before .before .args .world)) (c .before .setting-in .ensures)
 
 pub setting-spec : {M : Type 1} → statement M
 setting-spec =

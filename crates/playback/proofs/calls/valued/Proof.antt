@@ -12,7 +12,7 @@ replied-requires : tie.Need-replied-requires
 replied-requires c κs = search needs
 
 returns : tie.Need-returns
-returns c = c .replied .ensures ∙ ap (replied (c .before .before .args .w)) (c .before .finished .ensures)
+returns c = c .replied .ensures ∙ ap (replied (c .before .before .args .world)) (c .before .finished .ensures)
 
 pub valued-spec : {M : Type 1} → statement M
 valued-spec = tie.close (tie.spec finished-requires replied-requires returns)

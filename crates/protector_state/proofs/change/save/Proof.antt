@@ -61,7 +61,7 @@ same-length : tie.Need-same-length
 same-length c = simp length-set
 
 returns : tie.Need-returns
-returns c = let a = c .before .before .before .before .args in laws.change-saved (a .stage) (a .q) (a .state .now) _ _ _ (omega arith) (c .before .before .stage-number .ensures) (c .before .vtl-number .ensures) (c .vtl-number2 .ensures)
+returns c = let a = c .before .before .before .before .args in laws.change-saved (a .stage) (a .change) (a .state .now) _ _ _ (omega arith) (c .before .before .stage-number .ensures) (c .before .vtl-number .ensures) (c .vtl-number2 .ensures)
 
 pub save-spec : {M : Type 1} → statement M
 save-spec =

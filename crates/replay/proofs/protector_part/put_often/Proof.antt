@@ -42,7 +42,7 @@ returns c =
     let h = c .before .before .loop in
     c .put2 .ensures
     ∙ ap (λ (w : World). putOf w (a .c) (a .list .now) (a .ram .now))
-    (times-none (h .v) (a .c) (a .list .now) (a .ram .now) (h .left) (omega arith) ∙ h .inv ∙ ap (λ (k : ℕ). putTimes k (a .w) (a .c) (a .list .now) (a .ram .now)) (c .before .before .before .times-before .ensures))
+    (times-none (h .v) (a .c) (a .list .now) (a .ram .now) (h .left) (omega arith) ∙ h .inv ∙ ap (λ (k : ℕ). putTimes k (a .world) (a .c) (a .list .now) (a .ram .now)) (c .before .before .before .times-before .ensures))
 
 pub put-often-spec : {M : Type 1} → statement M
 put-often-spec =

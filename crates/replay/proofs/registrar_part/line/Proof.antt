@@ -45,9 +45,9 @@ returns c =
     let m = c .before .before .before .before .before .before .before .before .before .before .ram2 in
     let u = c .before .before .before .before .before .before .before .words-part in
     let v = c .before .before .before .before .before .before .call in (
-      registry-line (a .input .now) (a .s .next) (f .last .1 .1 .0) (f .result) (k .result) (m .last .0) (u .result .now) (m .result) (f .ensures .0) (f .ensures .1) (k .ensures) (m .ensures .0) (m .ensures .1) (u .ensures) (a .s .registry) (v .result) (v .ensures),
-      line-after (a .input .now) (a .s .next) (f .last .1 .1 .0) (f .result) (k .result) (c .after-runs .result) (f .ensures .0) (f .ensures .1) (k .ensures) (c .after-runs .ensures),
-      registry-compared (a .input .now) (a .s .next) (f .last .1 .1 .0) (f .result) (k .result) (m .last .0) (u .result .now) (m .result) (f .ensures .0) (f .ensures .1) (k .ensures) (m .ensures .0) (m .ensures .1) (u .ensures) (a .s .registry) (v .result) (a .tally .now) (c .before .before .before .compare .last .1 .1 .0) (v .ensures) (c .before .before .before .compare .ensures),
+      registry-line (a .input .now) (a .step .next) (f .last .1 .1 .0) (f .result) (k .result) (m .last .0) (u .result .now) (m .result) (f .ensures .0) (f .ensures .1) (k .ensures) (m .ensures .0) (m .ensures .1) (u .ensures) (a .step .registry) (v .result) (v .ensures),
+      line-after (a .input .now) (a .step .next) (f .last .1 .1 .0) (f .result) (k .result) (c .after-runs .result) (f .ensures .0) (f .ensures .1) (k .ensures) (c .after-runs .ensures),
+      registry-compared (a .input .now) (a .step .next) (f .last .1 .1 .0) (f .result) (k .result) (m .last .0) (u .result .now) (m .result) (f .ensures .0) (f .ensures .1) (k .ensures) (m .ensures .0) (m .ensures .1) (u .ensures) (a .step .registry) (v .result) (a .tally .now) (c .before .before .before .compare .last .1 .1 .0) (v .ensures) (c .before .before .before .compare .ensures),
     )
 
 pub line-spec : {M : Type 1} → statement M
