@@ -131,7 +131,7 @@ fn mark(map: &mut [u8], pages: &[u64], from: u64, to: u64)
 }
 
 // The default permissions of VTL0 for the run of a phase that asks for them.
-fn permit_default(
+fn update_default_permissions(
     read: &mut [u8],
     write: &mut [u8],
     kernel: &mut [u8],
@@ -183,7 +183,7 @@ fn apply_done(
     let run = visibility_steps::run_in(phase, pages, q.n, x.at);
     mark(private, pages, 0, m.private);
     mark(shared, pages, m.from, m.to);
-    permit_default(
+    update_default_permissions(
         read,
         write,
         kernel,

@@ -31,7 +31,7 @@ use Rattle.registrar_steps.specs.declared.Stop.{Stop}
 use Rattle.registrar_steps.specs.Steps.{idle, askedOf, asks, ends, ramFrom, passes, pieceOf, registerFrom, hasRam, stopAt, planAt, stopPlan, allFrom}
 use Rattle.registrar_steps.proofs.Laws.{register-stopped, ram-plan}
 use Rattle.registrar_state.specs.declared.Reply.{Reply}
-use Rattle.registrar_state.specs.World.{World, world, Outcome, outcome, requestOf, withRequest, offsetOf, granularityOf, entriesIn, seenIn, builtState, simple, flatOf, decided, buildRefusal, callRefusal, chunksFit, registerRefusal, allRefusal, marked, carriedOut, registerPlan, isKnown, answerRefusal, restOf, hasRest, takenTo, donePlan, afterTaken}
+use Rattle.registrar_state.specs.World.{World, world, Outcome, outcome, requestOf, withRequest, offsetOf, granularityOf, entriesIn, chunkStateIn, builtState, simple, flatOf, decided, buildRefusal, callRefusal, chunksFit, registerRefusal, allRefusal, marked, carriedOut, registerPlan, isKnown, answerRefusal, restOf, hasRest, takenTo, donePlan, afterTaken}
 use Rattle.registrar_state.proofs.Laws.{build-fits, known-kept}
 
 -- ---- a call refused, and one carried out
@@ -60,8 +60,8 @@ module _ (w : World) (address len g f e : ℕ) (hg : g ≡ granularityOf (w .sta
       → isKnown (w .state) (w .registered) (firstChunk (granularityOf (w .state)) address) (endChunk (granularityOf (w .state)) address len) ≡ true
   touched-known t q h = sym (ap₂ (isKnown (w .state) (w .registered)) first-is end-is) ∙ sym q ∙ h
 
-  pub touched-plan : registerFrom (seenIn w) (offsetOf (w .state)) 0 f e ≡ registerPlan w address len
-  touched-plan = ap₂ (registerFrom (seenIn w) (offsetOf (w .state)) 0) first-is end-is
+  pub touched-plan : registerFrom (chunkStateIn w) (offsetOf (w .state)) 0 f e ≡ registerPlan w address len
+  touched-plan = ap₂ (registerFrom (chunkStateIn w) (offsetOf (w .state)) 0) first-is end-is
 
 -- a request that finds its chunks registered
 pub call-known : (w : World) (n address len : ℕ) (r : Reply) → n ≡ registerRefusal w address len → n ≡ 0 → length (w .state) ≡ registrarLen
@@ -136,12 +136,12 @@ stored w p q s m c e hs hm hc =
 
 module _ (w : World) (n count from until : ℕ) (hn : n ≡ chunkCount (granularityOf (w .state)) (entriesIn (w .state))) where
   abbrev planned : Plan
-  planned = registerFrom (seenIn w) (offsetOf (w .state)) count from until
+  planned = registerFrom (chunkStateIn w) (offsetOf (w .state)) count from until
 
   -- one law for each case of where it stops
-  module _ (a : Stop) (ha : a ≡ stopAt (seenIn w) from (min until n)) (s m : List ℕ) (hm : m ≡ marked from (a .chunk) (w .registered)) where
+  module _ (a : Stop) (ha : a ≡ stopAt (chunkStateIn w) from (min until n)) (s m : List ℕ) (hm : m ≡ marked from (a .chunk) (w .registered)) where
     stopped-is : stopPlan (offsetOf (w .state)) count from until a ≡ planned
-    stopped-is = register-stopped (seenIn w) (offsetOf (w .state)) count from until (min until n) (firstNot (passes (seenIn w)) from (min until n)) (ap (min until) hn) refl a ha
+    stopped-is = register-stopped (chunkStateIn w) (offsetOf (w .state)) count from until (min until n) (firstNot (passes (chunkStateIn w)) from (min until n)) (ap (min until) hn) refl a ha
 
     pub go-asked : (q : Request) → hasRam (a .why) ≡ true → q ≡ pieceOf count (a .chunk) (a .chunk + 1) until (range (a .start) (a .end)) → s ≡ withRequest q (w .state) → Stored w planned s m (a .chunk)
     go-asked q h hq hs =
@@ -178,7 +178,7 @@ kept-at s i = getD-drop place.afterRequest s i 0
 
 module _ (w : World) (n count from until : ℕ) (hn : n ≡ chunkCount (granularityOf (w .state)) (entriesIn (w .state))) where
   abbrev plan : Plan
-  plan = registerFrom (seenIn w) (offsetOf (w .state)) count from until
+  plan = registerFrom (chunkStateIn w) (offsetOf (w .state)) count from until
 
   answered-of : Plan → Reply
   answered-of p = answerOf (withRequest (p .request) (w .state)) n count until (p .to)
@@ -191,7 +191,7 @@ module _ (w : World) (n count from until : ℕ) (hn : n ≡ chunkCount (granular
       e = min until (chunkCount (granularityOf (w .state)) (entriesIn (w .state)))
 
       t : ℕ
-      t = firstNot (passes (seenIn w)) from e
+      t = firstNot (passes (chunkStateIn w)) from e
 
       ram : MemoryRange
       ram = ramFrom (granularityOf (w .state)) (entriesIn (w .state)) t (t * granularityOf (w .state))
@@ -259,20 +259,20 @@ module _ (w : World) (q : Request) (e : q ≡ requestOf (w .state)) where
     after = world (w .state) m (w .failed)
 
     pub done-register : requestOf (w .state) .kind ≡ kind.register
-        → carriedOut after (registerFrom (seenIn after) (offsetOf (w .state)) (q .count) (q .to) (q .until)) ≡ carriedOut (afterTaken w) (donePlan (afterTaken w))
+        → carriedOut after (registerFrom (chunkStateIn after) (offsetOf (w .state)) (q .count) (q .to) (q .until)) ≡ carriedOut (afterTaken w) (donePlan (afterTaken w))
     done-register k =
-        let here : donePlan after ≡ registerFrom (seenIn after) (offsetOf (w .state)) (requestOf (w .state) .count) (requestOf (w .state) .to) (requestOf (w .state) .until) =
+        let here : donePlan after ≡ registerFrom (chunkStateIn after) (offsetOf (w .state)) (requestOf (w .state) .count) (requestOf (w .state) .to) (requestOf (w .state) .until) =
         rw (no, eq-eqb (requestOf (w .state) .kind) kind.register k) in
-        ap (λ (q : Request). carriedOut after (registerFrom (seenIn after) (offsetOf (w .state)) (q .count) (q .to) (q .until))) e ∙ ap (carriedOut after) (sym here)
+        ap (λ (q : Request). carriedOut after (registerFrom (chunkStateIn after) (offsetOf (w .state)) (q .count) (q .to) (q .until))) e ∙ ap (carriedOut after) (sym here)
         ∙ ap (λ (u : World). carriedOut u (donePlan u)) after-is
 
     pub done-all : (requestOf (w .state) .kind ≡ kind.register → ⊥)
-        → carriedOut after (allFrom (seenIn after) (offsetOf (w .state)) (q .count) (q .alignment) (q .ignore) (q .to) (spans (entriesIn (w .state))))
+        → carriedOut after (allFrom (chunkStateIn after) (offsetOf (w .state)) (q .count) (q .alignment) (q .ignore) (q .to) (spans (entriesIn (w .state))))
         ≡ carriedOut (afterTaken w) (donePlan (afterTaken w))
     done-all k =
-        let here : donePlan after ≡ allFrom (seenIn after) (offsetOf (w .state)) (requestOf (w .state) .count) (requestOf (w .state) .alignment) (requestOf (w .state) .ignore) (requestOf (w .state) .to) (spans (entriesIn (w .state))) =
+        let here : donePlan after ≡ allFrom (chunkStateIn after) (offsetOf (w .state)) (requestOf (w .state) .count) (requestOf (w .state) .alignment) (requestOf (w .state) .ignore) (requestOf (w .state) .to) (spans (entriesIn (w .state))) =
         rw (no, ne-eqb (requestOf (w .state) .kind) kind.register k) in
-        ap (λ (q : Request). carriedOut after (allFrom (seenIn after) (offsetOf (w .state)) (q .count) (q .alignment) (q .ignore) (q .to) (spans (entriesIn (w .state))))) e
+        ap (λ (q : Request). carriedOut after (allFrom (chunkStateIn after) (offsetOf (w .state)) (q .count) (q .alignment) (q .ignore) (q .to) (spans (entriesIn (w .state))))) e
         ∙ ap (carriedOut after) (sym here) ∙ ap (λ (u : World). carriedOut u (donePlan u)) after-is
 
 module _ (s : List ℕ) where

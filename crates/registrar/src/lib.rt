@@ -13,7 +13,7 @@ ghost use Rattle.layout.specs.Layout.{spans};
 ghost use Rattle.chunks.specs.Chunks.{chunkCount};
 ghost use Rattle.registrar_steps.specs.declared.Plan.{Plan};
 ghost use Rattle.registrar_steps.specs.Steps.{askedOf, pieceOf, registerFrom, allFrom};
-ghost use Rattle.registrar_state.specs.World.{World, world, outcome, withRequest, offsetOf, granularityOf, entriesIn, seenIn, simple, flatOf, builtState, marked, carriedOut, buildOf, registerOf, allOf, failedOf, donePlan, afterTaken, doneOf};
+ghost use Rattle.registrar_state.specs.World.{World, world, outcome, withRequest, offsetOf, granularityOf, entriesIn, chunkStateIn, simple, flatOf, builtState, marked, carriedOut, buildOf, registerOf, allOf, failedOf, donePlan, afterTaken, doneOf};
 use abi::kind;
 use abi::registrar_place as place;
 use layout::MemoryRange;
@@ -91,7 +91,7 @@ fn register_from(
     until: u64,
 ) -> u64
     requires { ⌜ (length (now state) ≡ registrarLen) × (total ≡ chunkCount (granularityOf (now state)) (entriesIn (now state))) ⌝ }
-    ensures { λ c. ⌜ (let w : World = world (now (state .entry)) (now (registered .entry)) (now (failed .entry)) in let p : Plan = registerFrom (seenIn w) (offsetOf (w .state)) count from until in (now (state .exit) ≡ withRequest (p .request) (w .state)) × (now (registered .exit) ≡ marked (p .from) (p .to) (w .registered)) × (c ≡ p .to)) ⌝ }
+    ensures { λ c. ⌜ (let w : World = world (now (state .entry)) (now (registered .entry)) (now (failed .entry)) in let p : Plan = registerFrom (chunkStateIn w) (offsetOf (w .state)) count from until in (now (state .exit) ≡ withRequest (p .request) (w .state)) × (now (registered .exit) ≡ marked (p .from) (p .to) (w .registered)) × (c ≡ p .to)) ⌝ }
     ensures { λ c. ⌜ (c < min until total → c * granularityOf (now (state .entry)) < 2 ^ 64) ⌝ }
 {
     let at = registrar_state::register_stop(state, registered, failed, total, from, until);
@@ -163,7 +163,7 @@ fn register_all_from(
     chunk: u64,
 ) -> Reply
     requires { ⌜ length (now state) ≡ registrarLen ⌝ }
-    ensures { λ r. ⌜ outcome (now (state .exit)) (now (registered .exit)) (now (failed .entry)) r ≡ carriedOut (world (now (state .entry)) (now (registered .entry)) (now (failed .entry))) (allFrom (seenIn (world (now (state .entry)) (now (registered .entry)) (now (failed .entry)))) (offsetOf (now (state .entry))) count alignment ignore chunk (spans (entriesIn (now (state .entry))))) ⌝ }
+    ensures { λ r. ⌜ outcome (now (state .exit)) (now (registered .exit)) (now (failed .entry)) r ≡ carriedOut (world (now (state .entry)) (now (registered .entry)) (now (failed .entry))) (allFrom (chunkStateIn (world (now (state .entry)) (now (registered .entry)) (now (failed .entry)))) (offsetOf (now (state .entry))) count alignment ignore chunk (spans (entriesIn (now (state .entry))))) ⌝ }
 {
     let plan = registrar_state::all_plan(
         state,

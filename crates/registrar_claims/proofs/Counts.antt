@@ -18,8 +18,8 @@ use Rattle.registrar_steps.specs.declared.Answer.the-variants.{Done, Registrati
 use Rattle.registrar_steps.specs.declared.Look.{Look}
 use Rattle.registrar_steps.specs.declared.Look.the-variants.{Nothing, Edge, FailedBefore, Stretch}
 use Rattle.registrar_steps.specs.declared.Plan.{Plan}
-use Rattle.registrar_steps.specs.Steps.{Seen, asks, ends, more, ramFrom, passes, pieceOf, registerFrom, lookAt, found, allFrom}
-use Rattle.registrar_state.specs.World.{World, world, Outcome, requestOf, offsetOf, granularityOf, entriesIn, seenIn, flatOf, decided, registerRefusal, allRefusal, carriedOut, registerPlan, allPlan, registerOf, allOf, answerRefusal, failedOf, restOf, hasRest, donePlan, afterTaken, doneOf}
+use Rattle.registrar_steps.specs.Steps.{ChunkState, asks, ends, more, ramFrom, passes, pieceOf, registerFrom, lookAt, found, allFrom}
+use Rattle.registrar_state.specs.World.{World, world, Outcome, requestOf, offsetOf, granularityOf, entriesIn, chunkStateIn, flatOf, decided, registerRefusal, allRefusal, carriedOut, registerPlan, allPlan, registerOf, allOf, answerRefusal, failedOf, restOf, hasRest, donePlan, afterTaken, doneOf}
 use Rattle.registrar_claims.proofs.Steps.{counted}
 use Rattle.registrar_claims.proofs.Refusals.{register-taken, all-taken, answer-taken}
 use Rattle.registrar_claims.specs.Runs.{notRefused, answerOf, before, asksFor, follow}
@@ -36,7 +36,7 @@ no-one e = absurd (omega arith)
 no-zero : {X : Type 0} → _≡_ {A = ℕ} 1 0 → X
 no-zero e = absurd (omega arith)
 
-pub register-counts : (s : Seen) (o n c last : ℕ) → PlanCounts n (registerFrom s o n c last)
+pub register-counts : (s : ChunkState) (o n c last : ℕ) → PlanCounts n (registerFrom s o n c last)
 unfolding registerFrom
 register-counts s o n c last =
     let e : ℕ = min last (chunkCount (s .granularity) (s .entries)) in
@@ -49,7 +49,7 @@ register-counts s o n c last =
     go t true true = (λ e. no-one e, λ e. refl, refl)
     go t true false = (λ e. refl, λ e. no-zero e, refl)
 
-pub all-counts : (s : Seen) (o n al ignore c : ℕ) (rs : List MemoryRange) → PlanCounts n (allFrom s o n al ignore c rs)
+pub all-counts : (s : ChunkState) (o n al ignore c : ℕ) (rs : List MemoryRange) → PlanCounts n (allFrom s o n al ignore c rs)
 unfolding allFrom
 all-counts s o n al ignore c [] = (λ e. no-one e, λ e. refl, refl)
 all-counts s o n al ignore c (r ∷ rs) = go (lookAt (s .granularity) (s .registered) (s .failed) al ignore c r) (all-counts s o n al ignore c rs)
@@ -63,8 +63,8 @@ all-counts s o n al ignore c (r ∷ rs) = go (lookAt (s .granularity) (s .regist
 pub done-counts : (w : World) → PlanCounts (requestOf (w .state) .count) (donePlan w)
 done-counts w =
     let q : Request = requestOf (w .state) in
-    go (hasRest (w .state)) (eqb (q .kind) kind.register) _ _ (register-counts (seenIn w) (offsetOf (w .state)) (q .count) (q .to) (q .until))
-    (all-counts (seenIn w) (offsetOf (w .state)) (q .count) (q .alignment) (q .ignore) (q .to) (spans (entriesIn (w .state))))
+    go (hasRest (w .state)) (eqb (q .kind) kind.register) _ _ (register-counts (chunkStateIn w) (offsetOf (w .state)) (q .count) (q .to) (q .until))
+    (all-counts (chunkStateIn w) (offsetOf (w .state)) (q .count) (q .alignment) (q .ignore) (q .to) (spans (entriesIn (w .state))))
   where
     go : (x y : Bool) (a b : Plan) → PlanCounts (requestOf (w .state) .count) a → PlanCounts (requestOf (w .state) .count) b
         → PlanCounts (requestOf (w .state) .count)
@@ -94,14 +94,14 @@ register-counted : (w : World) (a l : ℕ) → Counted 0 (registerOf w a l)
 unfolding registerOf
 register-counted w a l =
     decided-counted 0 (registerRefusal w a l) w (carriedOut w (registerPlan w a l)) (register-taken w a l)
-    (plan-counted 0 0 w (registerPlan w a l) refl (register-counts (seenIn w) (offsetOf (w .state)) 0 (firstChunk (granularityOf (w .state)) a) (endChunk (granularityOf (w .state)) a l)))
+    (plan-counted 0 0 w (registerPlan w a l) refl (register-counts (chunkStateIn w) (offsetOf (w .state)) 0 (firstChunk (granularityOf (w .state)) a) (endChunk (granularityOf (w .state)) a l)))
 
 all-counted : (w : World) (al ignore : ℕ) → Counted 0 (allOf w al ignore)
 unfolding allOf
 all-counted w al ignore =
     decided-counted 0 (allRefusal w al ignore) w (carriedOut w (allPlan w al ignore))
     (all-taken w al ignore)
-    (plan-counted 0 0 w (allPlan w al ignore) refl (all-counts (seenIn w) (offsetOf (w .state)) 0 al ignore 0 (spans (entriesIn (w .state)))))
+    (plan-counted 0 0 w (allPlan w al ignore) refl (all-counts (chunkStateIn w) (offsetOf (w .state)) 0 al ignore 0 (spans (entriesIn (w .state)))))
 
 answer-counted : (b : Bool) (k : ℕ) (w : World) → requestOf (w .state) .count ≡ k % 2 ^ 64 → Counted k (answerOf b w)
 unfolding doneOf failedOf

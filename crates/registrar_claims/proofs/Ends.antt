@@ -23,8 +23,8 @@ use Rattle.registrar_steps.specs.declared.Request.{Request}
 use Rattle.registrar_steps.specs.declared.Answer.the-variants.{Done, RegistrationFailed}
 use Rattle.registrar_steps.specs.declared.Look.{Look}
 use Rattle.registrar_steps.specs.declared.Look.the-variants.{Nothing, Edge, FailedBefore, Stretch}
-use Rattle.registrar_steps.specs.Steps.{Seen, idle, asks, ends, more, ramFrom, passes, pieceOf, registerFrom, stretchIn, lookAt, found, allFrom}
-use Rattle.registrar_state.specs.World.{World, Outcome, requestOf, offsetOf, granularityOf, entriesIn, seenIn, decided, buildRefusal, buildOf, lengthsFit, callRefusal, chunksFit, registerRefusal, allRefusal, carriedOut, registerPlan, allPlan, registerOf, allOf, answerRefusal, failedOf, restOf, hasRest, donePlan, afterTaken, doneOf}
+use Rattle.registrar_steps.specs.Steps.{ChunkState, idle, asks, ends, more, ramFrom, passes, pieceOf, registerFrom, stretchIn, lookAt, found, allFrom}
+use Rattle.registrar_state.specs.World.{World, Outcome, requestOf, offsetOf, granularityOf, entriesIn, chunkStateIn, decided, buildRefusal, buildOf, lengthsFit, callRefusal, chunksFit, registerRefusal, allRefusal, carriedOut, registerPlan, allPlan, registerOf, allOf, answerRefusal, failedOf, restOf, hasRest, donePlan, afterTaken, doneOf}
 use Rattle.registrar_claims.specs.Runs.{Call, Build, RegisterRange, RegisterAll, AnswerDone, AnswerFailed, give, isBuild, isTaken, underWay, leftOf, left, after, takenIn, isAnswer, onlyAnswers, answersIn}
 use Rattle.registrar_claims.specs.Ends.{RequestEnds}
 use Rattle.registrar_claims.proofs.Refusals.{answer-taken, refused-keeps}
@@ -50,7 +50,7 @@ module _ (P : ℕ → Bool) where
 abbrev Past : ℕ → Request → Type 0
 Past c q = (q .kind ≡ kind.none) ⊎ (c < q .to)
 
-register-past : (s : Seen) (o n c last : ℕ) → Past c (registerFrom s o n c last .request)
+register-past : (s : ChunkState) (o n c last : ℕ) → Past c (registerFrom s o n c last .request)
 unfolding registerFrom
 register-past s o n c last =
     let e : ℕ = min last (chunkCount (s .granularity) (s .entries)) in
@@ -117,7 +117,7 @@ look-past g registered failed al ignore c r =
     go false true h = tt
     go false false h = h
 
-all-past : (s : Seen) (o n al ignore c : ℕ) (rs : List MemoryRange) → Past c (allFrom s o n al ignore c rs .request)
+all-past : (s : ChunkState) (o n al ignore c : ℕ) (rs : List MemoryRange) → Past c (allFrom s o n al ignore c rs .request)
 unfolding allFrom
 all-past s o n al ignore c [] = inl refl
 all-past s o n al ignore c (r ∷ rs) =
@@ -170,16 +170,16 @@ plan-lowers : (w : World) → (requestOf (w .state) .kind ≡ kind.none → ⊥)
 plan-lowers w k bt be =
     let q : Request = requestOf (w .state) in
     go (hasRest (w .state)) refl (eqb (q .kind) kind.register)
-    (less-past q (registerFrom (seenIn w) (offsetOf (w .state)) (q .count) (q .to) (q .until) .request) bt k (register-past (seenIn w) (offsetOf (w .state)) (q .count) (q .to) (q .until)))
-    (less-past q (allFrom (seenIn w) (offsetOf (w .state)) (q .count) (q .alignment) (q .ignore) (q .to) (spans (entriesIn (w .state))) .request) bt k
-    (all-past (seenIn w) (offsetOf (w .state)) (q .count) (q .alignment) (q .ignore) (q .to) (spans (entriesIn (w .state)))))
+    (less-past q (registerFrom (chunkStateIn w) (offsetOf (w .state)) (q .count) (q .to) (q .until) .request) bt k (register-past (chunkStateIn w) (offsetOf (w .state)) (q .count) (q .to) (q .until)))
+    (less-past q (allFrom (chunkStateIn w) (offsetOf (w .state)) (q .count) (q .alignment) (q .ignore) (q .to) (spans (entriesIn (w .state))) .request) bt k
+    (all-past (chunkStateIn w) (offsetOf (w .state)) (q .count) (q .alignment) (q .ignore) (q .to) (spans (entriesIn (w .state)))))
   where
     go : (x : Bool) → hasRest (w .state) ≡ x → (y : Bool)
-        → leftOf (registerFrom (seenIn w) (offsetOf (w .state)) (requestOf (w .state) .count) (requestOf (w .state) .to) (requestOf (w .state) .until) .request) < left w
-        → leftOf (allFrom (seenIn w) (offsetOf (w .state)) (requestOf (w .state) .count) (requestOf (w .state) .alignment) (requestOf (w .state) .ignore) (requestOf (w .state) .to) (spans (entriesIn (w .state))) .request) < left w
+        → leftOf (registerFrom (chunkStateIn w) (offsetOf (w .state)) (requestOf (w .state) .count) (requestOf (w .state) .to) (requestOf (w .state) .until) .request) < left w
+        → leftOf (allFrom (chunkStateIn w) (offsetOf (w .state)) (requestOf (w .state) .count) (requestOf (w .state) .alignment) (requestOf (w .state) .ignore) (requestOf (w .state) .to) (spans (entriesIn (w .state))) .request) < left w
         → leftOf (cond x (asks (offsetOf (w .state)) 0 0 (pieceOf (requestOf (w .state) .count) (requestOf (w .state) .from) (requestOf (w .state) .to) (requestOf (w .state) .until) (restOf (w .state))))
-        (cond y (registerFrom (seenIn w) (offsetOf (w .state)) (requestOf (w .state) .count) (requestOf (w .state) .to) (requestOf (w .state) .until))
-        (allFrom (seenIn w) (offsetOf (w .state)) (requestOf (w .state) .count) (requestOf (w .state) .alignment) (requestOf (w .state) .ignore) (requestOf (w .state) .to) (spans (entriesIn (w .state))))) .request) < left w
+        (cond y (registerFrom (chunkStateIn w) (offsetOf (w .state)) (requestOf (w .state) .count) (requestOf (w .state) .to) (requestOf (w .state) .until))
+        (allFrom (chunkStateIn w) (offsetOf (w .state)) (requestOf (w .state) .count) (requestOf (w .state) .alignment) (requestOf (w .state) .ignore) (requestOf (w .state) .to) (spans (entriesIn (w .state))))) .request) < left w
     go true e y h g =
         let p = pieces-past (requestOf (w .state) .end) ((requestOf (w .state) .from + 1) * granularityOf (w .state)) (spans (entriesIn (w .state))) (not-true _ (and-right (eqb (requestOf (w .state) .kind) kind.register) _ e)) in
         rw (ne-eqb (requestOf (w .state) .kind) kind.none k) (omega arith)

@@ -24,8 +24,8 @@ use Rattle.registrar_steps.specs.declared.Answer.the-variants.{Done, Register, 
 use Rattle.registrar_steps.specs.declared.Look.{Look}
 use Rattle.registrar_steps.specs.declared.Look.the-variants.{Nothing, Edge, FailedBefore, Stretch}
 use Rattle.registrar_steps.specs.declared.Plan.{Plan}
-use Rattle.registrar_steps.specs.Steps.{Seen, idle, asks, ends, ramFrom, passes, pieceOf, registerFrom, lookAt, found, allFrom}
-use Rattle.registrar_state.specs.World.{World, world, Outcome, requestOf, withRequest, offsetOf, granularityOf, entriesIn, seenIn, flatOf, decided, lengthsFit, buildRefusal, buildOf, callRefusal, chunksFit, registerRefusal, allRefusal, marked, carriedOut, registerPlan, allPlan, registerOf, allOf, answerRefusal, failedOf, restOf, hasRest, takenTo, donePlan, afterTaken, doneOf}
+use Rattle.registrar_steps.specs.Steps.{ChunkState, idle, asks, ends, ramFrom, passes, pieceOf, registerFrom, lookAt, found, allFrom}
+use Rattle.registrar_state.specs.World.{World, world, Outcome, requestOf, withRequest, offsetOf, granularityOf, entriesIn, chunkStateIn, flatOf, decided, lengthsFit, buildRefusal, buildOf, callRefusal, chunksFit, registerRefusal, allRefusal, marked, carriedOut, registerPlan, allPlan, registerOf, allOf, answerRefusal, failedOf, restOf, hasRest, takenTo, donePlan, afterTaken, doneOf}
 use Rattle.registrar_claims.specs.Runs.{Call, Build, RegisterRange, RegisterAll, AnswerDone, AnswerFailed, give, notRefused}
 use Rattle.registrar_claims.specs.Changes.{Kept, Stays}
 use Rattle.registrar_claims.specs.Claims.{RefusalsKeep, MarksStay}
@@ -46,7 +46,7 @@ plain-taken (RegistrationFailed x n) h = refl
 plain-taken (UnalignedMemory u n) h = refl
 plain-taken (Refused k) h = false≢true h
 
-pub register-plain : (s : Seen) (o n c last : ℕ) → plain (registerFrom s o n c last .answer) ≡ true
+pub register-plain : (s : ChunkState) (o n c last : ℕ) → plain (registerFrom s o n c last .answer) ≡ true
 unfolding registerFrom plain
 register-plain s o n c last =
     let e : ℕ = min last (chunkCount (s .granularity) (s .entries)) in
@@ -59,7 +59,7 @@ register-plain s o n c last =
     go t true false = refl
     go t true true = refl
 
-pub all-plain : (s : Seen) (o n al ignore c : ℕ) (rs : List MemoryRange) → plain (allFrom s o n al ignore c rs .answer) ≡ true
+pub all-plain : (s : ChunkState) (o n al ignore c : ℕ) (rs : List MemoryRange) → plain (allFrom s o n al ignore c rs .answer) ≡ true
 unfolding allFrom plain
 all-plain s o n al ignore c [] = refl
 all-plain s o n al ignore c (r ∷ rs) = go (lookAt (s .granularity) (s .registered) (s .failed) al ignore c r) (all-plain s o n al ignore c rs)
@@ -74,15 +74,15 @@ pub done-plain : (w : World) → plain (donePlan w .answer) ≡ true
 unfolding plain
 done-plain w =
     let q : Request = requestOf (w .state) in
-    let s : Seen = seenIn w in
+    let s : ChunkState = chunkStateIn w in
     go (hasRest (w .state)) (eqb (q .kind) kind.register) (register-plain s (offsetOf (w .state)) (q .count) (q .to) (q .until))
     (all-plain s (offsetOf (w .state)) (q .count) (q .alignment) (q .ignore) (q .to) (spans (entriesIn (w .state))))
   where
-    go : (x y : Bool) → plain (registerFrom (seenIn w) (offsetOf (w .state)) (requestOf (w .state) .count) (requestOf (w .state) .to) (requestOf (w .state) .until) .answer) ≡ true
-        → plain (allFrom (seenIn w) (offsetOf (w .state)) (requestOf (w .state) .count) (requestOf (w .state) .alignment) (requestOf (w .state) .ignore) (requestOf (w .state) .to) (spans (entriesIn (w .state))) .answer) ≡ true
+    go : (x y : Bool) → plain (registerFrom (chunkStateIn w) (offsetOf (w .state)) (requestOf (w .state) .count) (requestOf (w .state) .to) (requestOf (w .state) .until) .answer) ≡ true
+        → plain (allFrom (chunkStateIn w) (offsetOf (w .state)) (requestOf (w .state) .count) (requestOf (w .state) .alignment) (requestOf (w .state) .ignore) (requestOf (w .state) .to) (spans (entriesIn (w .state))) .answer) ≡ true
         → plain (cond x (asks (offsetOf (w .state)) 0 0 (pieceOf (requestOf (w .state) .count) (requestOf (w .state) .from) (requestOf (w .state) .to) (requestOf (w .state) .until) (restOf (w .state))))
-        (cond y (registerFrom (seenIn w) (offsetOf (w .state)) (requestOf (w .state) .count) (requestOf (w .state) .to) (requestOf (w .state) .until))
-        (allFrom (seenIn w) (offsetOf (w .state)) (requestOf (w .state) .count) (requestOf (w .state) .alignment) (requestOf (w .state) .ignore) (requestOf (w .state) .to) (spans (entriesIn (w .state))))) .answer) ≡ true
+        (cond y (registerFrom (chunkStateIn w) (offsetOf (w .state)) (requestOf (w .state) .count) (requestOf (w .state) .to) (requestOf (w .state) .until))
+        (allFrom (chunkStateIn w) (offsetOf (w .state)) (requestOf (w .state) .count) (requestOf (w .state) .alignment) (requestOf (w .state) .ignore) (requestOf (w .state) .to) (spans (entriesIn (w .state))))) .answer) ≡ true
     go true y h k = refl
     go false true h k = h
     go false false h k = k
@@ -90,12 +90,12 @@ done-plain w =
 -- ---- how a plan ends
 
 -- with 22 it marks nothing, with 22 and 23 nothing is asked any more, and what it marks asks for nothing
-pub record Ending (s : Seen) (p : Plan) : Type 0 where
+pub record Ending (s : ChunkState) (p : Plan) : Type 0 where
   pub ends-22 : flatOf (p .answer) .number ≡ refusal.unalignedMemory → (p .request ≡ idle) × (p .from ≡ p .to)
   pub ends-23 : flatOf (p .answer) .number ≡ refusal.registrationFailed → p .request ≡ idle
   pub marks : (c : ℕ) → p .from ≤ c → c < p .to → passes s c ≡ true
 
-register-ending : (s : Seen) (o n c last : ℕ) → Ending s (registerFrom s o n c last)
+register-ending : (s : ChunkState) (o n c last : ℕ) → Ending s (registerFrom s o n c last)
 unfolding registerFrom
 register-ending s o n c last =
     let e : ℕ = min last (chunkCount (s .granularity) (s .entries)) in
@@ -108,7 +108,7 @@ register-ending s o n c last =
     go t h true true = record { ends-22 = λ z. absurd (omega (arith, z)); ends-23 = λ z. refl; marks = h }
     go t h true false = record { ends-22 = λ z. absurd (omega (arith, z)); ends-23 = λ z. absurd (omega (arith, z)); marks = h }
 
-all-ending : (s : Seen) (o n al ignore c : ℕ) (rs : List MemoryRange) → Ending s (allFrom s o n al ignore c rs)
+all-ending : (s : ChunkState) (o n al ignore c : ℕ) (rs : List MemoryRange) → Ending s (allFrom s o n al ignore c rs)
 unfolding allFrom
 all-ending s o n al ignore c [] = record { ends-22 = λ z. absurd (omega (arith, z)); ends-23 = λ z. absurd (omega (arith, z)); marks = λ q a b. absurd (omega arith) }
 all-ending s o n al ignore c (r ∷ rs) = go (lookAt (s .granularity) (s .registered) (s .failed) al ignore c r) (all-ending s o n al ignore c rs)
@@ -119,14 +119,14 @@ all-ending s o n al ignore c (r ∷ rs) = go (lookAt (s .granularity) (s .regist
     go (FailedBefore x) h = record { ends-22 = λ z. absurd (omega (arith, z)); ends-23 = λ z. refl; marks = λ q a b. absurd (omega arith) }
     go (Stretch a b x y) h = record { ends-22 = λ z. absurd (omega (arith, z)); ends-23 = λ z. absurd (omega (arith, z)); marks = λ q a b. absurd (omega arith) }
 
-done-ending : (w : World) → Ending (seenIn w) (donePlan w)
+done-ending : (w : World) → Ending (chunkStateIn w) (donePlan w)
 done-ending w =
     let q : Request = requestOf (w .state) in
-    go (hasRest (w .state)) (eqb (q .kind) kind.register) _ _ (register-ending (seenIn w) (offsetOf (w .state)) (q .count) (q .to) (q .until))
-    (all-ending (seenIn w) (offsetOf (w .state)) (q .count) (q .alignment) (q .ignore) (q .to) (spans (entriesIn (w .state))))
+    go (hasRest (w .state)) (eqb (q .kind) kind.register) _ _ (register-ending (chunkStateIn w) (offsetOf (w .state)) (q .count) (q .to) (q .until))
+    (all-ending (chunkStateIn w) (offsetOf (w .state)) (q .count) (q .alignment) (q .ignore) (q .to) (spans (entriesIn (w .state))))
   where
-    go : (x y : Bool) (a b : Plan) → Ending (seenIn w) a → Ending (seenIn w) b
-        → Ending (seenIn w) (cond x (asks (offsetOf (w .state)) 0 0 (pieceOf (requestOf (w .state) .count) (requestOf (w .state) .from) (requestOf (w .state) .to) (requestOf (w .state) .until) (restOf (w .state)))) (cond y a b))
+    go : (x y : Bool) (a b : Plan) → Ending (chunkStateIn w) a → Ending (chunkStateIn w) b
+        → Ending (chunkStateIn w) (cond x (asks (offsetOf (w .state)) 0 0 (pieceOf (requestOf (w .state) .count) (requestOf (w .state) .from) (requestOf (w .state) .to) (requestOf (w .state) .until) (restOf (w .state)))) (cond y a b))
     go true y a b h k = record { ends-22 = λ z. absurd (omega (arith, z)); ends-23 = λ z. absurd (omega (arith, z)); marks = λ q a b. absurd (omega arith) }
     go false true a b h k = h
     go false false a b h k = k
@@ -207,7 +207,7 @@ decided-keeps w r f n o t k = go (eqb n 0)
         record { refused = λ z. refl; unaligned = λ z. absurd (none refusal.unalignedMemory refl (λ e. omega (arith, e)) z); failed = λ z. absurd (none refusal.registrationFailed refl (λ e. omega (arith, e)) z) }
 
 plan-keeps : (w : World) (r : List ℕ) (p : Plan) → let v : World = world (w .state) r (w .failed) in
-    plain (p .answer) ≡ true → Ending (seenIn v) p → Kept w r (w .failed) (carriedOut v p)
+    plain (p .answer) ≡ true → Ending (chunkStateIn v) p → Kept w r (w .failed) (carriedOut v p)
 plan-keeps w r p l h =
     record {
       refused = λ z. false≢true (sym z ∙ plain-taken (p .answer) l);
@@ -233,11 +233,11 @@ refusals-keep w (RegisterRange a l) =
     let f : ℕ = firstChunk (granularityOf (w .state)) a in
     let e : ℕ = endChunk (granularityOf (w .state)) a l in
     decided-keeps w (w .registered) (w .failed) (registerRefusal w a l) (carriedOut w (registerPlan w a l)) (register-taken w a l)
-    (plan-keeps w (w .registered) (registerPlan w a l) (register-plain (seenIn w) (offsetOf (w .state)) 0 f e) (register-ending (seenIn w) (offsetOf (w .state)) 0 f e))
+    (plan-keeps w (w .registered) (registerPlan w a l) (register-plain (chunkStateIn w) (offsetOf (w .state)) 0 f e) (register-ending (chunkStateIn w) (offsetOf (w .state)) 0 f e))
 refusals-keep w (RegisterAll al ignore) =
     let rs : List MemoryRange = spans (entriesIn (w .state)) in
     decided-keeps w (w .registered) (w .failed) (allRefusal w al ignore) (carriedOut w (allPlan w al ignore)) (all-taken w al ignore)
-    (plan-keeps w (w .registered) (allPlan w al ignore) (all-plain (seenIn w) (offsetOf (w .state)) 0 al ignore 0 rs) (all-ending (seenIn w) (offsetOf (w .state)) 0 al ignore 0 rs))
+    (plan-keeps w (w .registered) (allPlan w al ignore) (all-plain (chunkStateIn w) (offsetOf (w .state)) 0 al ignore 0 rs) (all-ending (chunkStateIn w) (offsetOf (w .state)) 0 al ignore 0 rs))
 refusals-keep w AnswerDone =
     let v : World = afterTaken w in
     decided-keeps w (v .registered) (w .failed) (answerRefusal w) (carriedOut v (donePlan v)) (answer-taken w)

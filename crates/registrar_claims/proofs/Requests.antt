@@ -23,8 +23,8 @@ use Rattle.registrar_steps.specs.declared.Answer.the-variants.{Done, Registrati
 use Rattle.registrar_steps.specs.declared.Look.{Look}
 use Rattle.registrar_steps.specs.declared.Look.the-variants.{Nothing, Edge, FailedBefore, Stretch}
 use Rattle.registrar_steps.specs.declared.Plan.{Plan}
-use Rattle.registrar_steps.specs.Steps.{Seen, idle, asks, ends, ramFrom, passes, pieceOf, registerFrom, stretchIn, lookAt, found, allFrom}
-use Rattle.registrar_state.specs.World.{World, requestOf, offsetOf, entriesIn, seenIn, restOf, hasRest, donePlan}
+use Rattle.registrar_steps.specs.Steps.{ChunkState, idle, asks, ends, ramFrom, passes, pieceOf, registerFrom, stretchIn, lookAt, found, allFrom}
+use Rattle.registrar_state.specs.World.{World, requestOf, offsetOf, entriesIn, chunkStateIn, restOf, hasRest, donePlan}
 use Rattle.registrar_claims.proofs.Stretches.{part-end}
 
 -- a request of memory that ends at m
@@ -106,7 +106,7 @@ up-le n g = go (eqb (n % g) 0)
 
 -- ---- the plans
 
-register-fits : (s : Seen) (o n c last : ℕ) → ordered 0 (s .entries) ≡ true → Fits (lastEnd (s .entries)) (registerFrom s o n c last .request)
+register-fits : (s : ChunkState) (o n c last : ℕ) → ordered 0 (s .entries) ≡ true → Fits (lastEnd (s .entries)) (registerFrom s o n c last .request)
 unfolding registerFrom
 register-fits s o n c last ord =
     let e : ℕ = min last (chunkCount (s .granularity) (s .entries)) in
@@ -163,7 +163,7 @@ look-within g registered failed al ignore c r =
     go false true h = tt
     go false false h = h
 
-all-fits : (s : Seen) (o n al ignore c m : ℕ) (rs : List MemoryRange) → m ≤ 2 ^ 52 → Low m rs → Fits m (allFrom s o n al ignore c rs .request)
+all-fits : (s : ChunkState) (o n al ignore c m : ℕ) (rs : List MemoryRange) → m ≤ 2 ^ 52 → Low m rs → Fits m (allFrom s o n al ignore c rs .request)
 unfolding allFrom Low
 all-fits s o n al ignore c m [] l h = idle-fits m
 all-fits s o n al ignore c m (r ∷ rs) l h =
@@ -186,12 +186,12 @@ module _ (w : World) (ord : ordered 0 (entriesIn (w .state)) ≡ true) where
   abbrev last : ℕ
   last = lastEnd (entriesIn (w .state))
 
-  pub register-asks : (n c end : ℕ) → Fits last (registerFrom (seenIn w) (offsetOf (w .state)) n c end .request)
-  register-asks n c end = register-fits (seenIn w) (offsetOf (w .state)) n c end ord
+  pub register-asks : (n c end : ℕ) → Fits last (registerFrom (chunkStateIn w) (offsetOf (w .state)) n c end .request)
+  register-asks n c end = register-fits (chunkStateIn w) (offsetOf (w .state)) n c end ord
 
-  pub all-asks : (n al ignore c : ℕ) → Fits last (allFrom (seenIn w) (offsetOf (w .state)) n al ignore c (spans (entriesIn (w .state))) .request)
+  pub all-asks : (n al ignore c : ℕ) → Fits last (allFrom (chunkStateIn w) (offsetOf (w .state)) n al ignore c (spans (entriesIn (w .state))) .request)
   all-asks n al ignore c =
-      all-fits (seenIn w) (offsetOf (w .state)) n al ignore c last (spans (entriesIn (w .state))) (last-low (entriesIn (w .state)) ord) (spans-low (entriesIn (w .state)) ord)
+      all-fits (chunkStateIn w) (offsetOf (w .state)) n al ignore c last (spans (entriesIn (w .state))) (last-low (entriesIn (w .state)) ord) (spans-low (entriesIn (w .state)) ord)
 
   pub done-asks : Fits last (requestOf (w .state)) → Fits last (donePlan w .request)
   done-asks f =
@@ -201,7 +201,7 @@ module _ (w : World) (ord : ordered 0 (entriesIn (w .state)) ≡ true) where
       go : (x y : Bool) (a b : Plan) → Fits last (a .request) → Fits last (b .request)
           → Fits last (cond x (asks (offsetOf (w .state)) 0 0 (pieceOf (requestOf (w .state) .count) (requestOf (w .state) .from) (requestOf (w .state) .to) (requestOf (w .state) .until) (restOf (w .state)))) (cond y a b) .request)
       go true y a b h k =
-          let p = pieces-low last (requestOf (w .state) .end) ((requestOf (w .state) .from + 1) * seenIn w .granularity) (spans (entriesIn (w .state))) (spans-low (entriesIn (w .state)) ord) in
+          let p = pieces-low last (requestOf (w .state) .end) ((requestOf (w .state) .from + 1) * chunkStateIn w .granularity) (spans (entriesIn (w .state))) (spans-low (entriesIn (w .state)) ord) in
           record {
             rests = λ z. absurd (omega arith);
             to-fits = f .to-fits;

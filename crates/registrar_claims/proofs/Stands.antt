@@ -16,7 +16,7 @@ use Rattle.layout.specs.Layout.{entriesOf, spans}
 use Rattle.layout.proofs.Laws.{fit}
 use Rattle.chunks.specs.Chunks.{chunkCount, mapWords, firstChunk, endChunk, isPower}
 use Rattle.registrar_steps.specs.declared.Answer.the-variants.{Refused}
-use Rattle.registrar_state.specs.World.{World, Outcome, requestOf, offsetOf, granularityOf, ramOf, entriesIn, seenIn, flatOf, decided, buildRefusal, buildOf, callRefusal, chunksFit, registerRefusal, allRefusal, carriedOut, registerPlan, allPlan, registerOf, allOf, answerRefusal, failedOf, donePlan, afterTaken, doneOf}
+use Rattle.registrar_state.specs.World.{World, Outcome, requestOf, offsetOf, granularityOf, ramOf, entriesIn, chunkStateIn, flatOf, decided, buildRefusal, buildOf, callRefusal, chunksFit, registerRefusal, allRefusal, carriedOut, registerPlan, allPlan, registerOf, allOf, answerRefusal, failedOf, donePlan, afterTaken, doneOf}
 use Rattle.registrar_state.proofs.Laws.{build-fits}
 use Rattle.registrar_claims.specs.Runs.{Call, Build, RegisterRange, RegisterAll, AnswerDone, AnswerFailed, give, isBuild, notRefused, isTaken, underWay, after, awaitsAfter, Settings, builtWith, settingsBy, settingsAfter, quiet}
 use Rattle.registrar_claims.specs.Claims.{isWithin, Stands}
@@ -114,9 +114,9 @@ call-tells w (Build ram o g) = decided-tells w (buildRefusal w ram o g) _ (build
 call-tells w (RegisterRange a l) =
     let g : ℕ = granularityOf (w .state) in
     decided-tells w (registerRefusal w a l) (carriedOut w (registerPlan w a l)) (register-taken w a l)
-    (register-counts (seenIn w) (offsetOf (w .state)) 0 (firstChunk g a) (endChunk g a l) .2)
+    (register-counts (chunkStateIn w) (offsetOf (w .state)) 0 (firstChunk g a) (endChunk g a l) .2)
 call-tells w (RegisterAll al ig) =
-    decided-tells w (allRefusal w al ig) (carriedOut w (allPlan w al ig)) (all-taken w al ig) (all-counts (seenIn w) (offsetOf (w .state)) 0 al ig 0 (spans (entriesIn (w .state))) .2)
+    decided-tells w (allRefusal w al ig) (carriedOut w (allPlan w al ig)) (all-taken w al ig) (all-counts (chunkStateIn w) (offsetOf (w .state)) 0 al ig 0 (spans (entriesIn (w .state))) .2)
 call-tells w AnswerDone = decided-tells w (answerRefusal w) (carriedOut (afterTaken w) (donePlan (afterTaken w))) (answer-taken w) (done-counts (afterTaken w) .2)
 call-tells w AnswerFailed = decided-tells w (answerRefusal w) _ (answer-taken w) refl
 
@@ -166,13 +166,13 @@ module _ (w : World) (s : Sound w) where
   register-passes address len h k =
       let g : ℕ = granularityOf (w .state) in
       let z = call-passes (unless (chunksFit (w .state) (firstChunk g address) (endChunk g address len)) refusal.unfitChunk 0) h (rw k) in
-      rw (eq-eqb (registerRefusal w address len) 0 z) (plain-taken (registerPlan w address len .answer) (register-plain (seenIn w) (offsetOf (w .state)) 0 (firstChunk g address) (endChunk g address len)))
+      rw (eq-eqb (registerRefusal w address len) 0 z) (plain-taken (registerPlan w address len .answer) (register-plain (chunkStateIn w) (offsetOf (w .state)) 0 (firstChunk g address) (endChunk g address len)))
 
   all-passes : (al ignore : ℕ) → underWay w ≡ false → leb ignore 1 ≡ true → (leb (granularityOf (w .state)) al && isPower al) ≡ true → isTaken (allOf w al ignore) ≡ true
   unfolding allOf allRefusal
   all-passes al ignore h i k =
       let z = call-passes (unless (leb ignore 1) refusal.unfitNumber (unless (leb (granularityOf (w .state)) al && isPower al) refusal.unfitChunk 0)) h (rw (i, k)) in
-      rw (eq-eqb (allRefusal w al ignore) 0 z) (plain-taken (allPlan w al ignore .answer) (all-plain (seenIn w) (offsetOf (w .state)) 0 al ignore 0 (spans (entriesIn (w .state)))))
+      rw (eq-eqb (allRefusal w al ignore) 0 z) (plain-taken (allPlan w al ignore .answer) (all-plain (chunkStateIn w) (offsetOf (w .state)) 0 al ignore 0 (spans (entriesIn (w .state)))))
 
 -- THE CLAIM of what a registrar is and takes
 pub stands : (w : World) (b : Settings) (awaits : Bool) → Sound w → Has (w .state) b → underWay w ≡ awaits → Stands w b awaits

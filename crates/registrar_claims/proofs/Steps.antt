@@ -25,11 +25,11 @@ use Rattle.chunks.proofs.Scan.{first-step, first-stop, first-end, first-from}
 use Rattle.registrar_steps.specs.declared.Request.{Request}
 use Rattle.registrar_steps.specs.declared.Answer.the-variants.{Done, RegistrationFailed}
 use Rattle.registrar_steps.specs.declared.Plan.{Plan}
-use Rattle.registrar_steps.specs.Steps.{Seen, seen, idle, askedOf, asks, ends, more, ramFrom, passes, pieceOf, registerFrom}
+use Rattle.registrar_steps.specs.Steps.{ChunkState, chunkState, idle, askedOf, asks, ends, more, ramFrom, passes, pieceOf, registerFrom}
 use Rattle.registrar_state.specs.declared.Reply.{Reply}
 use Rattle.registrar_state.specs.World.{World, world, Outcome, outcome, requestOf, requestWords, granularityOf, entriesIn, flatOf, lengthsFit, chunksFit, registerRefusal, marked, carriedOut, registerOf, answerRefusal, failedOf, doneOf}
 use Rattle.registrar_claims.specs.Runs.{Told, before, follow}
-use Rattle.registrar_claims.specs.Whole.{Stand, Ok, FailedAt, Whole, ended, offered, asking, offer, wholeChunks, wholeRegister, Says, Words, Match}
+use Rattle.registrar_claims.specs.Whole.{Status, Ok, FailedAt, Whole, ended, offered, asking, offer, wholeChunks, wholeRegister, Says, Words, Match}
 use Rattle.registrar_claims.proofs.Spans.{Ascend, spans-ascend, piece-some, pieces-rest}
 use Rattle.registrar_state.proofs.Laws.{split-state}
 use Rattle.registrar.proofs.Laws.{register-long}
@@ -92,7 +92,7 @@ unfolding follow
 follow-ended o [] h = rw h
 follow-ended o (b ∷ bs) h = rw h
 
-pub says-at : (m n : ℕ) (r : Reply) (x : Stand) → m ≡ n → Says m r x → Says n r x
+pub says-at : (m n : ℕ) (r : Reply) (x : Status) → m ≡ n → Says m r x → Says n r x
 says-at m n r x e h = subst (λ (k : ℕ). Says k r x) e h
 
 pub match-ask : (k o : ℕ) (p : MemoryRange) (a : MemoryRange) (t : Told) (w : Whole) → a ≡ offered o p → Match (k + 1) t w → Match k (before a t) (asking o p w)
@@ -101,7 +101,7 @@ match-ask k o p a t w e h =
       same-asked = ap₂ (λ (x : MemoryRange) (l : List MemoryRange). x ∷ l) e (h .same-asked);
       same-registered = h .same-registered;
       same-failed = h .same-failed;
-      same-reply = says-at (k + 1 + length (w .asked)) (k + suc (length (w .asked))) (t .last .reply) (w .stand) (omega arith) (h .same-reply);
+      same-reply = says-at (k + 1 + length (w .asked)) (k + suc (length (w .asked))) (t .last .reply) (w .status) (omega arith) (h .same-reply);
     }
 
 pub match-told : (k : ℕ) (t u : Told) (w : Whole) → t ≡ u → Match k u w → Match k t w
@@ -127,7 +127,7 @@ module _ (tail f : List ℕ) (last : ℕ) where
 
   -- what it gives where it goes on from chunk c, having asked k times
   abbrev from : Request → List ℕ → ℕ → ℕ → Outcome
-  from q r k c = carriedOut (at q r) (registerFrom (seen g es r f) o (k % 2 ^ 64) c last)
+  from q r k c = carriedOut (at q r) (registerFrom (chunkState g es r f) o (k % 2 ^ 64) c last)
 
   -- what it gives where it asks for a piece of chunk c
   abbrev asks-piece : List ℕ → ℕ → ℕ → MemoryRange → Outcome
@@ -205,14 +205,14 @@ module _ (tail f : List ℕ) (last : ℕ) where
               let v : Request = pieceOf (k % 2 ^ 64) t (t + 1) last (ramFrom g es t (t * g)) in
               ap (λ (l : List ℕ). outcome (requestWords v ++ tail) l f (flatOf (askedOf o v))) m
 
-      walked : (r : List ℕ) (d : ℕ) → firstNot (passes (seen g es r f)) d (min last (chunkCount g es)) ≡ firstNot (passes (seen g es r f)) d last
-      walked r d = let e : min last (chunkCount g es) ≡ last = omega arith in ap (firstNot (passes (seen g es r f)) d) e
+      walked : (r : List ℕ) (d : ℕ) → firstNot (passes (chunkState g es r f)) d (min last (chunkCount g es)) ≡ firstNot (passes (chunkState g es r f)) d last
+      walked r d = let e : min last (chunkCount g es) ≡ last = omega arith in ap (firstNot (passes (chunkState g es r f)) d) e
 
-      skip : (r : List ℕ) → c < last → passes (seen g es r f) c ≡ true → from q r k c ≡ from q (marked c (c + 1) r) k (c + 1)
+      skip : (r : List ℕ) → c < last → passes (chunkState g es r f) c ≡ true → from q r k c ≡ from q (marked c (c + 1) r) k (c + 1)
       unfolding registerFrom stopped
       skip r h p =
-          let P : ℕ → Bool = passes (seen g es r f) in
-          let Q : ℕ → Bool = passes (seen g es (marked c (c + 1) r) f) in
+          let P : ℕ → Bool = passes (chunkState g es r f) in
+          let Q : ℕ → Bool = passes (chunkState g es (marked c (c + 1) r) f) in
           let t : ℕ = firstNot P (c + 1) last in
           let u : firstNot P c (min last (chunkCount g es)) ≡ t = walked r c ∙ first-step P c last h p in
           let v : t ≡ firstNot Q (c + 1) (min last (chunkCount g es)) =
@@ -220,27 +220,27 @@ module _ (tail f : List ℕ) (last : ℕ) where
           ∙ sym (walked (marked c (c + 1) r) (c + 1)) in
           ap (λ (n : ℕ). carriedOut (at q r) (stopped c n)) u ∙ moved r t (first-from P (c + 1) last) ∙ ap (λ (n : ℕ). carriedOut (at q (marked c (c + 1) r)) (stopped (c + 1) n)) v
 
-      here : (r : List ℕ) (t : Plan) → stopped c c ≡ t → firstNot (passes (seen g es r f)) c last ≡ c → from q r k c ≡ carriedOut (at q r) t
+      here : (r : List ℕ) (t : Plan) → stopped c c ≡ t → firstNot (passes (chunkState g es r f)) c last ≡ c → from q r k c ≡ carriedOut (at q r) t
       unfolding registerFrom stopped
       here r t e u = ap (λ (n : ℕ). carriedOut (at q r) (stopped c n)) (walked r c ∙ u) ∙ ap (carriedOut (at q r)) e
 
       over : (r : List ℕ) → last ≤ c → from q r k c ≡ outcome (requestWords idle ++ tail) r f (flatOf (Done (k % 2 ^ 64)))
       unfolding stopped
       over r h =
-          here r (ends c c (Done (k % 2 ^ 64))) (rw (le-ltb c (min last (chunkCount g es)) (omega arith))) (first-end (passes (seen g es r f)) c last h)
+          here r (ends c c (Done (k % 2 ^ 64))) (rw (le-ltb c (min last (chunkCount g es)) (omega arith))) (first-end (passes (chunkState g es r f)) c last h)
           ∙ ap (λ (l : List ℕ). outcome (requestWords idle ++ tail) l f (flatOf (Done (k % 2 ^ 64)))) (marked-none c r)
 
-      module _ (r : List ℕ) (h : c < last) (n : passes (seen g es r f) c ≡ false) where
+      module _ (r : List ℕ) (h : c < last) (n : passes (chunkState g es r f) c ≡ false) where
         bad : bitAt wordBits f c ≡ true → from q r k c ≡ outcome (requestWords idle ++ tail) r f (flatOf (RegistrationFailed (c * g) (k % 2 ^ 64)))
         unfolding stopped
         bad b =
-            here r (ends c c (RegistrationFailed (c * g) (k % 2 ^ 64))) (rw (lt-ltb c (min last (chunkCount g es)) (omega arith), b)) (first-stop (passes (seen g es r f)) c last h n)
+            here r (ends c c (RegistrationFailed (c * g) (k % 2 ^ 64))) (rw (lt-ltb c (min last (chunkCount g es)) (omega arith), b)) (first-stop (passes (chunkState g es r f)) c last h n)
             ∙ ap (λ (l : List ℕ). outcome (requestWords idle ++ tail) l f (flatOf (RegistrationFailed (c * g) (k % 2 ^ 64)))) (marked-none c r)
 
         asked-for : bitAt wordBits f c ≡ false → (p : MemoryRange) → ramFrom g es c (c * g) ≡ p → from q r k c ≡ asks-piece r k c p
         unfolding stopped
         asked-for b p e =
-            here r (asks o c c (pieceOf (k % 2 ^ 64) c (c + 1) last p)) (rw (lt-ltb c (min last (chunkCount g es)) (omega arith), b, e)) (first-stop (passes (seen g es r f)) c last h n)
+            here r (asks o c c (pieceOf (k % 2 ^ 64) c (c + 1) last p)) (rw (lt-ltb c (min last (chunkCount g es)) (omega arith), b, e)) (first-stop (passes (chunkState g es r f)) c last h n)
             ∙ ap (λ (l : List ℕ). outcome (requestWords (pieceOf (k % 2 ^ 64) c (c + 1) last p) ++ tail) l f (flatOf (askedOf o (pieceOf (k % 2 ^ 64) c (c + 1) last p)))) (marked-none c r)
 
     chunks-match : (n c k : ℕ) (q : Request) (r : List ℕ) (bs : List Bool) → last - c ≡ n → length r ≡ mapWords g es → Words r
@@ -277,7 +277,7 @@ module _ (tail f : List ℕ) (last : ℕ) where
 nothing-touched : (tail f r : List ℕ) (q : Request) (first last : ℕ) (bs : List Bool) → last ≤ first
     → Match 0 (follow (from tail f last q r 0 first) bs) (ended r f Ok)
 nothing-touched tail f r q first last bs h =
-    let s : Seen = seen (g tail f last) (es tail f last) r f in
+    let s : ChunkState = chunkState (g tail f last) (es tail f last) r f in
     let e : ℕ = min last (chunkCount (g tail f last) (es tail f last)) in
     let d : ends first first (Done 0) ≡ registerFrom s (o tail f last) 0 first last =
     register-done s (o tail f last) 0 first last e first refl (sym (first-end (passes s) first e (omega arith))) (ends first first (Done 0)) (omega arith) refl in

@@ -27,7 +27,7 @@ use Rattle.registrar_steps.specs.declared.Answer.the-variants.{Done, Registrati
 use Rattle.registrar_steps.specs.declared.Look.{Look}
 use Rattle.registrar_steps.specs.declared.Look.the-variants.{Nothing, Edge, FailedBefore, Stretch}
 use Rattle.registrar_steps.specs.declared.Plan.{Plan}
-use Rattle.registrar_steps.specs.Steps.{seen, idle, askedOf, more, stretchIn, lookAt, unalignedAt, stretchOf, found, allFrom}
+use Rattle.registrar_steps.specs.Steps.{chunkState, idle, askedOf, more, stretchIn, lookAt, unalignedAt, stretchOf, found, allFrom}
 use Rattle.registrar_state.specs.World.{World, world, Outcome, outcome, requestOf, requestWords, entriesIn, flatOf, lengthsFit, allRefusal, marked, carriedOut, allOf, answerRefusal, failedOf, doneOf}
 use Rattle.registrar_claims.specs.Runs.{follow}
 use Rattle.registrar_claims.specs.Whole.{FailedAt, UnalignedAt, offerStretch, wholeSpan, wholeSpans, wholeAll, Whole, ended, Match}
@@ -210,7 +210,7 @@ module _ (tail f : List ℕ) (al ig : ℕ) where
 
   -- what is planned from chunk c on over some of the spans, and what is given
   abbrev plan : List ℕ → ℕ → ℕ → List MemoryRange → Plan
-  plan r k c ss = allFrom (seen g es r f) o (k % 2 ^ 64) al ig c ss
+  plan r k c ss = allFrom (chunkState g es r f) o (k % 2 ^ 64) al ig c ss
 
   abbrev from : Request → List ℕ → ℕ → ℕ → Outcome
   from q r k c = carriedOut (at q r) (plan r k c rs)

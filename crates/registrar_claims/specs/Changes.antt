@@ -6,7 +6,7 @@ use Prim.Native.Nat.{ℕ, _≤_, _<_}
 use Rattle.abi.specs.Refusals as refusal
 use Rattle.abi.specs.Lengths.{wordBits}
 use Rattle.bitmap.specs.Pages.{bitAt}
-use Rattle.registrar_steps.specs.Steps.{seen, idle, passes}
+use Rattle.registrar_steps.specs.Steps.{chunkState, idle, passes}
 use Rattle.registrar_state.specs.World.{World, Outcome, requestOf, withRequest, granularityOf, entriesIn, marked, takenTo}
 use Rattle.registrar_claims.specs.Runs.{Call, Build, RegisterRange, RegisterAll, AnswerDone, AnswerFailed, notRefused}
 
@@ -41,7 +41,7 @@ pub record Failed23 (lent : World) (registered failed : List ℕ) (o : Outcome) 
   pub to : ℕ
   pub same-state : IdleState lent o
   pub same-registered : o .world .registered ≡ marked from to registered
-  pub passed : (chunk : ℕ) → from ≤ chunk → chunk < to → passes (seen (granularityOf (lent .state)) (entriesIn (lent .state)) registered (lent .failed)) chunk ≡ true
+  pub passed : (chunk : ℕ) → from ≤ chunk → chunk < to → passes (chunkState (granularityOf (lent .state)) (entriesIn (lent .state)) registered (lent .failed)) chunk ≡ true
   pub same-failed : o .world .failed ≡ failed
 
 -- every other refusal changes nothing

@@ -19,28 +19,28 @@ use Rattle.registrar_state.specs.World.{World, offsetOf, granularityOf, entries
 use Rattle.registrar_claims.specs.Runs.{Told}
 
 -- how a call stands once the answers are used up: it waits for one, is Ok, or ended with 23 or 22
-pub data Stand : Type 0 where
-  Waits : Stand
-  Ok : Stand
-  FailedAt : ℕ → Stand
-  UnalignedAt : Unaligned → Stand
+pub data Status : Type 0 where
+  Waits : Status
+  Ok : Status
+  FailedAt : ℕ → Status
+  UnalignedAt : Unaligned → Status
 
 -- the ranges that it asked for, in order, the bitmaps that it leaves, and how it stands
 pub record Whole : Type 0 where
   pub asked : List MemoryRange
   pub registered : List ℕ
   pub failed : List ℕ
-  pub stand : Stand
+  pub status : Status
 
-abbrev pub ended : List ℕ → List ℕ → Stand → Whole
-ended registered failed stand = record { asked = []; registered = registered; failed = failed; stand = stand }
+abbrev pub ended : List ℕ → List ℕ → Status → Whole
+ended registered failed status = record { asked = []; registered = registered; failed = failed; status = status }
 
 -- a range is offered at offset + address
 abbrev pub offered : ℕ → MemoryRange → MemoryRange
 offered offset piece = range ((offset + piece .start) % 2 ^ 64) ((offset + piece .end) % 2 ^ 64)
 
 abbrev pub asking : ℕ → MemoryRange → Whole → Whole
-asking offset piece whole = record { asked = offered offset piece ∷ whole .asked; registered = whole .registered; failed = whole .failed; stand = whole .stand }
+asking offset piece whole = record { asked = offered offset piece ∷ whole .asked; registered = whole .registered; failed = whole .failed; status = whole .status }
 
 -- the RAM of a chunk, one range a span: a failure marks the chunk failed and tells where the range starts; else the call goes on
 unfoldable pub offer : ℕ → ℕ → List MemoryRange → List Bool → List ℕ → List ℕ → (List Bool → Whole) → Whole
@@ -98,7 +98,7 @@ wholeAll lent alignment ignore answers =
 -- ---- what the steps of a call tell
 
 -- what a call replies that stands so after n operations
-abbrev pub Says : ℕ → Reply → Stand → Type 0
+abbrev pub Says : ℕ → Reply → Status → Type 0
 Says count reply Waits = reply .asked ≡ 1
 Says count reply Ok = reply ≡ flatOf (Done (count % 2 ^ 64))
 Says count reply (FailedAt address) = reply ≡ flatOf (RegistrationFailed address (count % 2 ^ 64))
@@ -113,4 +113,4 @@ pub record Match (k : ℕ) (t : Told) (w : Whole) : Type 0 where
   pub same-asked : t .asked ≡ w .asked
   pub same-registered : t .last .world .registered ≡ w .registered
   pub same-failed : t .last .world .failed ≡ w .failed
-  pub same-reply : Says (k + length (w .asked)) (t .last .reply) (w .stand)
+  pub same-reply : Says (k + length (w .asked)) (t .last .reply) (w .status)

@@ -28,9 +28,9 @@ use Rattle.registrar_steps.specs.declared.Request.{Request}
 use Rattle.registrar_steps.specs.declared.Answer.the-variants.{Done}
 use Rattle.registrar_steps.specs.declared.Plan.{Plan}
 use Rattle.registrar_steps.specs.declared.Stop.{Stop}
-use Rattle.registrar_steps.specs.Steps.{Seen, seen, idle, isIdle, ends, ramFrom, passes, stopAt, allFrom}
+use Rattle.registrar_steps.specs.Steps.{ChunkState, chunkState, idle, isIdle, ends, ramFrom, passes, stopAt, allFrom}
 use Rattle.registrar_steps.proofs.Laws.{register-done}
-use Rattle.registrar_state.specs.World.{World, outcome, requestOf, requestWords, withRequest, offsetOf, granularityOf, ramOf, entriesIn, seenIn, flatOf, lengthsFit, buildRefusal, callRefusal, countIn, chunksFit, marked, carriedOut, registerPlan, isKnown, restOf}
+use Rattle.registrar_state.specs.World.{World, outcome, requestOf, requestWords, withRequest, offsetOf, granularityOf, ramOf, entriesIn, chunkStateIn, flatOf, lengthsFit, buildRefusal, callRefusal, countIn, chunksFit, marked, carriedOut, registerPlan, isKnown, restOf}
 
 -- ---- the request's words
 
@@ -197,14 +197,14 @@ build-fits w ram o g z =
 -- ---- plans
 
 module _ (w : World) (ram : List ℕ) (e : ram ≡ ramOf (w .state)) where
-  abbrev seenOver : List ℕ → Seen
-  seenOver l = seen (granularityOf (w .state)) (entriesOf l) (w .registered) (w .failed)
+  abbrev seenOver : List ℕ → ChunkState
+  seenOver l = chunkState (granularityOf (w .state)) (entriesOf l) (w .registered) (w .failed)
 
-  pub stop-planned : (a : Stop) (from to : ℕ) → a ≡ stopAt (seenOver ram) from to → a ≡ stopAt (seenIn w) from to
+  pub stop-planned : (a : Stop) (from to : ℕ) → a ≡ stopAt (seenOver ram) from to → a ≡ stopAt (chunkStateIn w) from to
   stop-planned a from to q = q ∙ ap (λ (r : List ℕ). stopAt (seenOver r) from to) e
 
   pub all-planned : (p : Plan) (n al ignore c : ℕ) → p ≡ allFrom (seenOver ram) (offsetOf (w .state)) n al ignore c (spans (entriesOf ram))
-      → p ≡ allFrom (seenIn w) (offsetOf (w .state)) n al ignore c (spans (entriesIn (w .state)))
+      → p ≡ allFrom (chunkStateIn w) (offsetOf (w .state)) n al ignore c (spans (entriesIn (w .state)))
   all-planned p n al ignore c q = q ∙ ap (λ (r : List ℕ). allFrom (seenOver r) (offsetOf (w .state)) n al ignore c (spans (entriesOf r))) e
 
 pub rest-is : (s ram : List ℕ) (r : MemoryRange) → ram ≡ ramOf s → r ≡ ramFrom (granularityOf s) (entriesOf ram) (getD s place.from 0) (getD s place.end 0) → r ≡ restOf s
@@ -263,7 +263,7 @@ module _ (w : World) (address len : ℕ) (h : length (w .state) ≡ registrarLen
   to = min end (chunkCount (granularityOf (w .state)) (entriesIn (w .state)))
 
   abbrev stop : ℕ
-  stop = firstNot (passes (seenIn w)) first to
+  stop = firstNot (passes (chunkStateIn w)) first to
 
   known-at : (q : ℕ) → first ≤ q → q < end → bitAt wordBits (w .registered) q ≡ true
   known-at q a b =
@@ -271,7 +271,7 @@ module _ (w : World) (address len : ℕ) (h : length (w .state) ≡ registrarLen
       (omega (arith, leb-true end (firstNot (bitAt wordBits (w .registered)) first end) (and-right (isIdle (requestOf (w .state))) _ k)))
 
   known-stop : stop ≡ max first to
-  known-stop = first-all (passes (seenIn w)) first to (λ q a b. or-left (bitAt wordBits (w .registered) q) _ (known-at q a (omega arith)))
+  known-stop = first-all (passes (chunkStateIn w)) first to (λ q a b. or-left (bitAt wordBits (w .registered) q) _ (known-at q a (omega arith)))
 
   known-marks : w .registered ≡ marked first stop (w .registered)
   known-marks =
@@ -283,7 +283,7 @@ module _ (w : World) (address len : ℕ) (h : length (w .state) ≡ registrarLen
       ∙ known-at (j * wordBits + c) (between-from first stop (j * wordBits + c) p) (omega (arith, known-stop, between-from first stop (j * wordBits + c) p, between-to first stop (j * wordBits + c) p)))
 
   known-plan : ends first stop (Done 0) ≡ registerPlan w address len
-  known-plan = register-done (seenIn w) (offsetOf (w .state)) 0 first end to stop refl refl (ends first stop (Done 0)) (omega (arith, known-stop)) refl
+  known-plan = register-done (chunkStateIn w) (offsetOf (w .state)) 0 first end to stop refl refl (ends first stop (Done 0)) (omega (arith, known-stop)) refl
 
   known-state : w .state ≡ withRequest idle (w .state)
   known-state =

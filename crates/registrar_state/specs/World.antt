@@ -20,7 +20,7 @@ use Rattle.registrar_steps.specs.declared.Unaligned.{Unaligned}
 use Rattle.registrar_steps.specs.declared.Answer.{Answer}
 use Rattle.registrar_steps.specs.declared.Answer.the-variants.{Done, Register, RegistrationFailed, UnalignedMemory, Refused}
 use Rattle.registrar_steps.specs.declared.Plan.{Plan}
-use Rattle.registrar_steps.specs.Steps.{Seen, seen, idle, isIdle, asks, ramFrom, pieceOf, registerFrom, allFrom}
+use Rattle.registrar_steps.specs.Steps.{ChunkState, chunkState, idle, isIdle, asks, ramFrom, pieceOf, registerFrom, allFrom}
 use Rattle.registrar_state.specs.declared.Reply.{Reply}
 
 -- what is lent: the state block of 108 words, and the two bitmaps
@@ -70,8 +70,8 @@ abbrev pub builtState : List ℕ → ℕ → ℕ → List ℕ
 builtState ram offset granularity =
     requestWords idle ++ (offset ∷ granularity ∷ length (entriesOf ram) ∷ ram) ++ replicate (ramLen - length ram) 0
 
-abbrev pub seenIn : World → Seen
-seenIn lent = seen (granularityOf (lent .state)) (entriesIn (lent .state)) (lent .registered) (lent .failed)
+abbrev pub chunkStateIn : World → ChunkState
+chunkStateIn lent = chunkState (granularityOf (lent .state)) (entriesIn (lent .state)) (lent .registered) (lent .failed)
 
 -- ---- the reply: 01's number and values for each case of the answer
 
@@ -169,10 +169,10 @@ carriedOut lent plan =
 abbrev pub registerPlan : World → ℕ → ℕ → Plan
 registerPlan lent address len =
     let granularity : ℕ = granularityOf (lent .state) in
-    registerFrom (seenIn lent) (offsetOf (lent .state)) 0 (firstChunk granularity address) (endChunk granularity address len)
+    registerFrom (chunkStateIn lent) (offsetOf (lent .state)) 0 (firstChunk granularity address) (endChunk granularity address len)
 
 abbrev pub allPlan : World → ℕ → ℕ → Plan
-allPlan lent alignment ignore = allFrom (seenIn lent) (offsetOf (lent .state)) 0 alignment ignore 0 (spans (entriesIn (lent .state)))
+allPlan lent alignment ignore = allFrom (chunkStateIn lent) (offsetOf (lent .state)) 0 alignment ignore 0 (spans (entriesIn (lent .state)))
 
 -- nothing is left of an earlier request, and the chunks from first to before end are registered
 abbrev pub isKnown : List ℕ → List ℕ → ℕ → ℕ → Bool
@@ -216,8 +216,8 @@ abbrev pub donePlan : World → Plan
 donePlan lent =
     let request : Request = requestOf (lent .state) in
     cond (hasRest (lent .state)) (asks (offsetOf (lent .state)) 0 0 (pieceOf (request .count) (request .from) (request .to) (request .until) (restOf (lent .state))))
-    (cond (eqb (request .kind) kind.register) (registerFrom (seenIn lent) (offsetOf (lent .state)) (request .count) (request .to) (request .until))
-    (allFrom (seenIn lent) (offsetOf (lent .state)) (request .count) (request .alignment) (request .ignore) (request .to) (spans (entriesIn (lent .state)))))
+    (cond (eqb (request .kind) kind.register) (registerFrom (chunkStateIn lent) (offsetOf (lent .state)) (request .count) (request .to) (request .until))
+    (allFrom (chunkStateIn lent) (offsetOf (lent .state)) (request .count) (request .alignment) (request .ignore) (request .to) (spans (entriesIn (lent .state)))))
 
 abbrev pub afterTaken : World → World
 afterTaken lent = world (lent .state) (marked (requestOf (lent .state) .from) (takenTo (lent .state)) (lent .registered)) (lent .failed)

@@ -9,7 +9,7 @@ ghost use Rattle.abi.specs.Lengths.{registrarLen, wordBits};
 ghost use Rattle.layout.specs.Layout.{range, spans};
 ghost use Rattle.registrar_steps.specs.declared.Answer.the-variants.{Done, Register, RegistrationFailed, Refused};
 ghost use Rattle.chunks.specs.Chunks.{up, chunkCount, isPower};
-ghost use Rattle.registrar_state.specs.World.{world, simple, flatUnaligned, requestOf, withRequest, offsetOf, granularityOf, ramOf, entriesIn, seenIn, flatOf, buildRefusal, callRefusal, countIn, chunksFit, allRefusal, isKnown, answerRefusal, restOf};
+ghost use Rattle.registrar_state.specs.World.{world, simple, flatUnaligned, requestOf, withRequest, offsetOf, granularityOf, ramOf, entriesIn, chunkStateIn, flatOf, buildRefusal, callRefusal, countIn, chunksFit, allRefusal, isKnown, answerRefusal, restOf};
 ghost use Rattle.registrar_steps.specs.Steps.{stopAt, allFrom};
 ghost use Rattle.laws.specs.Refusal.{unless};
 use abi::FULL_WORD;
@@ -370,7 +370,7 @@ pub fn register_stop(
     until: u64,
 ) -> Stop
     requires { ⌜ (length (now state) ≡ registrarLen) × (total ≡ chunkCount (granularityOf (now state)) (entriesIn (now state))) ⌝ }
-    ensures { λ r. ⌜ (r ≡ stopAt (seenIn (world (now (state .entry)) (now (registered .entry)) (now (failed .entry)))) from (min until total)) × (r .chunk < min until total → r .chunk * granularityOf (now (state .entry)) < 2 ^ 64) ⌝ }
+    ensures { λ r. ⌜ (r ≡ stopAt (chunkStateIn (world (now (state .entry)) (now (registered .entry)) (now (failed .entry)))) from (min until total)) × (r .chunk < min until total → r .chunk * granularityOf (now (state .entry)) < 2 ^ 64) ⌝ }
 {
     registrar_steps::stop_from(
         ram_of(state),
@@ -394,7 +394,7 @@ pub fn all_plan(
     chunk: u64,
 ) -> Plan
     requires { ⌜ length (now state) ≡ registrarLen ⌝ }
-    ensures { λ r. ⌜ r ≡ allFrom (seenIn (world (now (state .entry)) (now (registered .entry)) (now (failed .entry)))) (offsetOf (now (state .entry))) count alignment ignore chunk (spans (entriesIn (now (state .entry)))) ⌝ }
+    ensures { λ r. ⌜ r ≡ allFrom (chunkStateIn (world (now (state .entry)) (now (registered .entry)) (now (failed .entry)))) (offsetOf (now (state .entry))) count alignment ignore chunk (spans (entriesIn (now (state .entry)))) ⌝ }
 {
     registrar_steps::all_from(
         ram_of(state),

@@ -29,7 +29,7 @@ use Rattle.registrar_steps.specs.declared.Stop.{Stop}
 use Rattle.registrar_steps.specs.declared.Look.{Look}
 use Rattle.registrar_steps.specs.declared.Look.the-variants.{Nothing, Edge, FailedBefore, Stretch}
 use Rattle.registrar_steps.specs.declared.Plan.{Plan}
-use Rattle.registrar_steps.specs.Steps.{Seen, asks, ends, ramFrom, passes, pieceOf, registerFrom, isEnd, hasRam, stop, offerOf, stopAt, planAt, stopPlan, stretchIn, lookAt, unalignedAt, stretchOf, isNothing, found, allFrom}
+use Rattle.registrar_steps.specs.Steps.{ChunkState, asks, ends, ramFrom, passes, pieceOf, registerFrom, isEnd, hasRam, stop, offerOf, stopAt, planAt, stopPlan, stretchIn, lookAt, unalignedAt, stretchOf, isNothing, found, allFrom}
 
 -- ---- register, from a chunk on
 
@@ -51,7 +51,7 @@ whole-ends c g x h k = omega (arith, add-mul c 1 g)
 pub whole-rest : (es : List MemoryRangeWithNode) (g c x : ℕ) → (c + 1) * g ≤ x → range 0 0 ≡ ramFrom g es c x
 whole-rest es g c x h = sym (ap firstOf (pieces-past es x ((c + 1) * g) 0 (spans es) h))
 
-module _ (s : Seen) (o n c until e t : ℕ) (he : e ≡ min until (chunkCount (s .granularity) (s .entries))) (ht : t ≡ firstNot (passes s) c e) where
+module _ (s : ChunkState) (o n c until e t : ℕ) (he : e ≡ min until (chunkCount (s .granularity) (s .entries))) (ht : t ≡ firstNot (passes s) c e) where
   stopped : ℕ → ℕ → Plan
   stopped e t =
       cond (ltb t e)
@@ -91,7 +91,7 @@ ram-plan o n c until a why.Ram h = refl
 ram-plan o n c until a why.Failed h = false≢true h
 
 -- what a chunk asks for, one law for each case of it
-module _ (s : Seen) (c : ℕ) (a : Stop) where
+module _ (s : ChunkState) (c : ℕ) (a : Stop) where
   pub offer-registered : bitAt wordBits (s .registered) c ≡ true → a ≡ stop why.End c 0 0 → a ≡ offerOf s c
   offer-registered t q = q ∙ sym (rw t)
 
@@ -120,7 +120,7 @@ module _ (s : Seen) (c : ℕ) (a : Stop) where
       offer-some h q = q ∙ sym (rw (lt-leb (r .end) (r .start) h)) ∙ offer-left
 
 -- a chunk that asks for nothing
-offer-passes : (s : Seen) (c : ℕ) → isEnd (offerOf s c .why) ≡ passes s c
+offer-passes : (s : ChunkState) (c : ℕ) → isEnd (offerOf s c .why) ≡ passes s c
 offer-passes s c = go (bitAt wordBits (s .registered) c) (bitAt wordBits (s .failed) c) (empty (ramFrom (s .granularity) (s .entries) c (c * s .granularity)))
   where
     go : (a b d : Bool)
@@ -131,7 +131,7 @@ offer-passes s c = go (bitAt wordBits (s .registered) c) (bitAt wordBits (s .fai
     go false false true = refl
     go false false false = refl
 
-module _ (s : Seen) (c e : ℕ) where
+module _ (s : ChunkState) (c e : ℕ) where
   module _ (a : Stop) (q : a ≡ offerOf s c) (l : c < e) where
     pub stop-hit : isEnd (a .why) ≡ false → a ≡ stopAt s c e
     unfolding stopAt
@@ -162,7 +162,7 @@ module _ (s : Seen) (c e : ℕ) where
   stop-end h = sym (rw (first-end (passes s) c e h, le-ltb c e h))
 
 -- a chunk whose RAM is asked for is one before e
-pub stop-below : (s : Seen) (c e : ℕ) (a : Stop) → a ≡ stopAt s c e → hasRam (a .why) ≡ true → a .chunk < e
+pub stop-below : (s : ChunkState) (c e : ℕ) (a : Stop) → a ≡ stopAt s c e → hasRam (a .why) ≡ true → a .chunk < e
 unfolding stopAt
 stop-below s c e a q h = elim (decLt (firstNot (passes s) c e) e) [
   | yes d ↦
@@ -254,7 +254,7 @@ found-none es o n al ignore r (Edge e) a h = let z : _≡_ {A = ℕ} 0 1 = cc in
 found-none es o n al ignore r (FailedBefore x) a h = let z : _≡_ {A = ℕ} 0 1 = cc in absurd (omega arith)
 found-none es o n al ignore r (Stretch a′ b′ x y) a h = let z : _≡_ {A = ℕ} 0 1 = cc in absurd (omega arith)
 
-module _ (s : Seen) (o n al ignore c i : ℕ) where
+module _ (s : ChunkState) (o n al ignore c i : ℕ) where
   module _ (at : Span) (l : Look) (h : i < length (s .entries)) (q : at ≡ spanAt (s .entries) i)
       (ql : l ≡ lookAt (s .granularity) (s .registered) (s .failed) al ignore c (range (at .start) (at .end))) where
     here : allFrom s o n al ignore c (spans (drop i (s .entries)))

@@ -22,14 +22,14 @@ use Rattle.registrar_steps.specs.declared.Look.the-variants.{Nothing, Ed
 use Rattle.registrar_steps.specs.declared.Plan.{Plan}
 
 -- what a step looks at
-pub record Seen : Type 0 where
+pub record ChunkState : Type 0 where
   pub granularity : ℕ
   pub entries : List MemoryRangeWithNode
   pub registered : List ℕ
   pub failed : List ℕ
 
-abbrev pub seen : ℕ → List MemoryRangeWithNode → List ℕ → List ℕ → Seen
-seen granularity entries registered failed = record { granularity = granularity; entries = entries; registered = registered; failed = failed }
+abbrev pub chunkState : ℕ → List MemoryRangeWithNode → List ℕ → List ℕ → ChunkState
+chunkState granularity entries registered failed = record { granularity = granularity; entries = entries; registered = registered; failed = failed }
 
 -- nothing asked
 abbrev pub idle : Request
@@ -61,7 +61,7 @@ abbrev pub ramFrom : ℕ → List MemoryRangeWithNode → ℕ → ℕ → Memory
 ramFrom granularity entries chunk from = firstOf (pieces from ((chunk + 1) * granularity) (spans entries))
 
 -- a chunk that asks for nothing: it is registered, or has not failed and has no RAM
-abbrev pub passes : Seen → ℕ → Bool
+abbrev pub passes : ChunkState → ℕ → Bool
 passes view chunk =
     bitAt wordBits (view .registered) chunk || (not (bitAt wordBits (view .failed) chunk) && empty (ramFrom (view .granularity) (view .entries) chunk (chunk * view .granularity)))
 
@@ -71,7 +71,7 @@ pieceOf count from to until r =
     record { kind = kind.register; count = more count; from = from; to = to; start = r .start; end = r .end; until = until; alignment = 0; ignore = 0 }
 
 -- from a chunk on: chunks that ask for nothing become registered; one that failed before ends it with 23; else its RAM is offered
-unfoldable pub registerFrom : Seen → ℕ → ℕ → ℕ → ℕ → Plan
+unfoldable pub registerFrom : ChunkState → ℕ → ℕ → ℕ → ℕ → Plan
 registerFrom view offset count from until =
     let to : ℕ = min until (chunkCount (view .granularity) (view .entries)) in
     let at : ℕ = firstNot (passes view) from to in
@@ -95,7 +95,7 @@ abbrev pub stop : Why → ℕ → ℕ → ℕ → Stop
 stop reason chunk start end = record { why = reason; chunk = chunk; start = start; end = end }
 
 -- what a chunk asks for
-abbrev pub offerOf : Seen → ℕ → Stop
+abbrev pub offerOf : ChunkState → ℕ → Stop
 offerOf view chunk =
     let r : MemoryRange = ramFrom (view .granularity) (view .entries) chunk (chunk * view .granularity) in
     cond (bitAt wordBits (view .registered) chunk) (stop why.End chunk 0 0)
@@ -103,7 +103,7 @@ offerOf view chunk =
     (cond (empty r) (stop why.End chunk 0 0) (stop why.Ram chunk (r .start) (r .end))))
 
 -- where a walk over chunks stops
-unfoldable pub stopAt : Seen → ℕ → ℕ → Stop
+unfoldable pub stopAt : ChunkState → ℕ → ℕ → Stop
 stopAt view from to =
     let at : ℕ = firstNot (passes view) from to in
     let r : MemoryRange = ramFrom (view .granularity) (view .entries) at (at * view .granularity) in
@@ -161,6 +161,6 @@ isNothing (Edge edge) = false
 isNothing (FailedBefore x) = false
 isNothing (Stretch a b x y) = false
 
-unfoldable pub allFrom : Seen → ℕ → ℕ → ℕ → ℕ → ℕ → List MemoryRange → Plan
+unfoldable pub allFrom : ChunkState → ℕ → ℕ → ℕ → ℕ → ℕ → List MemoryRange → Plan
 allFrom view offset count alignment ignore chunk [] = ends 0 0 (Done count)
 allFrom view offset count alignment ignore chunk (span ∷ later) = found (view .entries) offset count alignment ignore span (lookAt (view .granularity) (view .registered) (view .failed) alignment ignore chunk span) (allFrom view offset count alignment ignore chunk later)

@@ -7,7 +7,7 @@ ghost use Rattle.abi.specs.Lengths.{wordBits};
 ghost use Rattle.bitmap.specs.Pages.{bitAt};
 ghost use Rattle.layout.specs.Layout.{entriesOf, spans};
 ghost use Rattle.chunks.specs.Chunks.{chunkCount, empty};
-ghost use Rattle.registrar_steps.specs.Steps.{seen, ramFrom, idle, isIdle, askedOf, asks, ends, pieceOf, isEnd, hasRam, stop, offerOf, stopAt, stretchIn, lookAt, unalignedAt, stretchOf, isNothing, found, allFrom};
+ghost use Rattle.registrar_steps.specs.Steps.{chunkState, ramFrom, idle, isIdle, askedOf, asks, ends, pieceOf, isEnd, hasRam, stop, offerOf, stopAt, stretchIn, lookAt, unalignedAt, stretchOf, isNothing, found, allFrom};
 use abi::kind;
 use layout::MemoryRange;
 
@@ -95,7 +95,7 @@ fn stop_of(why: Why, chunk: u64, start: u64, end: u64) -> Stop
 // What a chunk asks for.
 fn offer_of(ram: &[u64], granularity: u64, registered: &[u64], failed: &[u64], chunk: u64) -> Stop
     requires { ⌜ chunk * granularity < 2 ^ 64 ⌝ }
-    ensures { λ r. ⌜ r ≡ offerOf (seen granularity (entriesOf (now (ram .entry))) (now (registered .entry)) (now (failed .entry))) chunk ⌝ }
+    ensures { λ r. ⌜ r ≡ offerOf (chunkState granularity (entriesOf (now (ram .entry))) (now (registered .entry)) (now (failed .entry))) chunk ⌝ }
 {
     if bitmap::get(registered, chunk) {
         return stop_of(Why::End, chunk, 0, 0);
@@ -146,7 +146,7 @@ fn walk(
     to: u64,
 ) -> Stop
     requires { ⌜ ((c : ℕ) → c < to → c * granularity < 2 ^ 64) ⌝ }
-    ensures { λ r. ⌜ r ≡ stopAt (seen granularity (entriesOf (now (ram .entry))) (now (registered .entry)) (now (failed .entry))) from to ⌝ }
+    ensures { λ r. ⌜ r ≡ stopAt (chunkState granularity (entriesOf (now (ram .entry))) (now (registered .entry)) (now (failed .entry))) from to ⌝ }
 {
     let mut c = from;
     while c < to {
@@ -170,7 +170,7 @@ pub fn stop_from(
     until: u64,
 ) -> Stop
     requires { ⌜ total ≡ chunkCount granularity (entriesOf (now ram)) ⌝ }
-    ensures { λ r. ⌜ (r ≡ stopAt (seen granularity (entriesOf (now (ram .entry))) (now (registered .entry)) (now (failed .entry))) from (min until total)) × (r .chunk < min until total → r .chunk * granularity < 2 ^ 64) ⌝ }
+    ensures { λ r. ⌜ (r ≡ stopAt (chunkState granularity (entriesOf (now (ram .entry))) (now (registered .entry)) (now (failed .entry))) from (min until total)) × (r .chunk < min until total → r .chunk * granularity < 2 ^ 64) ⌝ }
 {
     walk(
         ram,
@@ -487,7 +487,7 @@ pub fn all_from(
     ignore: u64,
     chunk: u64,
 ) -> Plan
-    ensures { λ r. ⌜ r ≡ allFrom (seen granularity (entriesOf (now (ram .entry))) (now (registered .entry)) (now (failed .entry))) offset count alignment ignore chunk (spans (entriesOf (now (ram .entry)))) ⌝ }
+    ensures { λ r. ⌜ r ≡ allFrom (chunkState granularity (entriesOf (now (ram .entry))) (now (registered .entry)) (now (failed .entry))) offset count alignment ignore chunk (spans (entriesOf (now (ram .entry)))) ⌝ }
 {
     let n = layout::entry_count(ram);
     let mut i: u64 = 0;

@@ -14,8 +14,8 @@ mark-requires c κs = search needs
 mark-requires-2 : tie.Need-mark-requires-2
 mark-requires-2 c κs = search needs
 
-permit-default-requires : tie.Need-permit-default-requires
-permit-default-requires c κs = search needs
+update-default-permissions-requires : tie.Need-update-default-permissions-requires
+update-default-permissions-requires c κs = search needs
 
 next-reply-requires : tie.Need-next-reply-requires
 next-reply-requires c κs = c .before .before .before .before .before .before .before .before .before .before .before .before .before .before .before .before .before .before .before .before .before .before .before .before .before .before .before .before .before .before .before .before .before .pre .0
@@ -54,7 +54,7 @@ returns c =
     let a = c29 .before .before .before .before .before .before .before .before .before .before .args in
     let m = maps (a .private .now) (a .shared .now) (a .read .now) (a .write .now) (a .kernel .now) (a .user .now) in
     let s = settingsOf (a .state .now) in (
-      laws.marks-applied s (a .q) (a .pages .now) (a .x) m _ _ _ (c27 .mark .ensures) (c23 .mark2 .ensures) (c15 .permit-default .ensures),
+      laws.marks-applied s (a .q) (a .pages .now) (a .x) m _ _ _ (c27 .mark .ensures) (c23 .mark2 .ensures) (c15 .update-default-permissions .ensures),
       (
         laws.next-saved s (a .q) (a .pages .now) (a .x) m (a .state .now) _ _ (c .before .before .save .ensures) (c .before .before .before .next-request .ensures),
         laws.next-replies s
@@ -69,7 +69,7 @@ apply-done-spec =
     run-in-requires
     mark-requires
     mark-requires-2
-    permit-default-requires
+    update-default-permissions-requires
     next-reply-requires
     next-request-requires
     save-requires

@@ -3,7 +3,7 @@ use borrow.Author.Needs.{needs}
 use native.Mathlib.Omega.{arith}
 use mathlib.Core.Path.{sym, _∙_}
 use Prim.Native.Nat.{min}
-use Rattle.registrar_state.specs.World.{world, seenIn}
+use Rattle.registrar_state.specs.World.{world, chunkStateIn}
 use Rattle.registrar_steps.proofs.Laws.{stop-below}
 use Rattle.registrar.proofs.Laws as laws
 use Rattle.registrar.proofs.register_from.Statement.{statement}
@@ -22,7 +22,7 @@ add-piece : tie.Need-add-piece
 add-piece c =
     let a = c .before .before .before .before .before .before .before .before .before .before .before .before .before .args in
     let t = c .before .before .before .before .before .before .before .register-stop in
-    omega (arith, stop-below (seenIn (world (a .state .now) (a .registered .now) (a .failed .now))) (a .from) (min (a .until) (a .total)) (t .result) (t .ensures .0) (sym (c .before .before .has-ram .ensures) ∙ c .before .if1 .taken), c .before .before .before .before .before .before .before .before .before .before .before .before .before .fits .total)
+    omega (arith, stop-below (chunkStateIn (world (a .state .now) (a .registered .now) (a .failed .now))) (a .from) (min (a .until) (a .total)) (t .result) (t .ensures .0) (sym (c .before .before .has-ram .ensures) ∙ c .before .if1 .taken), c .before .before .before .before .before .before .before .before .before .before .before .before .before .fits .total)
 
 piece-requires : tie.Need-piece-requires
 piece-requires c κs = search needs

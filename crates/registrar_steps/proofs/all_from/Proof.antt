@@ -6,7 +6,7 @@ use Prim.Native.Nat.{_-_}
 use lib.ListN.{drop}
 use borrow.Author.Tests.{not-true, not-false}
 use Rattle.layout.specs.Layout.{entriesOf, spans}
-use Rattle.registrar_steps.specs.Steps.{seen, allFrom}
+use Rattle.registrar_steps.specs.Steps.{chunkState, allFrom}
 use Rattle.registrar_steps.proofs.Laws as laws
 use Rattle.chunks.proofs.Laws as chunk-laws
 use Rattle.registrar_steps.proofs.all_from.Statement.{statement}
@@ -14,7 +14,7 @@ use Rattle.registrar_steps.proofs.all_from.Tie as tie
 
 abbrev Inv-loop : tie.InvT-loop
 Inv-loop ram offset g registered failed count alignment ignore c n i₀ i =
-    let s = seen g (entriesOf ram) registered failed in
+    let s = chunkState g (entriesOf ram) registered failed in
     allFrom s offset count alignment ignore c (spans (drop i (entriesOf ram))) ≡ allFrom s offset count alignment ignore c (spans (entriesOf ram))
 
 abbrev μ-loop : tie.MeasureT-loop
@@ -44,7 +44,7 @@ returns c =
     let l = c .before .before .before .before .before .before .loop in
     let span-at = c .before .before .before .before .span-at in
     let look-at = c .before .before .before .look-at in
-    laws.all-hit (seen (a .granularity) (entriesOf (a .ram .now)) (a .registered .now) (a .failed .now)) (a .offset) (a .count) (a .alignment) (a .ignore) (a .chunk) (l .i) (span-at .result) (look-at .result) (omega arith) (span-at .ensures) (look-at .ensures) (c .act .result) (sym (c .before .before .is-nothing .ensures) ∙ not-true _ (c .before .if1 .taken)) (c .act .ensures) ∙ l .inv
+    laws.all-hit (chunkState (a .granularity) (entriesOf (a .ram .now)) (a .registered .now) (a .failed .now)) (a .offset) (a .count) (a .alignment) (a .ignore) (a .chunk) (l .i) (span-at .result) (look-at .result) (omega arith) (span-at .ensures) (look-at .ensures) (c .act .result) (sym (c .before .before .is-nothing .ensures) ∙ not-true _ (c .before .if1 .taken)) (c .act .ensures) ∙ l .inv
 
 loop-less : tie.Need-loop-less Inv-loop μ-loop
 loop-less c =
@@ -58,7 +58,7 @@ loop-again c =
     let l = c .before .before .before .before .before .loop in
     let span-at = c .before .before .before .span-at in
     let look-at = c .before .before .look-at in
-    sym (laws.all-miss (seen (a .granularity) (entriesOf (a .ram .now)) (a .registered .now) (a .failed .now)) (a .offset) (a .count) (a .alignment) (a .ignore) (a .chunk) (l .i) (span-at .result) (look-at .result) (omega arith) (span-at .ensures) (look-at .ensures) (sym (c .before .is-nothing .ensures) ∙ not-false _ (c .if1 .left))) ∙ l .inv
+    sym (laws.all-miss (chunkState (a .granularity) (entriesOf (a .ram .now)) (a .registered .now) (a .failed .now)) (a .offset) (a .count) (a .alignment) (a .ignore) (a .chunk) (l .i) (span-at .result) (look-at .result) (omega arith) (span-at .ensures) (look-at .ensures) (sym (c .before .is-nothing .ensures) ∙ not-false _ (c .if1 .left))) ∙ l .inv
 
 end-requires : tie.Need-end-requires Inv-loop μ-loop
 end-requires c κs = search needs
@@ -67,7 +67,7 @@ returns-2 : tie.Need-returns-2 Inv-loop μ-loop
 returns-2 c =
     let a = c .before .before .before .before .before .before .before .args in
     let l = c .before .before .loop in
-    c .end .ensures ∙ sym (laws.all-end (seen (a .granularity) (entriesOf (a .ram .now)) (a .registered .now) (a .failed .now)) (a .offset) (a .count) (a .alignment) (a .ignore) (a .chunk) (l .i) (omega arith)) ∙ l .inv
+    c .end .ensures ∙ sym (laws.all-end (chunkState (a .granularity) (entriesOf (a .ram .now)) (a .registered .now) (a .failed .now)) (a .offset) (a .count) (a .alignment) (a .ignore) (a .chunk) (l .i) (omega arith)) ∙ l .inv
 
 pub all-from-spec : {M : Type 1} → statement M
 all-from-spec =

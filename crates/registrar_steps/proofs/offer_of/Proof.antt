@@ -2,7 +2,7 @@
 use borrow.Author.Needs.{needs}
 use mathlib.Core.Path.{sym, _∙_}
 use Rattle.layout.specs.Layout.{entriesOf}
-use Rattle.registrar_steps.specs.Steps.{seen}
+use Rattle.registrar_steps.specs.Steps.{chunkState}
 use Rattle.registrar_steps.proofs.Laws as laws
 use Rattle.registrar_steps.proofs.offer_of.Statement.{statement}
 use Rattle.registrar_steps.proofs.offer_of.Tie as tie
@@ -16,7 +16,7 @@ stop-of-requires c κs = search needs
 returns : tie.Need-returns
 returns c =
     let a = c .before .before .before .before .before .before .args in
-    laws.offer-registered (seen (a .granularity) (entriesOf (a .ram .now)) (a .registered .now) (a .failed .now)) (a .chunk) (c .stop-of .result) (sym (c .before .before .get .ensures) ∙ c .before .if1 .taken) (c .stop-of .ensures)
+    laws.offer-registered (chunkState (a .granularity) (entriesOf (a .ram .now)) (a .registered .now) (a .failed .now)) (a .chunk) (c .stop-of .result) (sym (c .before .before .get .ensures) ∙ c .before .if1 .taken) (c .stop-of .ensures)
 
 mul-start : tie.Need-mul-start
 mul-start c = search needs
@@ -30,7 +30,7 @@ stop-of-requires-2 c κs = search needs
 returns-2 : tie.Need-returns-2
 returns-2 c =
     let a = c .before .before .before .before .before .before .before .before .args in
-    laws.offer-failed (seen (a .granularity) (entriesOf (a .ram .now)) (a .registered .now) (a .failed .now)) (a .chunk) (c .stop-of2 .result) (sym (c .before .before .before .before .get .ensures) ∙ c .before .before .before .if1 .left) (sym (c .before .before .get2 .ensures) ∙ c .before .if2 .taken) (c .stop-of2 .ensures)
+    laws.offer-failed (chunkState (a .granularity) (entriesOf (a .ram .now)) (a .registered .now) (a .failed .now)) (a .chunk) (c .stop-of2 .result) (sym (c .before .before .before .before .get .ensures) ∙ c .before .before .before .if1 .left) (sym (c .before .before .get2 .ensures) ∙ c .before .if2 .taken) (c .stop-of2 .ensures)
 
 chunk-ram-requires : tie.Need-chunk-ram-requires
 chunk-ram-requires c κs = search needs
@@ -42,7 +42,7 @@ returns-3 : tie.Need-returns-3
 returns-3 c =
     let a = c .before .before .before .before .before .before .before .before .before .before .before .args in
     let chunk-ram = c .before .before .before .chunk-ram in
-    laws.offer-none (seen (a .granularity) (entriesOf (a .ram .now)) (a .registered .now) (a .failed .now)) (a .chunk) (c .stop-of3 .result) (sym (c .before .before .before .before .before .before .before .get .ensures) ∙ c .before .before .before .before .before .before .if1 .left) (sym (c .before .before .before .before .before .get2 .ensures) ∙ c .before .before .before .before .if2 .left) (chunk-ram .result) (chunk-ram .ensures) (c .before .if3 .taken) (c .stop-of3 .ensures)
+    laws.offer-none (chunkState (a .granularity) (entriesOf (a .ram .now)) (a .registered .now) (a .failed .now)) (a .chunk) (c .stop-of3 .result) (sym (c .before .before .before .before .before .before .before .get .ensures) ∙ c .before .before .before .before .before .before .if1 .left) (sym (c .before .before .before .before .before .get2 .ensures) ∙ c .before .before .before .before .if2 .left) (chunk-ram .result) (chunk-ram .ensures) (c .before .if3 .taken) (c .stop-of3 .ensures)
 
 stop-of-requires-4 : tie.Need-stop-of-requires-4
 stop-of-requires-4 c κs = search needs
@@ -51,7 +51,7 @@ returns-4 : tie.Need-returns-4
 returns-4 c =
     let a = c .before .before .before .before .before .before .before .before .before .before .before .args in
     let chunk-ram = c .before .before .before .chunk-ram in
-    laws.offer-some (seen (a .granularity) (entriesOf (a .ram .now)) (a .registered .now) (a .failed .now)) (a .chunk) (c .stop-of4 .result) (sym (c .before .before .before .before .before .before .before .get .ensures) ∙ c .before .before .before .before .before .before .if1 .left) (sym (c .before .before .before .before .before .get2 .ensures) ∙ c .before .before .before .before .if2 .left) (chunk-ram .result) (chunk-ram .ensures) (c .before .if3 .left) (c .stop-of4 .ensures)
+    laws.offer-some (chunkState (a .granularity) (entriesOf (a .ram .now)) (a .registered .now) (a .failed .now)) (a .chunk) (c .stop-of4 .result) (sym (c .before .before .before .before .before .before .before .get .ensures) ∙ c .before .before .before .before .before .before .if1 .left) (sym (c .before .before .before .before .before .get2 .ensures) ∙ c .before .before .before .before .if2 .left) (chunk-ram .result) (chunk-ram .ensures) (c .before .if3 .left) (c .stop-of4 .ensures)
 
 pub offer-of-spec : {M : Type 1} → statement M
 offer-of-spec =

@@ -3,7 +3,7 @@ use borrow.Author.Needs.{needs}
 use mathlib.Core.Path.{refl, ap, _∙_}
 use Prim.Native.Nat.{min}
 use Rattle.layout.specs.Layout.{entriesOf}
-use Rattle.registrar_steps.specs.Steps.{seen, stopAt}
+use Rattle.registrar_steps.specs.Steps.{chunkState, stopAt}
 use Rattle.registrar_steps.proofs.Laws as laws
 use Rattle.registrar_steps.proofs.stop_from.Statement.{statement}
 use Rattle.registrar_steps.proofs.stop_from.Tie as tie
@@ -18,7 +18,7 @@ walk-requires c κs = λ k h.
 returns : tie.Need-returns
 returns c =
     let a = c .before .before .before .before .before .args in
-    (c .walk .ensures ∙ ap (stopAt (seen (a .granularity) (entriesOf (a .ram .now)) (a .registered .now) (a .failed .now)) (a .from)) (c .before .min .ensures), λ h. laws.walk-fits (a .ram .now) (a .granularity) (a .until) (a .total) (min (a .until) (a .total)) (c .walk .result .chunk) (λ j. c .before .before .before .before .shared-slice-known .given j .fits) (c .before .before .before .before .before .pre) refl h)
+    (c .walk .ensures ∙ ap (stopAt (chunkState (a .granularity) (entriesOf (a .ram .now)) (a .registered .now) (a .failed .now)) (a .from)) (c .before .min .ensures), λ h. laws.walk-fits (a .ram .now) (a .granularity) (a .until) (a .total) (min (a .until) (a .total)) (c .walk .result .chunk) (λ j. c .before .before .before .before .shared-slice-known .given j .fits) (c .before .before .before .before .before .pre) refl h)
 
 pub stop-from-spec : {M : Type 1} → statement M
 stop-from-spec = tie.close (tie.spec min-requires walk-requires returns)

@@ -1,12 +1,12 @@
--- `protector::permit_default` meets its contract. Assumes nothing.
+-- `protector::update_default_permissions` meets its contract. Assumes nothing.
 use borrow.Author.Needs.{needs}
 use mathlib.Core.Path.{sym, _∙_}
 use borrow.Author.Tests.{not-true, not-false}
 use Rattle.mapping.specs.Maps.{perms}
 use Rattle.protector_state.specs.State.{settingsOf}
 use Rattle.protector.proofs.Laws as laws
-use Rattle.protector.proofs.permit_default.Statement.{statement}
-use Rattle.protector.proofs.permit_default.Tie as tie
+use Rattle.protector.proofs.update_default_permissions.Statement.{statement}
+use Rattle.protector.proofs.update_default_permissions.Tie as tie
 
 is-default0-requires : tie.Need-is-default0-requires
 is-default0-requires c κs = search needs
@@ -68,5 +68,5 @@ returns-4 c =
     (sym (c18 .is-default0 .ensures) ∙ not-false _ (c17 .if1 .left)) (sym (c16 .is-tracked .ensures) ∙ not-false _ (c15 .if2 .left)) (c13 .default-vtl0 .result) _
     (c13 .default-vtl0 .ensures) (c8 .update-permissions-at .ensures)
 
-pub permit-default-spec : {M : Type 1} → statement M
-permit-default-spec = tie.close (tie.spec is-default0-requires returns is-tracked-requires returns-2 returns-3 default-vtl0-requires update-permissions-at-requires same-length same-length-2 same-length-3 same-length-4 returns-4)
+pub update-default-permissions-spec : {M : Type 1} → statement M
+update-default-permissions-spec = tie.close (tie.spec is-default0-requires returns is-tracked-requires returns-2 returns-3 default-vtl0-requires update-permissions-at-requires same-length same-length-2 same-length-3 same-length-4 returns-4)
