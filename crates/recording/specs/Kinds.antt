@@ -1,4 +1,4 @@
--- The kinds of recorded calls by their numbers (crates/replay/README.md, "The file").
+-- The kinds of recorded calls by their numbers, those that a definition tells apart (crates/replay/README.md, "The file").
 use Prim.Native.Nat.{ℕ}
 
 abbrev pub build : ℕ
@@ -16,9 +16,6 @@ changeDefaultVtlProtections = 3
 abbrev pub registerOverlayPage : ℕ
 registerOverlayPage = 4
 
-abbrev pub unregisterOverlayPage : ℕ
-unregisterOverlayPage = 5
-
 abbrev pub lockGpns : ℕ
 lockGpns = 6
 
@@ -30,9 +27,6 @@ setVtl1ProtectionsEnabled = 8
 
 abbrev pub vtl1ProtectionsEnabled : ℕ
 vtl1ProtectionsEnabled = 9
-
-abbrev pub defaultVtl0Protections : ℕ
-defaultVtl0Protections = 10
 
 abbrev pub isOverlayPage : ℕ
 isOverlayPage = 11
@@ -46,14 +40,8 @@ pageFault = 13
 abbrev pub queryLowerVtlPermissions : ℕ
 queryLowerVtlPermissions = 14
 
-abbrev pub queryAccessPermission : ℕ
-queryAccessPermission = 15
-
 abbrev pub registrarBuild : ℕ
 registrarBuild = 16
 
 abbrev pub register : ℕ
 register = 17
-
-abbrev pub registerAllAligned : ℕ
-registerAllAligned = 18
