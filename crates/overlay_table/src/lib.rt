@@ -74,7 +74,7 @@ pub fn entry_count(t: &[u64]) -> u64
 }
 
 // Where the first entry of a page stands: 0 where there is none.
-pub fn find(t: &[u64], gpn: u64) -> u64
+fn find(t: &[u64], gpn: u64) -> u64
     ensures { λ r. ⌜ r ≡ placeOf (now (t .entry)) gpn ⌝ }
 {
     let mut left = entry_count(t);
