@@ -64,7 +64,7 @@ fn add_in(overlays: &mut [u64], change: Change)
 fn remove_in(overlays: &mut [u64], gpn: u64)
     ensures { λ _. ⌜ now (overlays .exit) ≡ withoutPage (now (overlays .entry)) gpn ⌝ }
 {
-    let place = overlay_table::find(overlays, gpn);
+    let place = overlay_table::find_entry(overlays, gpn);
     if place != 0 {
         overlay_table::remove(overlays, place);
     }

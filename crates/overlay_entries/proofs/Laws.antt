@@ -1,12 +1,12 @@
 -- Laws of the calls on overlay pages: what a call that isn't refused knows, and one law for each way out. Assumes nothing.
 use native.Mathlib.Omega.{arith}
 use mathlib.Core.Path.{_≡_, sym, ap, ap₂, subst, _∙_}
-use mathlib.Core.Bool.{Bool, true, false, cond, _&&_}
+use mathlib.Core.Bool.{Bool, true, false, not, cond, _&&_}
 use mathlib.Core.List.{List}
 use Prim.Native.Nat.{ℕ, _+_, _-_, _≤_, _<_, _^_}
 use lib.Dec.{eqb, ltb}
 use lib.ListN.{length}
-use borrow.Author.Tests.{eqb-true, ltb-true, lt-ltb, le-ltb}
+use borrow.Author.Tests.{eq-eqb, ne-eqb, eqb-true, ltb-true, lt-ltb, le-ltb}
 use Rattle.laws.specs.Bools.{digit, chose, chose-not}
 use Rattle.laws.specs.Refusal.{passed, refused, answered}
 use Rattle.permissions.specs.declared.GuestVtl.{GuestVtl}
@@ -16,7 +16,7 @@ use Rattle.permissions.specs.HvError.{codeOf}
 use Rattle.mapping.specs.Maps.{Permissions, Maps}
 use Rattle.page_list.specs.Runs.{run}
 use Rattle.overlay_table.specs.declared.OverlayPage.{OverlayPage}
-use Rattle.overlay_table.specs.Overlays.{isOverlay, placeOf, entryAt}
+use Rattle.overlay_table.specs.Overlays.{isOverlay, placeOf, entryAt, countWords}
 use Rattle.visibility_steps.specs.declared.Settings.{Settings}
 use Rattle.visibility_steps.specs.Steps.{isVtl0}
 use Rattle.change_steps.specs.declared.ChangeStep.{ChangeStep}
@@ -28,7 +28,7 @@ use Rattle.protector_state.specs.State.{stateLen, settingsOf, entriesIn}
 use Rattle.protector_state.specs.Reply.{finished, flatOf}
 use Rattle.protector_state.specs.Changing.{withChange}
 use Rattle.call_refusals.specs.World.{World, outcome, tablesLen, overlaysOf, locksOf}
-use Rattle.protector.specs.Writes.{permittedRun, entered}
+use Rattle.protector.specs.Writes.{withOverlays, permittedRun, entered}
 use Rattle.protector.specs.Calls.{carriedChange}
 use Rattle.protector_state.specs.declared.Value.{Value}
 use Rattle.protector_state.specs.Reply.{value}
@@ -46,11 +46,11 @@ module _ (s t : List ℕ) (vtl p n : ℕ) (e : n ≡ callRefusal s (eqb (length 
   pub query-tables : n ≡ 0 → length t ≡ tablesLen
   query-tables z = eqb-true (length t) tablesLen (call-fits s (eqb (length t) tablesLen) vtl n e z)
 
-  pub query-taken : (v : GuestVtl) (o : List ℕ) (b : Bool) (d : ℕ) (r : Value) → n ≡ 0 → v ≡ vtlOf vtl → o ≡ overlaysOf t v → b ≡ isOverlay o p → d ≡ digit b → r ≡ value 0 d → r ≡ isOverlayIn s t vtl p
+  pub query-taken : (v : GuestVtl) (o : List ℕ) (place d : ℕ) (r : Value) → n ≡ 0 → v ≡ vtlOf vtl → o ≡ overlaysOf t v → place ≡ placeOf o p → d ≡ digit (not (eqb place 0)) → r ≡ value 0 d → r ≡ isOverlayIn s t vtl p
   unfolding isOverlayIn
-  query-taken v o b d r z e1 e2 e3 e4 e5 =
+  query-taken v o place d r z e1 e2 e3 e4 e5 =
       answered n _ e (value 0 (digit (isOverlay (overlaysOf t (vtlOf vtl)) p))) r (λ k. value k (codeOf k)) z
-      (e5 ∙ ap (value 0) (e4 ∙ ap digit (e3 ∙ ap (λ (x : List ℕ). isOverlay x p) (e2 ∙ ap (overlaysOf t) e1))))
+      (e5 ∙ ap (value 0) (e4 ∙ ap (λ (k : ℕ). digit (not (eqb k 0))) (e3 ∙ ap (λ (x : List ℕ). placeOf x p) (e2 ∙ ap (overlaysOf t) e1))))
 
 -- ---- a step carried out
 
@@ -106,8 +106,17 @@ module _ (w : World) (v : GuestVtl) (p : ℕ) (e : OverlayPage) (q : e ≡ entry
       ∙ ap (λ (k : Settings). carriedChange w (w .pages) (startOld (k .tracked) v p (e .«previous_permissions») (e .«gpn_source»))) d
       ∙ ap (λ (k : OverlayPage). carriedChange w (w .pages) (startOld (settingsOf (w .state) .tracked) v p (k .«previous_permissions») (k .«gpn_source»))) q)
 
-pub entry-found : (t o : List ℕ) (v : GuestVtl) (p place : ℕ) (r : OverlayPage) → o ≡ overlaysOf t v → place ≡ placeOf o p → r ≡ entryAt o place → r ≡ entryIn t v p
-entry-found t o v p place r a b e = e ∙ ap (entryAt o) b ∙ ap (λ (x : List ℕ). entryAt x (placeOf x p)) a
+-- ---- the place that the tests found
+
+pub place-found : (t : List ℕ) (v : GuestVtl) (vtl p place : ℕ) → v ≡ vtlOf vtl → place ≡ placeOf (overlaysOf t (vtlOf vtl)) p → place ≡ placeOf (overlaysOf t v) p
+place-found t v vtl p place a e = e ∙ ap (λ (x : GuestVtl). placeOf (overlaysOf t x) p) (sym a)
+
+module _ (t : List ℕ) (v : GuestVtl) (p place : ℕ) (at : place ≡ placeOf (overlaysOf t v) p) where
+  pub entry-found : (r : OverlayPage) → r ≡ entryAt (overlaysOf t v) place → r ≡ entryIn t v p
+  entry-found r e = e ∙ ap (entryAt (overlaysOf t v)) at
+
+  pub count-found : (n : ℕ) (u : List ℕ) → u ≡ withOverlays t v (countWords (overlaysOf t v) place n) → u ≡ recounted t v p n
+  count-found n u e = e ∙ ap (λ (k : ℕ). withOverlays t v (countWords (overlaysOf t v) k n)) at
 
 -- ---- register_overlay_page
 
@@ -126,10 +135,10 @@ module _ (s : List ℕ) (fit : Bool) (shared t : List ℕ) (current : HvMapGpaFl
   unfolding registerRefusal
   register-fits = call-passed s fit vtl _ (sym e ∙ z) .2
 
-  pub register-room : (v : GuestVtl) (o : List ℕ) (b : Bool) (x : OverlayPage) → v ≡ vtlOf vtl → o ≡ overlaysOf t v → b ≡ isOverlay o p → b ≡ true → x ≡ entryIn t v p → x .«ref_count» < 65535
+  pub register-room : (v : GuestVtl) (place : ℕ) (x : OverlayPage) → v ≡ vtlOf vtl → place ≡ placeOf (overlaysOf t (vtlOf vtl)) p → (place ≡ 0 → ⊥) → x ≡ entryIn t v p → x .«ref_count» < 65535
   unfolding registerRefusal pageRefusal knownRefusal
-  register-room v o b x e1 e2 e3 e4 e5 =
-      let known : isOverlay (overlaysOf t (vtlOf vtl)) p ≡ true = sym (e3 ∙ ap (λ (y : List ℕ). isOverlay y p) (e2 ∙ ap (overlaysOf t) e1)) ∙ e4 in
+  register-room v place x e1 e2 e3 e5 =
+      let known : isOverlay (overlaysOf t (vtlOf vtl)) p ≡ true = ap not (ne-eqb _ 0 (λ k. e3 (e2 ∙ k))) in
       let rest = flags-passed source checked new _ (call-passed s fit vtl _ (sym e ∙ z) .4) .3 in
       let f : knownRefusal (entryIn t (vtlOf vtl) p) checked new ≡ 0
       = sym (ap (λ (c : Bool). cond c (knownRefusal (entryIn t (vtlOf vtl) p) checked new) (cond (boolOf source) (dmaRefusal (entriesIn s) (overlaysOf t (vtlOf vtl)) (locksOf t (vtlOf vtl)) p) (guestRefusal (entriesIn s) shared (overlaysOf t (vtlOf vtl)) (locksOf t (vtlOf vtl)) p current checked))) known) ∙ rest in
@@ -144,24 +153,24 @@ new-fits tracked v p source current new x e h = subst (λ (k : ChangeStep). k .w
     go true = one-fits (isVtl0 v && (tracked && eqb source 0)) p h
     go false = one-fits false p h
 
-module _ (w : World) (v : GuestVtl) (p source new : ℕ) (o : List ℕ) (b : Bool) (e1 : o ≡ overlaysOf (w .tables) v) (e2 : b ≡ isOverlay o p) where
-  whether : b ≡ isOverlay (overlaysOf (w .tables) v) p
-  whether = e2 ∙ ap (λ (y : List ℕ). isOverlay y p) e1
+module _ (w : World) (v : GuestVtl) (p source new place : ℕ) (at : place ≡ placeOf (overlaysOf (w .tables) v) p) where
+  whether : not (eqb place 0) ≡ isOverlay (overlaysOf (w .tables) v) p
+  whether = ap (λ (k : ℕ). not (eqb k 0)) at
 
-  pub register-counted : (e : OverlayPage) (t : List ℕ) (r : Reply) → b ≡ true → e ≡ entryIn (w .tables) v p → t ≡ recounted (w .tables) v p (e .«ref_count» + 1) → r ≡ finished 0 0 0 0
+  pub register-counted : (e : OverlayPage) (t : List ℕ) (r : Reply) → (place ≡ 0 → ⊥) → e ≡ entryIn (w .tables) v p → t ≡ recounted (w .tables) v p (e .«ref_count» + 1) → r ≡ finished 0 0 0 0
       → outcome (w .maps) (w .state) (w .pages) t r ≡ registerTaken w v p source new
   unfolding registerTaken
   register-counted e t r h q a d =
-      chose b (isOverlay (overlaysOf (w .tables) v) p) _ _ _ whether h
+      chose (not (eqb place 0)) (isOverlay (overlaysOf (w .tables) v) p) _ _ _ whether (ap not (ne-eqb place 0 h))
       (ap₂ (λ (x : List ℕ) (y : Reply). outcome (w .maps) (w .state) (w .pages) x y) (a ∙ ap (λ (k : OverlayPage). recounted (w .tables) v p (k .«ref_count» + 1)) q) d)
 
-  pub register-carried : (set : Settings) (current : HvMapGpaFlags) (bits : ℕ) (x : ChangeStep) (m : Permissions) (s t : List ℕ) (r : Reply) → b ≡ false → set ≡ settingsOf (w .state)
+  pub register-carried : (set : Settings) (current : HvMapGpaFlags) (bits : ℕ) (x : ChangeStep) (m : Permissions) (s t : List ℕ) (r : Reply) → place ≡ 0 → set ≡ settingsOf (w .state)
       → current ≡ currentIn w v p source → bits ≡ bitsOf current → x ≡ startNew (set .tracked) v p source bits new
       → m ≡ permittedRun (x .written) (flagsOf (x .change .flags)) (w .maps .permissions) → s ≡ withChange (x .stage) (x .change) (w .state)
       → t ≡ entered (x .entry) (x .change) (w .tables) → r ≡ flatOf (set .isolation) (x .answer)
       → outcome (withPerms (w .maps) m) s (w .pages) t r ≡ registerTaken w v p source new
   unfolding registerTaken
   register-carried set current bits x m s t r h d i j f a k c g =
-      chose-not b (isOverlay (overlaysOf (w .tables) v) p) _ _ _ whether h
+      chose-not (not (eqb place 0)) (isOverlay (overlaysOf (w .tables) v) p) _ _ _ whether (ap not (eq-eqb place 0 h))
       (carried w set x _ m s t r d f a k c g
       ∙ ap₂ (λ (y : Settings) (z : ℕ). carriedChange w (w .pages) (startNew (y .tracked) v p source z new)) d (j ∙ ap bitsOf i))

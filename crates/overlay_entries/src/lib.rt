@@ -2,9 +2,10 @@
 ghost use mathlib.Core.Path.{_≡_};
 ghost use lib.ListN.{length};
 ghost use Rattle.mapping.specs.Maps.{maps};
-ghost use Rattle.overlay_table.specs.Overlays.{placeOf, countWords};
-ghost use Rattle.call_refusals.specs.World.{world, outcome, tablesLen};
-ghost use Rattle.overlay_entries.specs.Calls.{entryIn, recounted, isOverlayIn, unregisterOf, registerOf};
+ghost use Rattle.overlay_table.specs.Overlays.{entryAt, countWords};
+ghost use Rattle.call_refusals.specs.World.{world, outcome, tablesLen, overlaysOf};
+ghost use Rattle.protector.specs.Writes.{withOverlays};
+ghost use Rattle.overlay_entries.specs.Calls.{isOverlayIn, unregisterOf, registerOf};
 use abi::table;
 use call_refusals::Lengths;
 use mapping::MapLengths;
@@ -13,30 +14,30 @@ use permissions::GuestVtl;
 use protector_state::Reply;
 use protector_state::Value;
 
-// The entry of a page.
-fn entry_of(tables: &[u64], vtl: GuestVtl, gpn: u64) -> OverlayPage
+// The entry at a place.
+fn entry_of(tables: &[u64], vtl: GuestVtl, place: u64) -> OverlayPage
     requires { ⌜ length (now tables) ≡ tablesLen ⌝ }
-    ensures { λ r. ⌜ r ≡ entryIn (now (tables .entry)) vtl gpn ⌝ }
+    ensures { λ r. ⌜ r ≡ entryAt (overlaysOf (now (tables .entry)) vtl) place ⌝ }
 {
-    let overlays = call_refusals::overlays_of(tables, vtl);
-    overlay_table::entry_at(overlays, overlay_table::find(overlays, gpn))
+    overlay_table::entry_at(call_refusals::overlays_of(tables, vtl), place)
 }
 
-fn set_count_in(overlays: &mut [u64], gpn: u64, count: u64)
-    ensures { λ _. ⌜ now (overlays .exit) ≡ countWords (now (overlays .entry)) (placeOf (now (overlays .entry)) gpn) count ⌝ }
-{
-    let place = overlay_table::find(overlays, gpn);
-    overlay_table::set_count(overlays, place, count);
-}
-
-// Another count in the entry of a page.
-fn set_ref_count(tables: &mut [u64], vtl: GuestVtl, gpn: u64, count: u64)
+// Another count in the entry at a place.
+fn set_ref_count(tables: &mut [u64], vtl: GuestVtl, place: u64, count: u64)
     requires { ⌜ length (now tables) ≡ tablesLen ⌝ }
-    ensures { λ _. ⌜ now (tables .exit) ≡ recounted (now (tables .entry)) vtl gpn count ⌝ }
+    ensures { λ _. ⌜ now (tables .exit) ≡ withOverlays (now (tables .entry)) vtl (countWords (overlaysOf (now (tables .entry)) vtl) place count) ⌝ }
 {
     match vtl {
-        GuestVtl::Vtl0 => set_count_in(&mut tables[table::OVERLAYS0..table::OVERLAYS1], gpn, count),
-        GuestVtl::Vtl1 => set_count_in(&mut tables[table::OVERLAYS1..table::LOCKS0], gpn, count),
+        GuestVtl::Vtl0 => overlay_table::set_count(
+            &mut tables[table::OVERLAYS0..table::OVERLAYS1],
+            place,
+            count,
+        ),
+        GuestVtl::Vtl1 => overlay_table::set_count(
+            &mut tables[table::OVERLAYS1..table::LOCKS0],
+            place,
+            count,
+        ),
     }
 }
 
@@ -55,8 +56,8 @@ pub extern "C" fn protector_is_overlay_page(
         return protector_state::refused_value(n);
     }
     let v = permissions::vtl_of(vtl);
-    let known = overlay_table::is_overlay(call_refusals::overlays_of(tables, v), gpn);
-    protector_state::ok_value(permissions::bool_to_u64(known))
+    let place = overlay_table::find_entry(call_refusals::overlays_of(tables, v), gpn);
+    protector_state::ok_value(permissions::bool_to_u64(place != 0))
 }
 
 // An overlay page has one registration fewer. The last one asks for a Protect with the flags that the page had, then for Wait,
@@ -90,14 +91,14 @@ pub extern "C" fn protector_unregister_overlay_page(
         pages: pages.len() as u64,
         tables: tables.len() as u64,
     };
-    let n = overlay_refusals::unregister_refusal(state, lengths, tables, vtl, gpn);
-    if n != 0 {
-        return protector_state::refused(n);
+    let looked = overlay_refusals::look_unregister(state, lengths, tables, vtl, gpn);
+    if looked.refusal != 0 {
+        return protector_state::refused(looked.refusal);
     }
     let v = permissions::vtl_of(vtl);
-    let e = entry_of(tables, v, gpn);
+    let e = entry_of(tables, v, looked.place);
     if 1 < e.ref_count {
-        set_ref_count(tables, v, gpn, e.ref_count - 1);
+        set_ref_count(tables, v, looked.place, e.ref_count - 1);
         return protector_state::finished(0, 0, 0, 0);
     }
     let set = protector_state::settings(state);
@@ -142,7 +143,7 @@ pub extern "C" fn protector_register_overlay_page(
         pages: pages.len() as u64,
         tables: tables.len() as u64,
     };
-    let n = overlay_refusals::register_refusal(
+    let looked = overlay_refusals::look_register(
         state,
         lengths,
         shared,
@@ -154,12 +155,12 @@ pub extern "C" fn protector_register_overlay_page(
         checked,
         new,
     );
-    if n != 0 {
-        return protector_state::refused(n);
+    if looked.refusal != 0 {
+        return protector_state::refused(looked.refusal);
     }
-    if overlay_table::is_overlay(call_refusals::overlays_of(tables, v), gpn) {
-        let e = entry_of(tables, v, gpn);
-        set_ref_count(tables, v, gpn, e.ref_count + 1);
+    if looked.place != 0 {
+        let e = entry_of(tables, v, looked.place);
+        set_ref_count(tables, v, looked.place, e.ref_count + 1);
         return protector_state::finished(0, 0, 0, 0);
     }
     let set = protector_state::settings(state);

@@ -1,6 +1,6 @@
 -- Laws of the tests of a call on overlay pages, one for each way that the code goes. Assumes nothing.
 use mathlib.Core.Path.{_≡_, refl, sym, ap, ap₂, subst, _∙_}
-use mathlib.Core.Bool.{Bool, true, false, not, cond}
+use mathlib.Core.Bool.{Bool, true, false, not, cond, _&&_}
 use mathlib.Core.List.{List}
 use Prim.Native.Nat.{ℕ, _-_, _≤_, _<_}
 use lib.Dec.{eqb, ltb}
@@ -11,15 +11,17 @@ use Rattle.layout.specs.declared.MemoryRangeWithNode.{MemoryRangeWithNode}
 use Rattle.layout.specs.Layout.{entriesOf}
 use Rattle.permissions.specs.declared.GuestVtl.{GuestVtl}
 use Rattle.permissions.specs.declared.HvMapGpaFlags.{HvMapGpaFlags}
-use Rattle.permissions.specs.Flags.{fitVtl, fitFlags, flagsOf, noFlags, fitBool, boolOf}
+use Rattle.permissions.specs.Flags.{fitVtl, vtlOf, fitFlags, flagsOf, noFlags, fitBool, boolOf}
 use Rattle.mapping.specs.Maps.{Permissions}
 use Rattle.overlay_table.specs.declared.OverlayPage.{OverlayPage}
-use Rattle.overlay_table.specs.Overlays.{used, placeOf, entryAt, addCode}
+use Rattle.overlay_table.specs.Overlays.{used, isOverlay, placeOf, entryAt, addCode}
 use Rattle.access.specs.Query.{lowerFlags}
 use Rattle.protector_state.specs.State.{stateLen, settingsOf, ramOf, entriesIn}
-use Rattle.call_refusals.specs.World.{overlaysOf, locksOf, statusIn}
+use Rattle.lock_table.specs.Locks.{held, listsOf}
+use Rattle.call_refusals.specs.World.{overlaysOf, locksOf, statusIn, isLocked}
 use Rattle.call_refusals.proofs.Laws.{is-ready, goes-on, swaps}
-use Rattle.overlay_refusals.specs.Refusals.{callRefusal, flagsRefusal, within, neededOf, knownRefusal, guestRefusal, dmaRefusal, pageRefusal, currentOf}
+use Rattle.overlay_refusals.specs.declared.Looked.{Looked}
+use Rattle.overlay_refusals.specs.Refusals.{looked, callRefusal, flagsRefusal, within, neededOf, knownRefusal, guestRefusal, dmaRefusal, pageRefusal, currentOf}
 
 -- ---- a chain that refuses does so whatever comes after, and one that doesn't goes on to it
 
@@ -92,6 +94,29 @@ module _ (t : List ℕ) (n : ℕ) (e : n ≡ used t) where
 
   pub add-full : 128 ≤ n → 17 ≡ addCode t
   add-full h = sym (ap (λ (b : Bool). cond b 0 17) (le-ltb _ _ (subst (λ (x : ℕ). 128 ≤ x) e h)))
+
+-- ---- what the tests find
+
+pub stopped : (r : Looked) (n x o : ℕ) → r ≡ looked n 0 → (n ≡ 0 → ⊥) → n ≡ x → (r .refusal ≡ x) × (r .refusal ≡ 0 → r .place ≡ o)
+stopped r n x o e h q = let d : r .refusal ≡ n = ap (λ (k : Looked). k .refusal) e in (d ∙ q, λ z. absurd (h (sym d ∙ z)))
+
+module _ (t o : List ℕ) (v : GuestVtl) (vtl p place : ℕ) (e1 : v ≡ vtlOf vtl) (e2 : o ≡ overlaysOf t v) (e3 : place ≡ placeOf o p) where
+  pub found : place ≡ placeOf (overlaysOf t (vtlOf vtl)) p
+  found = e3 ∙ ap (λ (x : List ℕ). placeOf x p) (e2 ∙ ap (overlaysOf t) e1)
+
+  pub known : (place ≡ 0 → ⊥) → isOverlay (overlaysOf t (vtlOf vtl)) p ≡ true
+  known h = ap not (ne-eqb _ 0 (λ z. h (found ∙ z)))
+
+  pub unknown : place ≡ 0 → isOverlay (overlaysOf t (vtlOf vtl)) p ≡ false
+  unknown h = ap not (eq-eqb _ 0 (sym found ∙ h))
+
+-- a page with no overlay entry is locked where a list has it
+pub locked-new : (o locks : List ℕ) (p : ℕ) (b : Bool) → placeOf o p ≡ 0 → b ≡ held (listsOf locks) p → b ≡ isLocked o locks p
+locked-new o locks p b z e = e ∙ sym (ap (λ (k : ℕ). held (listsOf locks) p && not (not (eqb k 0))) z ∙ same (held (listsOf locks) p))
+  where
+    same : (b : Bool) → b && true ≡ b
+    same true = refl
+    same false = refl
 
 module _ (es : List MemoryRangeWithNode) (shared o locks : List ℕ) (p source : ℕ) (current : HvMapGpaFlags) (checked new place : ℕ) (q : place ≡ placeOf o p) (r : ℕ) where
   pub page-known : (e : OverlayPage) → (place ≡ 0 → ⊥) → e ≡ entryAt o place → r ≡ knownRefusal e checked new → r ≡ pageRefusal es shared o locks p source current checked new

@@ -17,10 +17,15 @@ use Rattle.permissions.specs.Flags.{fitVtl, vtlOf, fitFlags, flagsOf, noFlags, 
 use Rattle.mapping.specs.Maps.{Permissions}
 use Rattle.access.specs.Query.{lowerFlags}
 use Rattle.overlay_table.specs.declared.OverlayPage.{OverlayPage}
+use Rattle.overlay_refusals.specs.declared.Looked.{Looked}
 use Rattle.overlay_table.specs.Overlays.{isOverlay, placeOf, entryAt, addCode}
 use Rattle.protector_state.specs.State.{settingsOf, entriesIn}
 use Rattle.call_refusals.specs.World.{overlaysOf, locksOf, isLocked}
 use Rattle.call_refusals.specs.Refusals.{ready}
+
+-- what the tests of a call find: a refusal, and a place
+abbrev pub looked : ℕ → ℕ → Looked
+looked n o = record { refusal = n; place = o }
 
 -- ---- what all of them test first: 4 of the state, 20, 19, 4 of what else is lent, 8 of the VTL
 

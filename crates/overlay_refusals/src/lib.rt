@@ -4,10 +4,11 @@ ghost use lib.Dec.{eqb};
 ghost use lib.ListN.{length};
 ghost use Rattle.layout.specs.Layout.{entriesOf};
 ghost use Rattle.mapping.specs.Maps.{perms};
-ghost use Rattle.overlay_table.specs.Overlays.{addCode};
+ghost use Rattle.permissions.specs.Flags.{vtlOf};
+ghost use Rattle.overlay_table.specs.Overlays.{placeOf, addCode};
 ghost use Rattle.protector_state.specs.State.{stateLen, entriesIn};
 ghost use Rattle.call_refusals.specs.World.{tablesLen, overlaysOf, locksOf, fitsIn};
-ghost use Rattle.overlay_refusals.specs.Refusals.{callRefusal, unregisterRefusal, flagsRefusal, holds, within, neededOf, knownRefusal, guestRefusal, dmaRefusal, pageRefusal, registerRefusal, currentOf};
+ghost use Rattle.overlay_refusals.specs.Refusals.{looked, callRefusal, unregisterRefusal, flagsRefusal, holds, within, neededOf, knownRefusal, guestRefusal, dmaRefusal, pageRefusal, registerRefusal, currentOf};
 use abi::NO_FLAGS;
 use abi::TABLES_WORDS;
 use abi::limit;
@@ -17,6 +18,21 @@ use call_refusals::Lengths;
 use overlay_table::OverlayPage;
 use permissions::GuestVtl;
 use permissions::HvMapGpaFlags;
+
+// What the tests of a call find: the number that refuses it, 0 where none does; then where the page's entry stands, 0 where it has none.
+pub struct Looked {
+    pub refusal: u64,
+    pub place: u64,
+}
+
+fn refused(n: u64) -> Looked
+    ensures { λ r. ⌜ r ≡ looked n 0 ⌝ }
+{
+    Looked {
+        refusal: n,
+        place: 0,
+    }
+}
 
 // The number that refuses a call that is lent the tables alone: 0 where none does.
 pub fn table_refusal(state: &[u64], tables: u64, vtl: u64) -> u64
@@ -51,26 +67,30 @@ fn call_refusal(state: &[u64], lengths: Lengths, vtl: u64) -> u64
     }
 }
 
-// The number that refuses an unregister: 0 where none does.
-pub fn unregister_refusal(
+// The tests of an unregister.
+pub fn look_unregister(
     state: &[u64],
     lengths: Lengths,
     tables: &[u64],
     vtl: u64,
     gpn: u64,
-) -> u64
+) -> Looked
     requires { ⌜ lengths .tables ≡ length (now tables) ⌝ }
-    ensures { λ r. ⌜ r ≡ unregisterRefusal (now (state .entry)) (fitsIn (now (state .entry)) lengths) (now (tables .entry)) vtl gpn ⌝ }
+    ensures { λ r. ⌜ r .refusal ≡ unregisterRefusal (now (state .entry)) (fitsIn (now (state .entry)) lengths) (now (tables .entry)) vtl gpn ⌝ }
+    ensures { λ r. ⌜ (r .refusal ≡ 0 → r .place ≡ placeOf (overlaysOf (now (tables .entry)) (vtlOf vtl)) gpn) ⌝ }
 {
     let n = call_refusal(state, lengths, vtl);
     if n != 0 {
-        return n;
+        return refused(n);
     }
     let v = permissions::vtl_of(vtl);
-    if overlay_table::is_overlay(call_refusals::overlays_of(tables, v), gpn) {
-        0
-    } else {
-        refusal::NO_OVERLAY
+    let place = overlay_table::find_entry(call_refusals::overlays_of(tables, v), gpn);
+    if place == 0 {
+        return refused(refusal::NO_OVERLAY);
+    }
+    Looked {
+        refusal: 0,
+        place: place,
     }
 }
 
@@ -152,6 +172,7 @@ fn guest_refusal(
     current: HvMapGpaFlags,
     checked: u64,
 ) -> u64
+    requires { ⌜ placeOf (now overlays) gpn ≡ 0 ⌝ }
     ensures { λ r. ⌜ r ≡ guestRefusal (entriesOf (now (ram .entry))) (now (shared .entry)) (now (overlays .entry)) (now (locks .entry)) gpn current checked ⌝ }
 {
     if !layout::is_in_guest_memory(ram, gpn) {
@@ -163,19 +184,20 @@ fn guest_refusal(
     if bitmap::page_state(shared, gpn) {
         return refusal::SHARED;
     }
-    if call_refusals::is_locked(overlays, locks, gpn) {
+    if lock_table::holds(locks, gpn) {
         return refusal::LOCKED;
     }
     add_code(overlays)
 }
 
 fn dma_refusal(ram: &[u64], overlays: &[u64], locks: &[u64], gpn: u64) -> u64
+    requires { ⌜ placeOf (now overlays) gpn ≡ 0 ⌝ }
     ensures { λ r. ⌜ r ≡ dmaRefusal (entriesOf (now (ram .entry))) (now (overlays .entry)) (now (locks .entry)) gpn ⌝ }
 {
     if layout::is_in_guest_memory(ram, gpn) {
         return refusal::NOT_RAM;
     }
-    if call_refusals::is_locked(overlays, locks, gpn) {
+    if lock_table::holds(locks, gpn) {
         return refusal::LOCKED;
     }
     add_code(overlays)
@@ -191,10 +213,11 @@ fn page_refusal(
     current: HvMapGpaFlags,
     checked: u64,
     new: u64,
+    place: u64,
 ) -> u64
+    requires { ⌜ place ≡ placeOf (now overlays) gpn ⌝ }
     ensures { λ r. ⌜ r ≡ pageRefusal (entriesOf (now (ram .entry))) (now (shared .entry)) (now (overlays .entry)) (now (locks .entry)) gpn source current checked new ⌝ }
 {
-    let place = overlay_table::find(overlays, gpn);
     if place != 0 {
         return known_refusal(overlay_table::entry_at(overlays, place), checked, new);
     }
@@ -215,8 +238,9 @@ fn page_refusal_in(
     current: HvMapGpaFlags,
     checked: u64,
     new: u64,
+    place: u64,
 ) -> u64
-    requires { ⌜ (length (now state) ≡ stateLen) × (length (now tables) ≡ tablesLen) ⌝ }
+    requires { ⌜ (length (now state) ≡ stateLen) × (length (now tables) ≡ tablesLen) × (place ≡ placeOf (overlaysOf (now tables) vtl) gpn) ⌝ }
     ensures { λ r. ⌜ r ≡ pageRefusal (entriesIn (now (state .entry))) (now (shared .entry)) (overlaysOf (now (tables .entry)) vtl) (locksOf (now (tables .entry)) vtl) gpn source current checked new ⌝ }
 {
     let ram = protector_state::ram_of(state);
@@ -232,11 +256,12 @@ fn page_refusal_in(
         current,
         checked,
         new,
+        place,
     )
 }
 
-// The number that refuses a register: 0 where none does.
-pub fn register_refusal(
+// The tests of a register. The place is found once, after the tests that don't ask for it.
+pub fn look_register(
     state: &[u64],
     lengths: Lengths,
     shared: &[u8],
@@ -247,20 +272,37 @@ pub fn register_refusal(
     source: u64,
     checked: u64,
     new: u64,
-) -> u64
+) -> Looked
     requires { ⌜ lengths .tables ≡ length (now tables) ⌝ }
-    ensures { λ r. ⌜ r ≡ registerRefusal (now (state .entry)) (fitsIn (now (state .entry)) lengths) (now (shared .entry)) (now (tables .entry)) current vtl gpn source checked new ⌝ }
+    ensures { λ r. ⌜ r .refusal ≡ registerRefusal (now (state .entry)) (fitsIn (now (state .entry)) lengths) (now (shared .entry)) (now (tables .entry)) current vtl gpn source checked new ⌝ }
+    ensures { λ r. ⌜ (r .refusal ≡ 0 → r .place ≡ placeOf (overlaysOf (now (tables .entry)) (vtlOf vtl)) gpn) ⌝ }
 {
     let n = call_refusal(state, lengths, vtl);
     if n != 0 {
-        return n;
+        return refused(n);
     }
     let m = flags_refusal(source, checked, new);
     if m != 0 {
-        return m;
+        return refused(m);
     }
     let v = permissions::vtl_of(vtl);
-    page_refusal_in(state, shared, tables, v, gpn, source, current, checked, new)
+    let place = overlay_table::find_entry(call_refusals::overlays_of(tables, v), gpn);
+    let k = page_refusal_in(
+        state,
+        shared,
+        tables,
+        v,
+        gpn,
+        source,
+        current,
+        checked,
+        new,
+        place,
+    );
+    Looked {
+        refusal: k,
+        place: place,
+    }
 }
 
 // The flags that a page has: a Dma page none.

@@ -1,14 +1,18 @@
--- Laws of the search, how it ends and goes on, and of what is added. Assumes nothing.
-use mathlib.Core.Bool.{true, false}
-use mathlib.Core.List.{List}
-use mathlib.Core.Path.{_≡_, refl, sym, _∙_}
+-- Laws of the search, how it ends and goes on, of entries that are loaded, and of what is added. Assumes nothing.
+use mathlib.Core.Bool.{Bool, true, false, cond}
+use mathlib.Core.List.{List, [], _∷_}
+use mathlib.Core.Path.{_≡_, refl, sym, ap, ap₂, subst, _∙_}
 use Prim.Native.Nat.{ℕ, zero, suc, _+_, _-_, _*_, _≤_, _<_}
 use native.Mathlib.Omega.{arith}
-use lib.Dec.{ltb}
-use lib.ListN.{getD, set}
+use lib.Dec.{eqb, ltb}
+use lib.ListN.{length, getD, set, take, length-take}
 use lib.Seq.{sets}
 use borrow.Author.Tests.{eq-eqb, ne-eqb, lt-ltb, le-ltb}
 use Rattle.overlay_table.specs.declared.OverlayPage.{OverlayPage}
+use Rattle.overlay_table.specs.declared.OverlayKey.{OverlayKey}
+use Rattle.overlay_table.specs.declared.Found.{Found}
+use Rattle.overlay_table.specs.declared.Found.the-variants.{At, Nothing}
+use Rattle.overlay_table.specs.Search.{isOf, pick, findFrom, key, keysFrom, loaded}
 use Rattle.overlay_table.specs.Overlays.{wordsOf, used, placeFrom, entry, entryAt, addCode, addWords}
 
 module _ (t : List ℕ) (o p q : ℕ) where
@@ -26,6 +30,105 @@ module _ (t : List ℕ) (o p q : ℕ) where
   unfolding placeFrom
   place-end zero h = refl
   place-end (suc k) h = absurd (omega arith)
+
+-- some entries, then the others
+module _ (t : List ℕ) (p : ℕ) where
+  pub split-hit : (few k o : ℕ) → few ≤ k → (placeFrom t few o p ≡ 0 → ⊥) → placeFrom t few o p ≡ placeFrom t k o p
+  unfolding placeFrom
+  split-hit zero k o h n = absurd (n refl)
+  split-hit (suc f) zero o h n = absurd (omega arith)
+  split-hit (suc f) (suc k) o h n = go (eqb p (getD t o 0)) n (split-hit f k (o + 5) (omega arith))
+    where
+      go : (b : Bool) → (cond b o (placeFrom t f (o + 5) p) ≡ 0 → ⊥) → ((placeFrom t f (o + 5) p ≡ 0 → ⊥) → placeFrom t f (o + 5) p ≡ placeFrom t k (o + 5) p)
+          → cond b o (placeFrom t f (o + 5) p) ≡ cond b o (placeFrom t k (o + 5) p)
+      go true n m = refl
+      go false n m = m n
+
+  pub split-miss : (few k o : ℕ) → few ≤ k → 0 < o → placeFrom t few o p ≡ 0 → placeFrom t k o p ≡ placeFrom t (k - few) (o + 5 * few) p
+  unfolding placeFrom
+  split-miss zero k o h n z = let a : k ≡ k - 0 = omega arith in let b : o ≡ o + 5 * 0 = omega arith in ap₂ (λ (x y : ℕ). placeFrom t x y p) a b
+  split-miss (suc f) zero o h n z = absurd (omega arith)
+  split-miss (suc f) (suc k) o h n z = go (eqb p (getD t o 0)) z (split-miss f k (o + 5) (omega arith) (omega arith))
+    where
+      go : (b : Bool) → cond b o (placeFrom t f (o + 5) p) ≡ 0 → (placeFrom t f (o + 5) p ≡ 0 → placeFrom t k (o + 5) p ≡ placeFrom t (k - f) (o + 5 + 5 * f) p)
+          → cond b o (placeFrom t k (o + 5) p) ≡ placeFrom t (suc k - suc f) (o + 5 * suc f) p
+      go true z m = absurd (omega (arith, z))
+      go false z m =
+          let a : k - f ≡ suc k - suc f = omega arith in
+          let b : o + 5 + 5 * f ≡ o + 5 * suc f = omega arith in
+          m z ∙ ap₂ (λ (x y : ℕ). placeFrom t x y p) a b
+
+-- ---- entries that are loaded
+
+-- where an entry that was found stands, and which of them it is
+abbrev placeIn : ℕ → Found → ℕ
+placeIn o (At i) = o + 5 * i
+placeIn o Nothing = 0
+
+abbrev index : Found → ℕ
+index (At i) = i
+index Nothing = 0
+
+-- the search of words and the search of entries agree
+agrees : (t : List ℕ) (p o k i : ℕ) → placeFrom t k (o + 5 * i) p ≡ placeIn o (findFrom (keysFrom t k (o + 5 * i)) p i)
+unfolding placeFrom findFrom keysFrom
+agrees t p o zero i = refl
+agrees t p o (suc k) i = go (eqb p (getD t (o + 5 * i) 0)) (agrees t p o k (i + 1))
+  where
+    go : (b : Bool) → placeFrom t k (o + 5 * (i + 1)) p ≡ placeIn o (findFrom (keysFrom t k (o + 5 * (i + 1))) p (i + 1))
+        → cond b (o + 5 * i) (placeFrom t k (o + 5 * i + 5) p) ≡ placeIn o (pick b (At i) (findFrom (keysFrom t k (o + 5 * i + 5)) p (i + 1)))
+    go true m = refl
+    go false m = let d : o + 5 * i + 5 ≡ o + 5 * (i + 1) = omega arith in rw d m
+
+few-index : (es : List OverlayKey) (p i : ℕ) → index (findFrom es p i) ≤ i + length es
+unfolding findFrom
+few-index [] p i = omega arith
+few-index (e ∷ es) p i = go (isOf e p) (few-index es p (i + 1))
+  where
+    go : (b : Bool) → index (findFrom es p (i + 1)) ≤ i + 1 + length es → index (pick b (At i) (findFrom es p (i + 1))) ≤ i + suc (length es)
+    go true m = omega arith
+    go false m = omega arith
+
+module _ (t : List ℕ) (o : ℕ) where
+  more : (a b : ℕ) (xs ys : List OverlayKey) → a ≡ b → xs ≡ ys → key (getD t a 0) ∷ xs ≡ key (getD t b 0) ∷ ys
+  more a b xs ys d e = ap₂ (λ (k : ℕ) (zs : List OverlayKey). key (getD t k 0) ∷ zs) d e
+
+  e0 : o + 5 * 0 ≡ o
+  e0 = omega arith
+
+  e1 : o + 5 * 1 ≡ o + 5
+  e1 = omega arith
+
+  e2 : o + 5 * 2 ≡ o + 5 + 5
+  e2 = omega arith
+
+  e3 : o + 5 * 3 ≡ o + 5 + 5 + 5
+  e3 = omega arith
+
+  -- those that are in use are all that is loaded
+  taken : (few : ℕ) → few ≤ 4 → take few (loaded t o few) ≡ keysFrom t few o
+  unfolding keysFrom
+  taken zero h = refl
+  taken (suc zero) h = more _ _ _ _ e0 refl
+  taken (suc (suc zero)) h = more _ _ _ _ e0 (more _ _ _ _ e1 refl)
+  taken (suc (suc (suc zero))) h = more _ _ _ _ e0 (more _ _ _ _ e1 (more _ _ _ _ e2 refl))
+  taken (suc (suc (suc (suc zero)))) h = more _ _ _ _ e0 (more _ _ _ _ e1 (more _ _ _ _ e2 (more _ _ _ _ e3 refl)))
+  taken (suc (suc (suc (suc (suc k))))) h = absurd (omega arith)
+
+  module _ (p few : ℕ) (es : List OverlayKey) (r : Found) (h : few ≤ 4) (is : es ≡ loaded t o few) (f : r ≡ findFrom (take few es) p 0) where
+    few-place : placeIn o r ≡ placeFrom t few o p
+    few-place =
+        ap (placeIn o) (f ∙ ap (λ (x : List OverlayKey). findFrom (take few x) p 0) is ∙ ap (λ (x : List OverlayKey). findFrom x p 0) (taken few h))
+        ∙ subst (λ (k : ℕ). placeIn o (findFrom (keysFrom t few k) p 0) ≡ placeFrom t few k p) e0 (sym (agrees t p o few 0))
+
+    pub few-at : (i : ℕ) → r ≡ At i → o + 5 * i ≡ placeFrom t few o p
+    few-at i e = ap (placeIn o) (sym e) ∙ few-place
+
+    pub few-none : r ≡ Nothing → 0 ≡ placeFrom t few o p
+    few-none e = ap (placeIn o) (sym e) ∙ few-place
+
+    pub few-fits : (i : ℕ) → r ≡ At i → i ≤ few
+    few-fits i e = subst (λ (x : Found). index x ≤ few) (sym f ∙ e) (omega (arith, few-index (take few es) p 0, length-take few es))
 
 -- ---- one entry more, by the code's writes
 module _ (t : List ℕ) (e : OverlayPage) (n : ℕ) (is : n ≡ used t) where

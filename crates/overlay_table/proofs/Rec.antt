@@ -1,4 +1,4 @@
--- What the proofs by hand of this crate cite of an `OverlayPage`: its type, its machine value and its laws. For another struct change the name, the widths in `page-fits` and the size.
+-- What the proofs by hand of this crate cite of an `OverlayKey`: its type, its machine value and its laws. For another struct change the name and the size; with another field the size alone.
 -- Assumes nothing.
 use Prim.Native.Nat.{ℕ, _*_, _<_, _^_}
 use native.Mathlib.Omega.{arith}
@@ -12,18 +12,18 @@ use types.Kit.{Given}
 use denote.RattleType.{RattleType}
 use denote.Laws.{Rel, Is, Tells, Copy, Makes}
 use denote.Struct.Laws as LL
-use Rattle.overlay_table.specs.declared.OverlayPage.{OverlayPage}
-use Rattle.overlay_table.proofs.OverlayPage as T
-use Rattle.overlay_table.proofs.OverlayPage.Laws as T′
+use Rattle.overlay_table.specs.declared.OverlayKey.{OverlayKey}
+use Rattle.overlay_table.proofs.OverlayKey as T
+use Rattle.overlay_table.proofs.OverlayKey.Laws as T′
 
 abbrev pub R : RattleType
 R = T.the-row
 
 -- a record's machine value
-abbrev pub mach : OverlayPage → Val
+abbrev pub mach : OverlayKey → Val
 mach e = LL.tuple-val T.the-type T′.the-laws (T.the-type .to e)
 
-abbrev pub vals : OverlayPage → List Val
+abbrev pub vals : OverlayKey → List Val
 vals = LL.vals T.the-type T′.the-laws
 
 abbrev pub P : Rel R
@@ -32,8 +32,9 @@ P = Is R
 abbrev pub tells : Tells R P vals
 tells = LL.tells T.the-type T′.the-laws
 
-pub page-fits : (e : OverlayPage) → P e (mach e ∷ []) → e .gpn < 2 ^ 64
-page-fits e g = LL.owed T.the-type T′.the-laws e _ g .0 .1
+-- how many bytes it takes
+abbrev pub size : ℕ
+size = 8
 
 module _ {M : Type 1} (𝓤 : URA M) (H : Heap 𝓤) (A : Atoms 𝓤) (W : Given 𝓤 H A) where
   abbrev pub copies : Copy 𝓤 H A R
@@ -42,9 +43,9 @@ module _ {M : Type 1} (𝓤 : URA M) (H : Heap 𝓤) (A : Atoms 𝓤) (W : Given
   abbrev pub makes : Makes 𝓤 H A R P
   makes = LL.makes T.the-type T′.the-plain 𝓤 H A
 
-  pub typed : (e : OverlayPage) (v : Val) → P e (v ∷ []) → Holds (hasTy T′.mir v) × WT v
+  pub typed : (e : OverlayKey) (v : Val) → P e (v ∷ []) → Holds (hasTy T′.mir v) × WT v
   typed e v g = LL.lawful T.the-type T′.the-laws 𝓤 H A W .typed e _ g .0
 
 -- the offset of an element fits
-pub offset-fits : {i n : ℕ} → n * 40 < 2 ^ 63 → i < n → i * 40 < 2 ^ 64
+pub offset-fits : {i n : ℕ} → n * size < 2 ^ 63 → i < n → i * size < 2 ^ 64
 offset-fits room l = omega arith

@@ -7,13 +7,13 @@ use native.Mathlib.Numerals.{add-one}
 use mathlib.Core.List.{List}
 use lib.ListN.{length, getD, drop as dropL}
 use lib.Seq.{drop-cons, drop-length}
-use lib.Dec.{T as Holds, eqb}
-use Rattle.overlay_table.specs.Search.{none, pick, findFrom}
-use Rattle.overlay_table.specs.declared.OverlayPage.{OverlayPage}
+use lib.Dec.{T as Holds}
+use Rattle.overlay_table.specs.Search.{isOf, none, pick, findFrom}
+use Rattle.overlay_table.specs.declared.OverlayKey.{OverlayKey}
 use Rattle.overlay_table.specs.declared.Found.{Found}
 use Rattle.overlay_table.specs.declared.Found.the-variants.{At, Nothing}
 
-step-is : (ys : List OverlayPage) (page i : ℕ) → i < length ys → findFrom (dropL i ys) page i ≡ pick (eqb (getD ys i none .gpn) page) (At i) (findFrom (dropL (i + 1) ys) page (i + 1))
+step-is : (ys : List OverlayKey) (page i : ℕ) → i < length ys → findFrom (dropL i ys) page i ≡ pick (isOf (getD ys i none) page) (At i) (findFrom (dropL (i + 1) ys) page (i + 1))
 unfolding findFrom
 step-is ys page i l = rw (drop-cons ys i none l, add-one i)
 
@@ -25,12 +25,12 @@ on-false : (t : Bool) (a b : Found) → Holds (not t) → pick t a b ≡ b
 on-false true a b h = absurd h
 on-false false a b h = refl
 
-pub seen : (ys : List OverlayPage) (page i : ℕ) → i < length ys → Holds (eqb (getD ys i none .gpn) page) → At i ≡ findFrom (dropL i ys) page i
-seen ys page i l hit = sym (step-is ys page i l ∙ on-true (eqb (getD ys i none .gpn) page) (At i) (findFrom (dropL (i + 1) ys) page (i + 1)) hit)
+pub seen : (ys : List OverlayKey) (page i : ℕ) → i < length ys → Holds (isOf (getD ys i none) page) → At i ≡ findFrom (dropL i ys) page i
+seen ys page i l hit = sym (step-is ys page i l ∙ on-true (isOf (getD ys i none) page) (At i) (findFrom (dropL (i + 1) ys) page (i + 1)) hit)
 
-pub past : (ys : List OverlayPage) (page i : ℕ) → i < length ys → Holds (not (eqb (getD ys i none .gpn) page)) → findFrom (dropL (i + 1) ys) page (i + 1) ≡ findFrom (dropL i ys) page i
-past ys page i l miss = sym (step-is ys page i l ∙ on-false (eqb (getD ys i none .gpn) page) (At i) (findFrom (dropL (i + 1) ys) page (i + 1)) miss)
+pub past : (ys : List OverlayKey) (page i : ℕ) → i < length ys → Holds (not (isOf (getD ys i none) page)) → findFrom (dropL (i + 1) ys) page (i + 1) ≡ findFrom (dropL i ys) page i
+past ys page i l miss = sym (step-is ys page i l ∙ on-false (isOf (getD ys i none) page) (At i) (findFrom (dropL (i + 1) ys) page (i + 1)) miss)
 
-pub none-left : (ys : List OverlayPage) (page : ℕ) → findFrom (dropL (length ys) ys) page (length ys) ≡ Nothing
+pub none-left : (ys : List OverlayKey) (page : ℕ) → findFrom (dropL (length ys) ys) page (length ys) ≡ Nothing
 unfolding findFrom
 none-left ys page = rw drop-length

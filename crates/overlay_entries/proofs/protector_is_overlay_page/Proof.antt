@@ -26,8 +26,8 @@ overlays-of-requires c κs =
     let a = c5 .args in
     laws.query-tables (a .state .now) (a .tables .now) (a .vtl) (a .gpn) _ (c .before .before .table-refusal .ensures) (c .before .if1 .left)
 
-is-overlay-requires : tie.Need-is-overlay-requires
-is-overlay-requires c κs = search needs
+find-entry-requires : tie.Need-find-entry-requires
+find-entry-requires c κs = search needs
 
 bool-to-u64-requires : tie.Need-bool-to-u64-requires
 bool-to-u64-requires c κs = search needs
@@ -40,7 +40,7 @@ returns-2 c =
     let c3 = c .before .before .before in let c4 = c3 .before in let c5 = c4 .before in let c6 = c5 .before in let c9 = c6 .before .before .before in
     let a = c9 .args in
     laws.query-taken (a .state .now) (a .tables .now) (a .vtl) (a .gpn) _ (c6 .table-refusal .ensures) _ _ _ _ _ (c5 .if1 .left) (c4 .vtl-of .ensures)
-    (c3 .overlays-of .ensures) (c .before .before .is-overlay .ensures) (c .before .bool-to-u64 .ensures .0) (c .ok-value .ensures)
+    (c3 .overlays-of .ensures) (c .before .before .find-entry .ensures) (c .before .bool-to-u64 .ensures .0) (c .ok-value .ensures)
 
 pub protector-is-overlay-page-spec : {M : Type 1} → statement M
-protector-is-overlay-page-spec = tie.close (tie.spec table-refusal-requires refused-value-requires returns vtl-of-requires overlays-of-requires is-overlay-requires bool-to-u64-requires ok-value-requires returns-2)
+protector-is-overlay-page-spec = tie.close (tie.spec table-refusal-requires refused-value-requires returns vtl-of-requires overlays-of-requires find-entry-requires bool-to-u64-requires ok-value-requires returns-2)

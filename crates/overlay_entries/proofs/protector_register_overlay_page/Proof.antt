@@ -19,8 +19,8 @@ vtl-of-requires c κs = search needs
 current-flags-requires : tie.Need-current-flags-requires
 current-flags-requires c κs = search needs
 
-register-refusal-requires : tie.Need-register-refusal-requires
-register-refusal-requires c κs = search needs
+look-register-requires : tie.Need-look-register-requires
+look-register-requires c κs = search needs
 
 refused-requires : tie.Need-refused-requires
 refused-requires c κs = search needs
@@ -46,50 +46,41 @@ same-length-6 c = search needs
 returns : tie.Need-returns
 unfolding registerOf
 returns c =
-    let c5 = c .before .before .before .before .before in let c11 = c5 .before .before .before .before .before .before in
-    let a = c11 .before .before .before .before .before .before .before .before .before .before .args in
+    let c3 = c .before .before .before in let c6 = c3 .before .before .before in let c12 = c6 .before .before .before .before .before .before in
+    let a = c12 .before .before .before .before .before .before .before .before .before .before .args in
     let w = world (maps (a .private .now) (a .shared .now) (a .read .now) (a .write .now) (a .kernel .now) (a .user .now)) (a .state .now) (a .pages .now) (a .tables .now) in
-    call-refused w _ _ (laws.register-asks w (fits w) (c11 .vtl-of .result) (a .vtl) (a .gpn) (a .source) (a .checked) (a .new) _ _ (c11 .vtl-of .ensures)
-    (c5 .current-flags .ensures) (c .before .before .register-refusal .ensures)) (registerTaken w (vtlOf (a .vtl)) (a .gpn) (a .source) (a .new)) _ (c .before .if1 .taken)
+    call-refused w _ _ (laws.register-asks w (fits w) (c12 .vtl-of .result) (a .vtl) (a .gpn) (a .source) (a .checked) (a .new) _ _ (c12 .vtl-of .ensures)
+    (c6 .current-flags .ensures) (c3 .look-register .ensures .0)) (registerTaken w (vtlOf (a .vtl)) (a .gpn) (a .source) (a .new)) _ (c .before .if1 .taken)
     (c .refused .ensures)
-
-overlays-of-requires : tie.Need-overlays-of-requires
-overlays-of-requires c κs =
-    let c5 = c .before .before .before .before .before in
-    let a = c5 .before .before .before .before .before .before .before .before .before .before .before .before .before .before .before .before .args in
-    let w = world (maps (a .private .now) (a .shared .now) (a .read .now) (a .write .now) (a .kernel .now) (a .user .now)) (a .state .now) (a .pages .now) (a .tables .now) in
-    fits-tables w (laws.register-fits (a .state .now) (fits w) (a .shared .now) (a .tables .now) (c5 .current-flags .result) (a .vtl) (a .gpn) (a .source) (a .checked) (a .new) _
-    (c .before .before .register-refusal .ensures) (c .before .if1 .left))
-
-is-overlay-requires : tie.Need-is-overlay-requires
-is-overlay-requires c κs = search needs
 
 entry-of-requires : tie.Need-entry-of-requires
 entry-of-requires c κs =
-    let c5 = c .before .before .before .before .before in let c6 = c5 .before in let c9 = c6 .before .before .before in
-    let a = c9 .before .before .before .before .before .before .before .before .before .before .before .before .before .before .before .before .args in
+    let c3 = c .before .before .before in let c5 = c3 .before .before in let c8 = c5 .before .before .before in
+    let a = c8 .before .before .before .before .before .before .before .before .before .before .before .before .before .before .before .before .args in
     let w = world (maps (a .private .now) (a .shared .now) (a .read .now) (a .write .now) (a .kernel .now) (a .user .now)) (a .state .now) (a .pages .now) (a .tables .now) in
-    fits-tables w (laws.register-fits (a .state .now) (fits w) (a .shared .now) (a .tables .now) (c9 .current-flags .result) (a .vtl) (a .gpn) (a .source) (a .checked) (a .new) _
-    (c6 .register-refusal .ensures) (c5 .if1 .left))
+    fits-tables w (laws.register-fits (a .state .now) (fits w) (a .shared .now) (a .tables .now) (c8 .current-flags .result) (a .vtl) (a .gpn) (a .source) (a .checked) (a .new) _
+    (c5 .look-register .ensures .0) (c3 .if1 .left))
 
 add-set-ref-count : tie.Need-add-set-ref-count
 add-set-ref-count c =
-    let c4 = c .before .before .before .before in let c5 = c4 .before in let c6 = c5 .before in let c8 = c6 .before .before in let c9 = c8 .before in
-    let c12 = c9 .before .before .before in let c18 = c12 .before .before .before .before .before .before in
-    let a = c18 .before .before .before .before .before .before .before .before .before .before .args in
-    let h = laws.register-room (a .state .now) (fits (world (maps (a .private .now) (a .shared .now) (a .read .now) (a .write .now) (a .kernel .now) (a .user .now)) (a .state .now)
-    (a .pages .now) (a .tables .now))) (a .shared .now) (a .tables .now) (c12 .current-flags .result) (a .vtl) (a .gpn) (a .source) (a .checked) (a .new) _
-    (c9 .register-refusal .ensures) (c8 .if1 .left) (c18 .vtl-of .result) _ _ _ (c18 .vtl-of .ensures) (c6 .overlays-of .ensures) (c5 .is-overlay .ensures) (c4 .if2 .taken)
-    (c .before .before .entry-of .ensures) in
+    let c4 = c .before .before .before .before in let c6 = c4 .before .before in let c8 = c6 .before .before in let c11 = c8 .before .before .before in
+    let c17 = c11 .before .before .before .before .before .before in
+    let a = c17 .before .before .before .before .before .before .before .before .before .before .args in
+    let w = world (maps (a .private .now) (a .shared .now) (a .read .now) (a .write .now) (a .kernel .now) (a .user .now)) (a .state .now) (a .pages .now) (a .tables .now) in
+    let place = c8 .look-register .ensures .1 (c6 .if1 .left) in
+    let at = laws.place-found (a .tables .now) (c17 .vtl-of .result) (a .vtl) (a .gpn) _ (c17 .vtl-of .ensures) place in
+    let h = laws.register-room (a .state .now) (fits w) (a .shared .now) (a .tables .now) (c11 .current-flags .result) (a .vtl) (a .gpn) (a .source) (a .checked) (a .new) _
+    (c8 .look-register .ensures .0) (c6 .if1 .left) (c17 .vtl-of .result) _ _ (c17 .vtl-of .ensures) place (c4 .if2 .taken)
+    (laws.entry-found (a .tables .now) (c17 .vtl-of .result) (a .gpn) _ at _ (c .before .before .entry-of .ensures)) in
     omega (arith, h)
 
 set-ref-count-requires : tie.Need-set-ref-count-requires
 set-ref-count-requires c κs =
-    let c8 = c .before .before .before .before .before .before .before .before in let c9 = c8 .before in let c12 = c9 .before .before .before in
-    let a = c12 .before .before .before .before .before .before .before .before .before .before .before .before .before .before .before .before .args in
+    let c6 = c .before .before .before .before .before .before in let c8 = c6 .before .before in let c11 = c8 .before .before .before in
+    let a = c11 .before .before .before .before .before .before .before .before .before .before .before .before .before .before .before .before .args in
     let w = world (maps (a .private .now) (a .shared .now) (a .read .now) (a .write .now) (a .kernel .now) (a .user .now)) (a .state .now) (a .pages .now) (a .tables .now) in
-    fits-tables w (laws.register-fits (a .state .now) (fits w) (a .shared .now) (a .tables .now) (c12 .current-flags .result) (a .vtl) (a .gpn) (a .source) (a .checked) (a .new) _
-    (c9 .register-refusal .ensures) (c8 .if1 .left))
+    fits-tables w (laws.register-fits (a .state .now) (fits w) (a .shared .now) (a .tables .now) (c11 .current-flags .result) (a .vtl) (a .gpn) (a .source) (a .checked) (a .new) _
+    (c8 .look-register .ensures .0) (c6 .if1 .left))
 
 finished-requires : tie.Need-finished-requires
 finished-requires c κs = search needs
@@ -115,23 +106,25 @@ same-length-12 c = search needs
 returns-2 : tie.Need-returns-2
 unfolding registerOf
 returns-2 c =
-    let c6 = c .before .before .before .before .before .before in let c8 = c6 .before .before in let c9 = c8 .before in let c10 = c9 .before in let c12 = c10 .before .before in
-    let c13 = c12 .before in let c16 = c13 .before .before .before in let c22 = c16 .before .before .before .before .before .before in
-    let a = c22 .before .before .before .before .before .before .before .before .before .before .args in
+    let c6 = c .before .before .before .before .before .before in let c8 = c6 .before .before in let c10 = c8 .before .before in let c12 = c10 .before .before in
+    let c15 = c12 .before .before .before in let c21 = c15 .before .before .before .before .before .before in
+    let a = c21 .before .before .before .before .before .before .before .before .before .before .args in
     let w = world (maps (a .private .now) (a .shared .now) (a .read .now) (a .write .now) (a .kernel .now) (a .user .now)) (a .state .now) (a .pages .now) (a .tables .now) in
-    call-taken w _ _ (laws.register-asks w (fits w) (c22 .vtl-of .result) (a .vtl) (a .gpn) (a .source) (a .checked) (a .new) _ _ (c22 .vtl-of .ensures)
-    (c16 .current-flags .ensures) (c13 .register-refusal .ensures)) (registerTaken w (vtlOf (a .vtl)) (a .gpn) (a .source) (a .new)) _ (c12 .if1 .left)
-    (laws.register-counted w (c22 .vtl-of .result) (a .gpn) (a .source) (a .new) _ _ (c10 .overlays-of .ensures) (c9 .is-overlay .ensures) _ _ _ (c8 .if2 .taken)
-    (c6 .entry-of .ensures) (c .before .before .before .set-ref-count .ensures) (c .finished .ensures) ∙ ap (λ (x : GuestVtl). registerTaken w x (a .gpn) (a .source) (a .new))
-    (c22 .vtl-of .ensures))
+    let at = laws.place-found (a .tables .now) (c21 .vtl-of .result) (a .vtl) (a .gpn) _ (c21 .vtl-of .ensures) (c12 .look-register .ensures .1 (c10 .if1 .left)) in
+    call-taken w _ _ (laws.register-asks w (fits w) (c21 .vtl-of .result) (a .vtl) (a .gpn) (a .source) (a .checked) (a .new) _ _ (c21 .vtl-of .ensures)
+    (c15 .current-flags .ensures) (c12 .look-register .ensures .0)) (registerTaken w (vtlOf (a .vtl)) (a .gpn) (a .source) (a .new)) _ (c10 .if1 .left)
+    (laws.register-counted w (c21 .vtl-of .result) (a .gpn) (a .source) (a .new) _ at _ _ _ (c8 .if2 .taken)
+    (laws.entry-found (a .tables .now) (c21 .vtl-of .result) (a .gpn) _ at _ (c6 .entry-of .ensures))
+    (laws.count-found (a .tables .now) (c21 .vtl-of .result) (a .gpn) _ at _ _ (c .before .before .before .set-ref-count .ensures)) (c .finished .ensures)
+    ∙ ap (λ (x : GuestVtl). registerTaken w x (a .gpn) (a .source) (a .new)) (c21 .vtl-of .ensures))
 
 settings-requires : tie.Need-settings-requires
 settings-requires c κs =
-    let c5 = c .before .before .before .before .before in let c6 = c5 .before in let c9 = c6 .before .before .before in
-    let a = c9 .before .before .before .before .before .before .before .before .before .before .before .before .before .before .before .before .args in
+    let c3 = c .before .before .before in let c5 = c3 .before .before in let c8 = c5 .before .before .before in
+    let a = c8 .before .before .before .before .before .before .before .before .before .before .before .before .before .before .before .before .args in
     laws.register-state (a .state .now) (fits (world (maps (a .private .now) (a .shared .now) (a .read .now) (a .write .now) (a .kernel .now) (a .user .now)) (a .state .now)
-    (a .pages .now) (a .tables .now))) (a .shared .now) (a .tables .now) (c9 .current-flags .result) (a .vtl) (a .gpn) (a .source) (a .checked) (a .new) _
-    (c6 .register-refusal .ensures) (c5 .if1 .left)
+    (a .pages .now) (a .tables .now))) (a .shared .now) (a .tables .now) (c8 .current-flags .result) (a .vtl) (a .gpn) (a .source) (a .checked) (a .new) _
+    (c5 .look-register .ensures .0) (c3 .if1 .left)
 
 into-bits-requires : tie.Need-into-bits-requires
 into-bits-requires c κs = search needs
@@ -141,17 +134,16 @@ start-new-requires c κs = search needs
 
 apply-step-requires : tie.Need-apply-step-requires
 apply-step-requires c κs =
-    let c6 = c .before .before .before .before .before .before in let c14 = c6 .before .before .before .before .before .before .before .before in let c15 = c14 .before in
-    let c18 = c15 .before .before .before in let c24 = c18 .before .before .before .before .before .before in
-    let c34 = c24 .before .before .before .before .before .before .before .before .before .before in
-    let a = c34 .args in
+    let c6 = c .before .before .before .before .before .before in let c12 = c6 .before .before .before .before .before .before in let c14 = c12 .before .before in
+    let c17 = c14 .before .before .before in let c23 = c17 .before .before .before .before .before .before in
+    let a = c23 .before .before .before .before .before .before .before .before .before .before .args in
     let w = world (maps (a .private .now) (a .shared .now) (a .read .now) (a .write .now) (a .kernel .now) (a .user .now)) (a .state .now) (a .pages .now) (a .tables .now) in (
-      laws.register-state (a .state .now) (fits w) (a .shared .now) (a .tables .now) (c18 .current-flags .result) (a .vtl) (a .gpn) (a .source) (a .checked) (a .new) _
-          (c15 .register-refusal .ensures) (c14 .if1 .left),
+      laws.register-state (a .state .now) (fits w) (a .shared .now) (a .tables .now) (c17 .current-flags .result) (a .vtl) (a .gpn) (a .source) (a .checked) (a .new) _
+          (c14 .look-register .ensures .0) (c12 .if1 .left),
       fits-tables w
-          (laws.register-fits (a .state .now) (fits w) (a .shared .now) (a .tables .now) (c18 .current-flags .result) (a .vtl) (a .gpn) (a .source) (a .checked) (a .new) _
-          (c15 .register-refusal .ensures) (c14 .if1 .left)),
-      laws.new-fits _ (c24 .vtl-of .result) (a .gpn) _ _ _ _ (c6 .start-new .ensures) (omega (arith, c34 .fits .gpn)),
+          (laws.register-fits (a .state .now) (fits w) (a .shared .now) (a .tables .now) (c17 .current-flags .result) (a .vtl) (a .gpn) (a .source) (a .checked) (a .new) _
+          (c14 .look-register .ensures .0) (c12 .if1 .left)),
+      laws.new-fits _ (c23 .vtl-of .result) (a .gpn) _ _ _ _ (c6 .start-new .ensures) (omega (arith, (c23 .before .before .before .before .before .before .before .before .before .before) .fits .gpn)),
     )
 
 same-length-13 : tie.Need-same-length-13
@@ -177,16 +169,17 @@ unfolding registerOf
 returns-3 c =
     let c12 = c .before .before .before .before .before .before .before .before .before .before .before .before in
     let c19 = c12 .before .before .before .before .before .before .before in let c20 = c19 .before in let c21 = c20 .before in let c23 = c21 .before .before in
-    let c24 = c23 .before in let c25 = c24 .before in let c27 = c25 .before .before in let c28 = c27 .before in let c31 = c28 .before .before .before in
-    let c37 = c31 .before .before .before .before .before .before in
-    let a = c37 .before .before .before .before .before .before .before .before .before .before .args in
+    let c25 = c23 .before .before in let c27 = c25 .before .before in let c30 = c27 .before .before .before in
+    let c36 = c30 .before .before .before .before .before .before in
+    let a = c36 .before .before .before .before .before .before .before .before .before .before .args in
     let w = world (maps (a .private .now) (a .shared .now) (a .read .now) (a .write .now) (a .kernel .now) (a .user .now)) (a .state .now) (a .pages .now) (a .tables .now) in
-    call-taken w _ _ (laws.register-asks w (fits w) (c37 .vtl-of .result) (a .vtl) (a .gpn) (a .source) (a .checked) (a .new) _ _ (c37 .vtl-of .ensures)
-    (c31 .current-flags .ensures) (c28 .register-refusal .ensures)) (registerTaken w (vtlOf (a .vtl)) (a .gpn) (a .source) (a .new)) _ (c27 .if1 .left)
-    (laws.register-carried w (c37 .vtl-of .result) (a .gpn) (a .source) (a .new) _ _ (c25 .overlays-of .ensures) (c24 .is-overlay .ensures) (c21 .settings .result)
-    (c31 .current-flags .result) _ (c19 .start-new .result) _ _ _ _ (c23 .if2 .left) (c21 .settings .ensures) (c31 .current-flags .ensures) (c20 .into-bits .ensures)
+    let at = laws.place-found (a .tables .now) (c36 .vtl-of .result) (a .vtl) (a .gpn) _ (c36 .vtl-of .ensures) (c27 .look-register .ensures .1 (c25 .if1 .left)) in
+    call-taken w _ _ (laws.register-asks w (fits w) (c36 .vtl-of .result) (a .vtl) (a .gpn) (a .source) (a .checked) (a .new) _ _ (c36 .vtl-of .ensures)
+    (c30 .current-flags .ensures) (c27 .look-register .ensures .0)) (registerTaken w (vtlOf (a .vtl)) (a .gpn) (a .source) (a .new)) _ (c25 .if1 .left)
+    (laws.register-carried w (c36 .vtl-of .result) (a .gpn) (a .source) (a .new) _ at (c21 .settings .result)
+    (c30 .current-flags .result) _ (c19 .start-new .result) _ _ _ _ (c23 .if2 .left) (c21 .settings .ensures) (c30 .current-flags .ensures) (c20 .into-bits .ensures)
     (c19 .start-new .ensures) (c12 .apply-step .ensures .0) (c12 .apply-step .ensures .1 .0) (c12 .apply-step .ensures .1 .1 .0) (c12 .apply-step .ensures .1 .1 .1) ∙ ap
-    (λ (x : GuestVtl). registerTaken w x (a .gpn) (a .source) (a .new)) (c37 .vtl-of .ensures))
+    (λ (x : GuestVtl). registerTaken w x (a .gpn) (a .source) (a .new)) (c36 .vtl-of .ensures))
 
 pub protector-register-overlay-page-spec : {M : Type 1} → statement M
 protector-register-overlay-page-spec =
@@ -194,7 +187,7 @@ protector-register-overlay-page-spec =
     (tie.spec
     vtl-of-requires
     current-flags-requires
-    register-refusal-requires
+    look-register-requires
     refused-requires
     same-length
     same-length-2
@@ -203,8 +196,6 @@ protector-register-overlay-page-spec =
     same-length-5
     same-length-6
     returns
-    overlays-of-requires
-    is-overlay-requires
     entry-of-requires
     add-set-ref-count
     set-ref-count-requires

@@ -4,6 +4,7 @@ use mathlib.Core.Path.{sym, ap, _∙_}
 use borrow.Author.Tests.{not-true, not-false}
 use Rattle.laws.specs.Refusal.{refuses, passes, when-refuses, when-passes}
 use Rattle.overlay_refusals.specs.Refusals.{within, guestRefusal}
+use Rattle.overlay_refusals.proofs.Laws as laws
 use Rattle.overlay_refusals.proofs.guest_refusal.Statement.{statement}
 use Rattle.overlay_refusals.proofs.guest_refusal.Tie as tie
 
@@ -36,8 +37,8 @@ returns-3 c =
     (passes _ _ _ _ (sym (c .before .before .before .is-within .ensures ∙ ap (within (a .current)) (c4 .from-bits .ensures)) ∙ not-false _ (c .before .before .if2 .left))
     (when-refuses _ _ _ (sym (c .before .page-state .ensures) ∙ c .if3 .taken)))
 
-is-locked-requires : tie.Need-is-locked-requires
-is-locked-requires c κs = search needs
+holds-requires : tie.Need-holds-requires
+holds-requires c κs = search needs
 
 returns-4 : tie.Need-returns-4
 unfolding guestRefusal
@@ -47,7 +48,7 @@ returns-4 c =
     passes _ _ _ _ (sym (c8 .is-in-guest-memory .ensures) ∙ not-false _ (c7 .if1 .left))
     (passes _ _ _ _ (sym (c5 .is-within .ensures ∙ ap (within (a .current)) (c6 .from-bits .ensures)) ∙ not-false _ (c4 .if2 .left))
     (when-passes _ _ _ _ (sym (c .before .before .before .page-state .ensures) ∙ c .before .before .if3 .left)
-    (when-refuses _ _ _ (sym (c .before .is-locked .ensures) ∙ c .if4 .taken))))
+    (when-refuses _ _ _ (sym (laws.locked-new (a .overlays .now) (a .locks .now) (a .gpn) _ (c8 .before .before .before .before .before .pre) (c .before .holds .ensures)) ∙ c .if4 .taken))))
 
 add-code-requires : tie.Need-add-code-requires
 add-code-requires c κs = search needs
@@ -60,7 +61,7 @@ returns-5 c =
     passes _ _ _ _ (sym (c9 .is-in-guest-memory .ensures) ∙ not-false _ (c8 .if1 .left))
     (passes _ _ _ _ (sym (c6 .is-within .ensures ∙ ap (within (a .current)) (c7 .from-bits .ensures)) ∙ not-false _ (c5 .if2 .left))
     (when-passes _ _ _ _ (sym (c4 .page-state .ensures) ∙ c .before .before .before .if3 .left)
-    (when-passes _ _ _ _ (sym (c .before .before .is-locked .ensures) ∙ c .before .if4 .left) (c .add-code .ensures))))
+    (when-passes _ _ _ _ (sym (laws.locked-new (a .overlays .now) (a .locks .now) (a .gpn) _ (c9 .before .before .before .before .before .pre) (c .before .before .holds .ensures)) ∙ c .before .if4 .left) (c .add-code .ensures))))
 
 pub guest-refusal-spec : {M : Type 1} → statement M
 guest-refusal-spec =
@@ -73,7 +74,7 @@ guest-refusal-spec =
     returns-2
     page-state-requires
     returns-3
-    is-locked-requires
+    holds-requires
     returns-4
     add-code-requires
     returns-5)

@@ -1,5 +1,5 @@
--- `overlay::find_array` meets its contract: a walk of its MIR, by hand. The array is copied into a local, the local is lent as a slice for a lifetime that the walk makes, `find` is called, and the lifetime ends.
--- All that the proof knows of `find` is that it meets its contract.
+-- `overlay_table::find_loaded` meets its contract: a walk of its MIR, by hand. The array is copied into a local, the local is lent as a slice for a lifetime that the walk makes, `find_in` is called, and the lifetime ends.
+-- All that the proof knows of `find_in` is that it meets its contract.
 -- Assumes nothing.
 use mathlib.Core.Path.{_≡_, refl, sym, subst}
 use Prim.Native.Nat.{ℕ, _≤_, _<_, _^_}
@@ -47,11 +47,11 @@ use denote.Triple.Walked.{says, needs, Stays, stay-none, walkOf, AllGo, goes-non
 use denote.Triple.Clauses.{ensured, lasts}
 use denote.Exit.{yes}
 use Rattle.overlay_table.specs.Search.{findFrom}
-use Rattle.overlay_table.specs.declared.OverlayPage.{OverlayPage}
+use Rattle.overlay_table.specs.declared.OverlayKey.{OverlayKey}
 use Rattle.overlay_table.specs.declared.Found.{Found}
 use Rattle.overlay_table.proofs.Rec.{R, mach, vals, tells, makes}
-use Rattle.overlay_table.proofs.OverlayPage as T
-use Rattle.overlay_table.proofs.OverlayPage.Laws as T′
+use Rattle.overlay_table.proofs.OverlayKey as T
+use Rattle.overlay_table.proofs.OverlayKey.Laws as T′
 use Rattle.overlay_table.proofs.Found as S
 use Rattle.overlay_table.proofs.Found.Laws as S′
 use Rattle.overlay_table.proofs.find_in as callee
@@ -65,16 +65,16 @@ use Rattle.overlay_table.proofs.find_loaded.Code as code
 
 -- the array's type, its MIR type, and its machine value
 abbrev AR : RattleType
-AR = Array R 128
+AR = Array R 4
 
 abbrev arr : Ty
-arr = tyArray T′.mir 128
+arr = tyArray T′.mir 4
 
-abbrev machA : List OverlayPage → Val
+abbrev machA : List OverlayKey → Val
 machA ys = arrayVal (map mach ys)
 
 abbrev tellsA : Tells AR (Is AR) (array-vals vals)
-tellsA = array-tells R vals tells 128
+tellsA = array-tells R vals tells 4
 
 abbrev slice : Ty
 slice = sliceTy (tyRef erased imm (pointee (R .written)))
@@ -88,14 +88,14 @@ module _ {M : Type 1} (𝓤 : URA M) (H : Heap 𝓤) (A : Atoms 𝓤) (mem : Mem
   Callee = tripleOf 𝓤 H A callee.signature (callee.spec 𝓤 H A mem run)
 
 -- a local that holds the array, as what is lent: its elements side by side
-module _ {M : Type 1} (𝓤 : URA M) (H : Heap 𝓤) (A : Atoms 𝓤) (W : Given 𝓤 H A) (b : ℕ) (ys : List OverlayPage) (len : length ys ≡ 128) where
+module _ {M : Type 1} (𝓤 : URA M) (H : Heap 𝓤) (A : Atoms 𝓤) (W : Given 𝓤 H A) (b : ℕ) (ys : List OverlayKey) (len : length ys ≡ 4) where
   lies-in : Is AR ys (machA ys ∷ []) → ent 𝓤 (H .at fullShare arr b 0 (machA ys)) (sem 𝓤 H A (arr-parts (shares R) (length ys) .part fullShare ys b 0))
   unfolding partOf
   lies-in g =
       qed W (‵ (fat fullShare arr b 0 (machA ys)) ∷ []) ∵ use1 W (‵ (cellAt fullShare (AR .mir) (machA ys ∷ []) b 0)) (W .laws .at-raw fullShare arr b 0 (machA ys)) $
-      owned ! AR (Is AR) (array-makes 𝓤 H A W R (makes 𝓤 H A W) 128) ys (machA ys ∷ []) g $ move ! (1 ∷ 0 ∷ []) $ fjoin ! $
+      owned ! AR (Is AR) (array-makes 𝓤 H A W R (makes 𝓤 H A W) 4) ys (machA ys ∷ []) g $ move ! (1 ∷ 0 ∷ []) $ fjoin ! $
       fpack ! (List Val) (λ us. fsep (cellAt fullShare (AR .mir) us b 0) (AR .own ys us)) (machA ys ∷ []) $
-      use1 W (‵ (arr-parts (shares R) 128 .part fullShare ys b 0)) (array-apart 𝓤 H A W R fullShare tt 128 ys b 0) $
+      use1 W (‵ (arr-parts (shares R) 4 .part fullShare ys b 0)) (array-apart 𝓤 H A W R fullShare tt 4 ys b 0) $
       rewrite ! 0 (λ (m : ℕ). ‵ (arr-parts (shares R) m .part fullShare ys b 0)) (sym len) refl $ done !
 
   -- what comes back is room for the local: its value is not read again
@@ -103,25 +103,25 @@ module _ {M : Type 1} (𝓤 : URA M) (H : Heap 𝓤) (A : Atoms 𝓤) (W : Given
   unfolding partOf
   lies-out =
       qed W (‵ (arr-parts (shares R) (length ys) .part fullShare ys b 0) ∷ []) ∵ rewrite ! 0 (λ (m : ℕ). ‵ (arr-parts (shares R) m .part fullShare ys b 0)) len refl $
-      use1 W (‵ (partAt AR fullShare ys b 0)) (array-whole 𝓤 H A W R fullShare 128 ys b 0) $ fpick ! (λ vs. fsplit ! $
+      use1 W (‵ (partAt AR fullShare ys b 0)) (array-whole 𝓤 H A W R fullShare 4 ys b 0) $ fpick ! (λ vs. fsplit ! $
       spelt ! AR (Is AR) (shows 𝓤 H A AR) (array-vals vals) tellsA fullShare ys vs b 0 $ keep ! (0 ∷ []) $
       use1 W (‵ (fat fullShare arr b 0 (machA ys))) (W .laws .raw-at fullShare arr b 0 (machA ys)) $ by ! (W .laws .at-room arr b 0 (machA ys)))
 
-module _ {M : Type 1} (𝓤 : URA M) (H : Heap 𝓤) (A : Atoms 𝓤) (W : Given 𝓤 H A) (mem : Memory → SProp 𝓤) (run : Routine → Fun 𝓤) (ys : List OverlayPage) (used page : ℕ) (was : Is AR ys (machA ys ∷ [])) (used-ok : used < 2 ^ 64) (page-ok : page < 2 ^ 64) where
-  abbrev x : List OverlayPage × (ℕ × (ℕ × Unit {0}))
+module _ {M : Type 1} (𝓤 : URA M) (H : Heap 𝓤) (A : Atoms 𝓤) (W : Given 𝓤 H A) (mem : Memory → SProp 𝓤) (run : Routine → Fun 𝓤) (ys : List OverlayKey) (used page : ℕ) (was : Is AR ys (machA ys ∷ [])) (used-ok : used < 2 ^ 64) (page-ok : page < 2 ^ 64) where
+  abbrev x : List OverlayKey × (ℕ × (ℕ × Unit {0}))
   x = (ys, (used, (page, tt)))
 
   abbrev at : List Val × (List Val × (List Val × Unit {0}))
   at = (machA ys ∷ [], (vint w64 used ∷ [], (vint w64 page ∷ [], tt)))
 
-  len : length ys ≡ 128
+  len : length ys ≡ 4
   len = was .1 .0 .1
 
   room : Room R (length ys)
   room = subst (Room R) (sym len) (lit< tt, lit< tt)
 
   typedA : Holds (hasTy arr (machA ys)) × WT (machA ys)
-  typedA = array-lawful 𝓤 H A W R (LL.lawful T.the-type T′.the-laws 𝓤 H A W) 128 .typed ys _ was .0
+  typedA = array-lawful 𝓤 H A W R (LL.lawful T.the-type T′.the-laws 𝓤 H A W) 4 .typed ys _ was .0
 
   abbrev Post : Val → SProp 𝓤
   Post = walkOf 𝓤 H A f.ended stayed (f.clauses 𝓤 H A mem run) .post ((tt, tt, tt, x, at), tt)
@@ -130,11 +130,11 @@ module _ {M : Type 1} (𝓤 : URA M) (H : Heap 𝓤) (A : Atoms 𝓤) (W : Given
   exits r v e =
       qed W (‵ (S.the-row .own r (v ∷ [])) ∷ []) ∵
       suffices ! _ (ends-at 𝓤 H A f.ended stayed (f.clauses 𝓤 H A mem run) W ((tt, tt, tt, x, at), tt) v r (tt, (tt, (tt, tt))) (tt, (tt, (tt, tt)))) $ says ! e $
-      nothing ! $ owned ! u64 (Is u64) (uint-makes 𝓤 H A W w64) page _ (refl, page-ok) $ fjoin ! $ owned ! usize (Is usize) (uint-makes 𝓤 H A W w64) used _ (refl, used-ok) $ fjoin ! $ owned ! AR (Is AR) (array-makes 𝓤 H A W R (makes 𝓤 H A W) 128) ys _ was $ fjoin ! $ nothing ! $ done !
+      nothing ! $ owned ! u64 (Is u64) (uint-makes 𝓤 H A W w64) page _ (refl, page-ok) $ fjoin ! $ owned ! usize (Is usize) (uint-makes 𝓤 H A W w64) used _ (refl, used-ok) $ fjoin ! $ owned ! AR (Is AR) (array-makes 𝓤 H A W R (makes 𝓤 H A W) 4) ys _ was $ fjoin ! $ nothing ! $ done !
 
   -- what the callee is passed: the local at b, lent for α under the name δ
   module _ (α : ℕ) (b : ℕ) (δ : GName) where
-    abbrev r : RefT (List OverlayPage) × (ℕ × (ℕ × Unit {0}))
+    abbrev r : RefT (List OverlayKey) × (ℕ × (ℕ × Unit {0}))
     r = (record { ptr = (b, 0); name = δ; now = ys }, (used, (page, tt)))
 
     abbrev Own : Fml
@@ -153,7 +153,7 @@ module _ {M : Type 1} (𝓤 : URA M) (H : Heap 𝓤) (A : Atoms 𝓤) (W : Given
     said z = exE 𝓤 _ (λ ws. snd∗ 𝓤 (sem 𝓤 H A (lasts callee.ended (α ∷ [], tt) r ws)) (fact 𝓤 (z ≡ findFrom (take used ys) page 0)))
 
   module _ (C : Calls 𝓤 H) (Λ : Loops 𝓤 H) (fm : FmC 𝓤 H (W .laws) C) (known : Triple 𝓤 (C #callee) (Callee 𝓤 H A mem run)) where
-    walk : used ≤ 128 → ent 𝓤 (onEntry 𝓤 H A f.signature tt tt x at) (WpFn 𝓤 H C Λ code.function (machA ys ∷ vint w64 used ∷ vint w64 page ∷ []) Post)
+    walk : used ≤ 4 → ent 𝓤 (onEntry 𝓤 H A f.signature tt tt x at) (WpFn 𝓤 H C Λ code.function (machA ys ∷ vint w64 used ∷ vint w64 page ∷ []) Post)
     walk few =
         qed W (‵ ftrue ∷ ‵ (owns (AR ∷ usize ∷ u64 ∷ []) x at) ∷ []) ∵ enter ! C Λ code.function (machA ys ∷ vint w64 used ∷ vint w64 page ∷ []) _ $
         alloc1 ! (λ l₀. alloc1 ! (λ l₁. alloc1 ! (λ l₂. alloc1 ! (λ l₃. alloc1 ! (λ l₄. alloc1 ! (λ l₅. alloc1 ! (λ l₆. alloc0 ! $ params1 ! $
