@@ -17,7 +17,7 @@ use Rattle.overlay_table.specs.declared.OverlayPage.{OverlayPage}
 use Rattle.overlay_table.specs.Overlays.{used, isOverlay, placeOf, entryAt, addCode}
 use Rattle.access.specs.Query.{lowerFlags}
 use Rattle.protector_state.specs.State.{stateLen, settingsOf, ramOf, entriesIn}
-use Rattle.lock_table.specs.Locks.{held, listsOf}
+use Rattle.lock_table.specs.Locks.{heldIn}
 use Rattle.call_refusals.specs.World.{overlaysOf, locksOf, statusIn, isLocked}
 use Rattle.call_refusals.proofs.Laws.{is-ready, goes-on, swaps}
 use Rattle.overlay_refusals.specs.declared.Looked.{Looked}
@@ -111,8 +111,8 @@ module _ (t o : List ℕ) (v : GuestVtl) (vtl p place : ℕ) (e1 : v ≡ vtlOf v
   unknown h = ap not (eq-eqb _ 0 (sym found ∙ h))
 
 -- a page with no overlay entry is locked where a list has it
-pub locked-new : (o locks : List ℕ) (p : ℕ) (b : Bool) → placeOf o p ≡ 0 → b ≡ held (listsOf locks) p → b ≡ isLocked o locks p
-locked-new o locks p b z e = e ∙ sym (ap (λ (k : ℕ). held (listsOf locks) p && not (not (eqb k 0))) z ∙ same (held (listsOf locks) p))
+pub locked-new : (o locks : List ℕ) (p : ℕ) (b : Bool) → placeOf o p ≡ 0 → b ≡ heldIn locks p → b ≡ isLocked o locks p
+locked-new o locks p b z e = e ∙ sym (ap (λ (k : ℕ). heldIn locks p && not (not (eqb k 0))) z ∙ same (heldIn locks p))
   where
     same : (b : Bool) → b && true ≡ b
     same true = refl
