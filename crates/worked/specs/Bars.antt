@@ -38,6 +38,14 @@ held0 = rests read-only (tables overlay [] list56 [])
 abbrev pub held1 : World
 held1 = rests first (tables [] overlay [] list56)
 
+-- VTL0 has locked page 5 and, in another list, page n
+abbrev pub two : ℕ → List ℕ
+two n = tables [] [] (lockTable 2 (1 ∷ 2 ∷ []) (5 ∷ n ∷ [])) []
+
+-- neither default is the one that a build stores
+abbrev pub others : Maps → ℕ → ℕ → List ℕ → World
+others m a b t = rest m (settings 2 1 0 0 a b) t
+
 -- of pages 5 and 6, each by itself, the number that refuses it
 abbrev pub both : (List ℕ → Reply) → List ℕ
 both f = f (page 5 []) .number ∷ f (page 6 []) .number ∷ []
@@ -81,6 +89,8 @@ pub record Bars : Type 0 where
   pub locked : visibilityOf held0 0 1 (page 3 (page 6 [])) ≡ keeps held0 (refused 10 8)
   pub overlaid-page : visibilityOf held0 0 1 (page 3 (page 5 [])) ≡ keeps held0 (refused 11 8)
   pub hole : visibilityOf held0 0 1 (page 3 (page 16 [])) ≡ keeps held0 (refused 7 8)
+  -- every list of a VTL bars
+  pub each-list : both (sharing (rests first (two 6)) 0) ≡ 10 ∷ 10 ∷ []
   -- page by page, in list order
   pub overlay-first : sharing held0 0 (page 5 (page 6 (page 16 []))) ≡ refused 11 8
   pub locked-first : sharing held0 0 (page 6 (page 16 (page 5 []))) ≡ refused 10 8
@@ -91,6 +101,9 @@ pub record Bars : Type 0 where
   -- a default change: the default is stored all the same; only private RAM pages without an overlay of its VTL are looked at
   pub default-own : defaultOf held0 0 4 ≡ keeps (rest read-only (settings 2 1 0 0 4 16) (held0 .tables)) (refused 10 8)
   pub default-own-vtl1 : defaultOf held1 1 4 ≡ keeps (rest first (settings 2 1 0 0 15 4) (held1 .tables)) (refused 10 8)
+  pub default-keeps-vtl1 : defaultOf (others read-only 6 9 (held0 .tables)) 0 4 ≡ keeps (others read-only 4 9 (held0 .tables)) (refused 10 8)
+  pub default-keeps-vtl0 : defaultOf (others first 6 9 (held1 .tables)) 1 4 ≡ keeps (others first 6 4 (held1 .tables)) (refused 10 8)
+  pub default-first-list : defaultOf (rests closed (two 3)) 0 4 .reply ≡ refused 10 8
   pub default-other : defaultOf held0 1 4 .reply ≡ protects 1 4 2049 0 16
   pub default-other-vtl0 : defaultOf held1 0 4 .reply ≡ protects 0 4 2050 0 16
   pub default-overlay : defaultOf (rests read-only (tables overlay [] (oneLocked 5) [])) 0 4 .reply ≡ protects 0 4 2050 0 5

@@ -1,7 +1,11 @@
 -- The one table of document 01's worked examples (P1 to P10), of the readings that it shuts out and of computed cases that tell right from nearly right, by family: RAM
 -- pages 0 to 15 and 32 to 39, through the entries' own definitions and the numbers that cross.
 use mathlib.Core.Path.{_≡_}
+use Prim.Native.Nat.{ℕ}
 use Rattle.permissions.specs.declared.GuestVtl.the-variants.{Vtl0, Vtl1}
+use Rattle.permissions.specs.declared.OptionFlags.the-variants.{Some}
+use Rattle.permissions.specs.declared.DefaultVtlPermissions.{DefaultVtlPermissions}
+use Rattle.permissions.specs.Defaults.{withDefault}
 use Rattle.permissions.specs.Flags.{flagsOf}
 use Rattle.permissions.specs.Rmpadjust.{operandOf}
 use Rattle.change_claims.specs.Table as changes
@@ -16,6 +20,9 @@ use Rattle.worked.specs.Bars.{Bars, Locks, Queries, Turns}
 use Rattle.worked.specs.Limits.{OverlayLimit, FirstOverlays, LastOverlays, LockLimits, PageLimits}
 use Rattle.worked.specs.Registrar.{RegistrarBuilds, Registers, AllAligned}
 
+abbrev pub defaults : ℕ → ℕ → DefaultVtlPermissions
+defaults a b = record { vtl0 = flagsOf a; vtl1 = Some (flagsOf b) }
+
 pub record Worked : Type 0 where
   -- P1 and P6
   pub builds : Builds
@@ -24,6 +31,9 @@ pub record Worked : Type 0 where
   pub P2-to-P5 : Visibility
   pub P7-vtl0 : operandOf Vtl0 (flagsOf 5) ≡ 2306
   pub P7-vtl1 : operandOf Vtl1 (flagsOf 4) ≡ 2049
+  -- one default is set, the other kept
+  pub set-vtl0 : withDefault (defaults 6 9) Vtl0 (flagsOf 4) ≡ defaults 4 9
+  pub set-vtl1 : withDefault (defaults 6 9) Vtl1 (flagsOf 4) ≡ defaults 6 4
   -- P8 and P9
   pub registrar-builds : RegistrarBuilds
   pub registers : Registers
