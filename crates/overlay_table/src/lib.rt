@@ -13,7 +13,7 @@ use abi::table;
 // The words of a table.
 const TABLE_WORDS: usize = table::OVERLAYS1 - table::OVERLAYS0;
 
-// How many entries are loaded at a time.
+// How many entries are loaded at a time at most.
 const LOADED: u64 = 4;
 
 // Permissions are flag bits. gpn_source: 0 guest memory, 1 Dma.

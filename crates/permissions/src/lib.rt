@@ -86,7 +86,6 @@ pub fn isolation_of(n: u64) -> IsolationType
     IsolationType::Cca
 }
 
-// Whether a number is a sum of flags, and which flags.
 pub fn is_vtl0(vtl: GuestVtl) -> bool
     ensures { λ r. ⌜ r ≡ isVtl0 vtl ⌝ }
 {
@@ -96,6 +95,7 @@ pub fn is_vtl0(vtl: GuestVtl) -> bool
     }
 }
 
+// Whether a number is a sum of flags.
 pub fn is_flags(n: u64) -> bool
     ensures { λ r. ⌜ r ≡ fitFlags n ⌝ }
 {

@@ -12,7 +12,7 @@ pub const D: usize = 4;
 
 pub const E: usize = 5;
 
-// Of the operation that fails, its code and the pages processed.
+// Of the operation that fails, its place among those asked for, its code and the pages processed.
 pub const PLACE: usize = 6;
 
 pub const FAILED_CODE: usize = 7;
