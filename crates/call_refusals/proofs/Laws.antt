@@ -17,7 +17,7 @@ use Rattle.page_list.specs.Pages.{pagesOf}
 use Rattle.mapping.specs.Maps.{mapsFit}
 use Rattle.protector_state.specs.State.{stateLen, settingsOf, ramOf, entriesIn}
 use Rattle.call_refusals.specs.declared.Lengths.{Lengths}
-use Rattle.call_refusals.specs.World.{World, pagesLen, tablesLen, overlaysOf, locksOf, lengthsFit, fitsIn, lengthsIn, fits, statusIn, takesIn}
+use Rattle.call_refusals.specs.Buffers.{Buffers, pagesLen, tablesLen, overlaysOf, locksOf, lengthsFit, fitsIn, lengthsIn, fits, statusIn, takesIn}
 use Rattle.call_refusals.specs.Refusals.{ready, answerRefusal, pageRefusal, firstRefusal}
 
 -- ---- what calls test first
@@ -139,7 +139,7 @@ module _ (s : List ℕ) (l : Lengths) (h : fitsIn s l ≡ true) where
   pub tables-fit : l .tables ≡ tablesLen
   tables-fit = blocks-fit (mapLen (entriesIn s)) (settingsOf s .tracked) l h .1
 
-module _ (w : World) (h : fits w ≡ true) where
+module _ (w : Buffers) (h : fits w ≡ true) where
   pub fits-pages : length (w .pages) ≡ pagesLen
   fits-pages = pages-fit (w .state) (lengthsIn w) h
 

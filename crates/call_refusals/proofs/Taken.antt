@@ -18,7 +18,7 @@ use Rattle.change_steps.specs.declared.Stage.{Stage}
 use Rattle.change_steps.specs.declared.Stage.the-variants as stage
 use Rattle.protector_state.specs.State.{phaseIn}
 use Rattle.protector_state.specs.Changing.{stageNumber, stageOf, stageIn, isChanging}
-use Rattle.call_refusals.specs.World.{statusOf, statusIn, takes, takesAt, takesIn}
+use Rattle.call_refusals.specs.Buffers.{statusOf, statusIn, takes, takesAt, takesIn}
 
 -- a number of a change names a stage
 stage-named : (n : ℕ) → number.protectPages ≤ n → n < number.end → stageNumber (stageOf n) ≡ n

@@ -1,2 +1,2 @@
-pub mod World
+pub mod Buffers
 pub mod Refusals

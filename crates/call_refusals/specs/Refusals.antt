@@ -14,7 +14,7 @@ use Rattle.page_list.specs.Pages.{pagesOf, isLong, repeats, isRagged}
 use Rattle.overlay_table.specs.Overlays.{isOverlay}
 use Rattle.protector_state.specs.State.{stateLen, entriesIn}
 use Rattle.call_refusals.specs.declared.Lengths.{Lengths}
-use Rattle.call_refusals.specs.World.{overlaysOf, locksOf, isLocked, lengthsFit, statusIn, takesIn}
+use Rattle.call_refusals.specs.Buffers.{overlaysOf, locksOf, isLocked, lengthsFit, statusIn, takesIn}
 
 -- ---- what every call but an answer tests first: 4 of the state block, 20 or 19, 4 of what else it is lent; then the call's own tests
 

@@ -5,7 +5,7 @@ ghost use lib.ListN.{length};
 ghost use Rattle.layout.specs.Layout.{entriesOf, mapLen};
 ghost use Rattle.page_list.specs.Pages.{pagesOf};
 ghost use Rattle.protector_state.specs.State.{stateLen, entriesIn};
-ghost use Rattle.call_refusals.specs.World.{tablesLen, overlaysOf, locksOf, isLocked, lengthsFit, fitsIn, statusOf, statusIn, takes, takesAt, takesIn};
+ghost use Rattle.call_refusals.specs.Buffers.{tablesLen, overlaysOf, locksOf, isLocked, lengthsFit, fitsIn, statusOf, statusIn, takes, takesAt, takesIn};
 ghost use Rattle.call_refusals.specs.Refusals.{ready, testedOf, buildFits, buildRefusal, pageRefusal, firstRefusal, visibilityRefusal, answerRefusal};
 use abi::PAGES_WORDS;
 use abi::STATE_WORDS;

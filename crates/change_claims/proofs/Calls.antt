@@ -24,7 +24,7 @@ use Rattle.protector_state.specs.State.{settingsOf, entriesIn}
 use Rattle.protector_state.specs.Reply.{flatOf}
 use Rattle.visibility_steps.specs.declared.Phase.the-variants as phase
 use Rattle.protector_state.specs.declared.Reply.{Reply}
-use Rattle.call_refusals.specs.World.{World, world, Outcome, tablesLen, overlaysOf, fits, statusIn}
+use Rattle.call_refusals.specs.Buffers.{Buffers, buffers, Outcome, tablesLen, overlaysOf, fits, statusIn}
 use Rattle.protector.specs.Writes.{withoutPage, entered}
 use Rattle.protector.specs.Calls.{withPermissions, carriedChange}
 use Rattle.call_refusals.specs.Refusals.{answerRefusal}
@@ -54,21 +54,21 @@ settings-kept s t = rw (getD-drop 14 s 2 0, getD-drop 14 s 3 0, getD-drop 14 s 4
 pub entries-kept : (s t : List ℕ) → at.entries (drop 14 s) t ≡ entriesIn s
 entries-kept s t = rw (getD-drop 14 s 17 0, drop-drop 18 14 s)
 
-pub fits-kept : (w : World) (t T : List ℕ) → length t ≡ length (w .pages) → length T ≡ length (w .tables) → at.fit (drop 14 (w .state)) t (w .maps) T ≡ fits w
+pub fits-kept : (w : Buffers) (t T : List ℕ) → length t ≡ length (w .pages) → length T ≡ length (w .tables) → at.fit (drop 14 (w .state)) t (w .maps) T ≡ fits w
 fits-kept w t T e d = rw (getD-drop 14 (w .state) 3 0, getD-drop 14 (w .state) 17 0, drop-drop 18 14 (w .state), e, d)
 
 pub tail-long : (s : List ℕ) → length s ≡ 128 → length (drop 14 s) ≡ 114
 tail-long s h = length-drop 14 s ∙ omega (arith, h)
 
 -- what is given, by the settings: those kept in the state after the change's words, or those of the state before the call
-abbrev given : World → List ℕ → (Settings → ChangeStep) → Settings → Outcome
+abbrev given : Buffers → List ℕ → (Settings → ChangeStep) → Settings → Outcome
 given w t x s =
     record {
-      world = at.held (drop 14 (w .state)) t (x s .stage) (x s .change) (withPermissions (w .maps) (x s .written) (flagsOf (x s .change .flags))) (entered (x s .entry) (x s .change) (w .tables));
+      buffers = at.held (drop 14 (w .state)) t (x s .stage) (x s .change) (withPermissions (w .maps) (x s .written) (flagsOf (x s .change .flags))) (entered (x s .entry) (x s .change) (w .tables));
       reply = flatOf (s .isolation) (x s .answer);
     }
 
-pub from-call : (w : World) (t T : List ℕ) (x : Settings → ChangeStep) (W : Settings → Whole) (gs : List BackendAnswer)
+pub from-call : (w : Buffers) (t T : List ℕ) (x : Settings → ChangeStep) (W : Settings → Whole) (gs : List BackendAnswer)
     → (let s : Settings = at.settings (drop 14 (w .state)) t in at.Same (drop 14 (w .state)) t 0 (W s) T (follow (at.left (drop 14 (w .state)) t (w .maps) (w .tables) (x s)) gs))
     → Agrees (drop 14 (w .state)) t (settingsOf (w .state) .isolation) (after 0 (W (settingsOf (w .state)))) T (follow (carriedChange w t (x (settingsOf (w .state)))) gs)
 unfolding carriedChange
@@ -80,7 +80,7 @@ from-call w t T x W gs h =
 listed : (l t : List ℕ) → part (allListed l t) (length (pagesOf l)) 0 ≡ pagesOf l
 listed l t = subst (λ (ps : List ℕ). part (allListed l t) (length ps) 0 ≡ ps) (pick-each (pagesOf l)) (in-use (λ p. true) (pagesOf l) t)
 
-module _ (w : World) (vtl flags : ℕ) (l : List ℕ) (z : protectionRefusal (w .state) (fits w) (w .maps .shared) (w .tables) vtl flags l ≡ 0) (gs : List BackendAnswer) where
+module _ (w : Buffers) (vtl flags : ℕ) (l : List ℕ) (z : protectionRefusal (w .state) (fits w) (w .maps .shared) (w .tables) vtl flags l ≡ 0) (gs : List BackendAnswer) where
   abbrev protecting : Change
   protecting = protectionWhole w (vtlOf vtl) flags l gs
 
@@ -113,23 +113,23 @@ module _ (w : World) (vtl flags : ℕ) (l : List ℕ) (z : protectionRefusal (w 
 idle-refuses : (s : List ℕ) (f b : Bool) → eqb (statusIn s) 0 ≡ true → eqb (answerRefusal s f b) 0 ≡ false
 idle-refuses s f b e = untaken-refused s f b (idle-takes s b (eqb-true (statusIn s) 0 e))
 
-pub idle-follows : (w : World) (r : Reply) → eqb (statusIn (w .state)) 0 ≡ true → (gs : List BackendAnswer) → follow (record { world = w; reply = r }) gs ≡ record { asked = asksIn r; last = record { world = w; reply = r } }
+pub idle-follows : (w : Buffers) (r : Reply) → eqb (statusIn (w .state)) 0 ≡ true → (gs : List BackendAnswer) → follow (record { buffers = w; reply = r }) gs ≡ record { asked = asksIn r; last = record { buffers = w; reply = r } }
 unfolding follow
 idle-follows w r e [] = refl
 idle-follows w r e (Succeeds ∷ gs) = rw (idle-refuses (w .state) (fits w) false e) (idle-follows w r e gs)
 idle-follows w r e (Fails code k ∷ gs) = rw (idle-refuses (w .state) (fits w) true e) (idle-follows w r e gs)
 
-counted : (w : World) (v : GuestVtl) (p n : ℕ) → eqb (statusIn (w .state)) 0 ≡ true → (gs : List BackendAnswer)
+counted : (w : Buffers) (v : GuestVtl) (p n : ℕ) → eqb (statusIn (w .state)) 0 ≡ true → (gs : List BackendAnswer)
     → Agrees (drop 14 (w .state)) (w .pages) (settingsOf (w .state) .isolation) (whole (countWhole w v p n .whole)) (countWhole w v p n .tables) (follow (counting w v p n) gs)
 unfolding replies flatOf
 counted w v p n e gs =
     subst (Agrees (drop 14 (w .state)) (w .pages) (settingsOf (w .state) .isolation) (whole (countWhole w v p n .whole)) (countWhole w v p n .tables))
-    (sym (idle-follows (counting w v p n .world) (counting w v p n .reply) e gs))
+    (sym (idle-follows (counting w v p n .buffers) (counting w v p n .reply) e gs))
     (record { same-asked = refl; same-maps = refl; same-reply = refl; same-pages = refl; same-tables = refl; same-rest = refl })
 
 -- ---- register_overlay_page and unregister_overlay_page
 
-module _ (w : World) (v : GuestVtl) (p : ℕ) (long : length (w .state) ≡ 128) (idle : eqb (statusIn (w .state)) 0 ≡ true) (fit : fits w ≡ true) (gs : List BackendAnswer) where
+module _ (w : Buffers) (v : GuestVtl) (p : ℕ) (long : length (w .state) ≡ 128) (idle : eqb (statusIn (w .state)) 0 ≡ true) (fit : fits w ≡ true) (gs : List BackendAnswer) where
   abbrev tail : List ℕ
   tail = drop 14 (w .state)
 
@@ -212,7 +212,7 @@ module _ (w : World) (v : GuestVtl) (p : ℕ) (long : length (w .state) ≡ 128)
       (counted w v p (e .«ref_count» - 1) idle gs) (old (e .«previous_permissions») (e .«gpn_source»))
 
 -- THE CLAIM: an overlay call that is taken, and its answers in turn
-pub register-is-whole : (w : World) (vtl p source checked new : ℕ)
+pub register-is-whole : (w : Buffers) (vtl p source checked new : ℕ)
     → registerRefusal (w .state) (fits w) (w .maps .shared) (w .tables) (currentIn w (vtlOf vtl) p source) vtl p source checked new ≡ 0 → (gs : List BackendAnswer)
     → Agrees (drop 14 (w .state)) (w .pages) (settingsOf (w .state) .isolation) (whole (registerWhole w (vtlOf vtl) p source new gs .whole)) (registerWhole w (vtlOf vtl) p source new gs .tables)
     (follow (registerOf w vtl p source checked new) gs)
@@ -221,7 +221,7 @@ register-is-whole w vtl p source checked new z gs =
     let k = call-passed (w .state) (fits w) vtl _ z in
     rw (eq-eqb _ 0 z) (register-taken w (vtlOf vtl) p (k .0) (eq-eqb _ _ (k .1)) (k .2) gs source new)
 
-pub unregister-is-whole : (w : World) (vtl p : ℕ) → unregisterRefusal (w .state) (fits w) (w .tables) vtl p ≡ 0 → (gs : List BackendAnswer)
+pub unregister-is-whole : (w : Buffers) (vtl p : ℕ) → unregisterRefusal (w .state) (fits w) (w .tables) vtl p ≡ 0 → (gs : List BackendAnswer)
     → Agrees (drop 14 (w .state)) (w .pages) (settingsOf (w .state) .isolation) (whole (unregisterWhole w (vtlOf vtl) p gs .whole)) (unregisterWhole w (vtlOf vtl) p gs .tables)
     (follow (unregisterOf w vtl p) gs)
 unfolding unregisterOf unregisterRefusal

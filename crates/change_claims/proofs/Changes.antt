@@ -36,7 +36,7 @@ use Rattle.change_steps.specs.declared.Change.{Change}
 use Rattle.change_steps.specs.declared.ChangeStep.{ChangeStep}
 use Rattle.change_steps.specs.Changes as changes
 use Rattle.protector_state.specs.Reply.{askedOf, flatOf}
-use Rattle.call_refusals.specs.World.{Outcome, overlaysOf, takesAt}
+use Rattle.call_refusals.specs.Buffers.{Outcome, overlaysOf, takesAt}
 use Rattle.protector.specs.Writes.{entered}
 use Rattle.protector.specs.Calls.{withPermissions}
 use Rattle.visibility_claims.proofs.Steps.{once}
@@ -103,7 +103,7 @@ module _ (tail t : List ℕ) (long : length tail ≡ 114) where
   tr = at.settings tail t .tracked
 
   abbrev asked : Stage → Change → Maps → List ℕ → Operation → Outcome
-  asked g q m T o = record { world = at.held tail t g q m T; reply = askedOf (at.settings tail t .isolation) (crossing o) }
+  asked g q m T o = record { buffers = at.held tail t g q m T; reply = askedOf (at.settings tail t .isolation) (crossing o) }
 
   pub fit-written : (m : Maps) (T : List ℕ) (r : PageRun) (f : HvMapGpaFlags) → fit (withPermissions m r f) T ≡ fit m T
   fit-written m T r f =
@@ -116,9 +116,9 @@ module _ (tail t : List ℕ) (long : length tail ≡ 114) where
 
   -- ---- the end
 
-  finish-left : (m : Maps) (T : List ℕ) (a : Answer) → left m T (changes.finish a) ≡ record { world = at.held tail t stage.Idle changes.noChange m T; reply = flatOf (at.settings tail t .isolation) a }
+  finish-left : (m : Maps) (T : List ℕ) (a : Answer) → left m T (changes.finish a) ≡ record { buffers = at.held tail t stage.Idle changes.noChange m T; reply = flatOf (at.settings tail t .isolation) a }
   unfolding changes.finish entered
-  finish-left m T a = ap (λ (m : Maps). record { world = at.held tail t stage.Idle changes.noChange m T; reply = flatOf (at.settings tail t .isolation) a }) (at.none-written (flagsOf 0) m)
+  finish-left m T a = ap (λ (m : Maps). record { buffers = at.held tail t stage.Idle changes.noChange m T; reply = flatOf (at.settings tail t .isolation) a }) (at.none-written (flagsOf 0) m)
 
   done-over : (c n : ℕ) (m : Maps) (T : List ℕ) → fit m T ≡ true → n ≡ c % 2 ^ 64 → (gs : List BackendAnswer) → Same c (stands m Ok) T (follow (left m T (changes.finish (Done n))) gs)
   unfolding flatOf replies
@@ -148,9 +148,9 @@ module _ (tail t : List ℕ) (long : length tail ≡ 114) where
         same-rest = refl;
       })
 
-  halt-left : (m : Maps) (T : List ℕ) (q : Change) → left m T (changes.halt q) ≡ record { world = at.held tail t stage.Halted q m T; reply = flatOf (at.settings tail t .isolation) (Halted (q .count)) }
+  halt-left : (m : Maps) (T : List ℕ) (q : Change) → left m T (changes.halt q) ≡ record { buffers = at.held tail t stage.Halted q m T; reply = flatOf (at.settings tail t .isolation) (Halted (q .count)) }
   unfolding changes.halt entered
-  halt-left m T q = ap (λ (m : Maps). record { world = at.held tail t stage.Halted q m T; reply = flatOf (at.settings tail t .isolation) (Halted (q .count)) }) (at.none-written (flagsOf (q .flags)) m)
+  halt-left m T q = ap (λ (m : Maps). record { buffers = at.held tail t stage.Halted q m T; reply = flatOf (at.settings tail t .isolation) (Halted (q .count)) }) (at.none-written (flagsOf (q .flags)) m)
 
   halts : (c : ℕ) (q : Change) (m : Maps) (T : List ℕ) → q .count ≡ c % 2 ^ 64 → (gs : List BackendAnswer) → Same c (stands m Halts) T (follow (left m T (changes.halt q)) gs)
   unfolding flatOf replies

@@ -23,7 +23,7 @@ use Rattle.default_change.proofs.Table.{overlay-renewed}
 use Rattle.visibility_steps.specs.declared.Settings.{Settings}
 use Rattle.change_steps.specs.Changes as changes
 use Rattle.protector_state.specs.State.{stateLen, settingsOf, entriesIn}
-use Rattle.call_refusals.specs.World.{World, tablesLen, overlaysOf, fits}
+use Rattle.call_refusals.specs.Buffers.{Buffers, tablesLen, overlaysOf, fits}
 use Rattle.protection_entries.specs.Calls.{defaultRefusal, stored, barred, renewedIn, defaultStarted, defaultTaken, defaultOf}
 use Rattle.protection_entries.proofs.Tables.{renewed-own}
 use Rattle.visibility_claims.specs.Whole.{BackendAnswer}
@@ -48,19 +48,19 @@ drop-past [] (suc i) k x h = refl
 drop-past (a ∷ s) (suc i) zero x h = refl
 drop-past (a ∷ s) (suc i) (suc k) x h = drop-past s i k x (omega arith)
 
-stored-fits : (w : World) (v : GuestVtl) (flags : ℕ) → fits (stored w v flags) ≡ fits w
+stored-fits : (w : Buffers) (v : GuestVtl) (flags : ℕ) → fits (stored w v flags) ≡ fits w
 stored-fits w Vtl0 flags = rw (getD-set-other (w .state) 20 17 flags 0 (λ e. omega arith), getD-set-other (w .state) 20 31 flags 0 (λ e. omega arith), drop-past (w .state) 32 20 flags (omega arith))
 stored-fits w Vtl1 flags = rw (getD-set-other (w .state) 21 17 flags 0 (λ e. omega arith), getD-set-other (w .state) 21 31 flags 0 (λ e. omega arith), drop-past (w .state) 32 21 flags (omega arith))
 
-pub entries-stored : (w : World) (v : GuestVtl) (flags : ℕ) → entriesIn (stored w v flags .state) ≡ entriesIn (w .state)
+pub entries-stored : (w : Buffers) (v : GuestVtl) (flags : ℕ) → entriesIn (stored w v flags .state) ≡ entriesIn (w .state)
 entries-stored w Vtl0 flags = rw (getD-set-other (w .state) 20 31 flags 0 (λ e. omega arith), drop-past (w .state) 32 20 flags (omega arith))
 entries-stored w Vtl1 flags = rw (getD-set-other (w .state) 21 31 flags 0 (λ e. omega arith), drop-past (w .state) 32 21 flags (omega arith))
 
-pub tracked-stored : (w : World) (v : GuestVtl) (flags : ℕ) → trackedIn (stored w v flags) ≡ trackedIn w
+pub tracked-stored : (w : Buffers) (v : GuestVtl) (flags : ℕ) → trackedIn (stored w v flags) ≡ trackedIn w
 tracked-stored w Vtl0 flags = rw (getD-set-other (w .state) 20 17 flags 0 (λ e. omega arith))
 tracked-stored w Vtl1 flags = rw (getD-set-other (w .state) 21 17 flags 0 (λ e. omega arith))
 
-pub default-passed : (w : World) (vtl flags : ℕ) → defaultRefusal (w .state) (fits w) vtl flags ≡ 0 → (length (w .state) ≡ stateLen) × (fits w ≡ true)
+pub default-passed : (w : Buffers) (vtl flags : ℕ) → defaultRefusal (w .state) (fits w) vtl flags ≡ 0 → (length (w .state) ≡ stateLen) × (fits w ≡ true)
 unfolding defaultRefusal
 default-passed w vtl flags z = let a = is-ready (w .state) (fits w) _ z in (a .long, a .fits)
 
@@ -73,14 +73,14 @@ ordered-end (e ∷ es) from h = let a = ordered-cons from e es h in omega (arith
 
 -- ---- renewing changes previous permissions, not which pages are overlays
 
-pub renewed-overlays : (w : World) (v : GuestVtl) (flags : ℕ) → length (w .tables) ≡ tablesLen → (p : ℕ) → overlayIn (renewedFor w v flags) v p ≡ overlayIn (w .tables) v p
+pub renewed-overlays : (w : Buffers) (v : GuestVtl) (flags : ℕ) → length (w .tables) ≡ tablesLen → (p : ℕ) → overlayIn (renewedFor w v flags) v p ≡ overlayIn (w .tables) v p
 renewed-overlays w v flags long p =
     ap (λ (o : List ℕ). isOverlay o p) (renewed-own (w .maps .private) (w .state) (w .tables) flags long v)
     ∙ overlay-renewed (w .maps .private) (entriesIn (w .state)) flags (overlaysOf (w .tables) v) p
 
 -- ---- a change that starts
 
-module _ (w : World) (v : GuestVtl) (flags : ℕ) (long : length (w .state) ≡ 128) (fit : fits w ≡ true) (o : ordered 0 (entriesIn (w .state)) ≡ true) (gs : List BackendAnswer) where
+module _ (w : Buffers) (v : GuestVtl) (flags : ℕ) (long : length (w .state) ≡ 128) (fit : fits w ≡ true) (o : ordered 0 (entriesIn (w .state)) ≡ true) (gs : List BackendAnswer) where
   abbrev tail : List ℕ
   tail = drop 14 (w .state)
 
@@ -103,7 +103,7 @@ module _ (w : World) (v : GuestVtl) (flags : ℕ) (long : length (w .state) ≡ 
   default-started : Agrees tail (w .pages) (settingsOf (w .state) .isolation) (after 0 (defaultWhole w v flags gs .whole)) (defaultWhole w v flags gs .tables) (follow (defaultStarted (renewedIn w v flags) v flags) gs)
   unfolding defaultStarted wholeRuns
   default-started =
-      let w′ : World = renewedIn w v flags in
+      let w′ : Buffers = renewedIn w v flags in
       let s : Settings = at.settings tail (w .pages) in
       from-call w′ (w .pages) T (λ s. changes.startRam (s .tracked) v flags (nextPiece (w .maps .private) (overlaysOf T v) es 0))
       (λ s. wholeRam (s .tracked) v (flagsOf flags) es (overlayIn (w .tables) v) (w .maps) gs) gs
@@ -118,9 +118,9 @@ module _ (w : World) (v : GuestVtl) (flags : ℕ) (long : length (w .state) ≡ 
   few-runs : length (ramRuns es (overlayIn (w .tables) v) (w .maps)) ≤ pageEnd es
   few-runs = subst (λ (rs : List PageRun). length rs ≤ pageEnd es) pieces-whole (few-pieces (wanted (w .maps .private) (overlaysOf T v)) es (pageEnd es) 0)
 
-module _ (w : World) (vtl flags : ℕ) (gs : List BackendAnswer) where
+module _ (w : Buffers) (vtl flags : ℕ) (gs : List BackendAnswer) where
   -- the default is stored first
-  abbrev w₁ : World
+  abbrev w₁ : Buffers
   w₁ = stored w (vtlOf vtl) flags
 
   abbrev changing : Change

@@ -18,7 +18,7 @@ use Rattle.page_list.specs.Runs.{run, runsOf}
 use Rattle.overlay_table.specs.declared.OverlayPage.{OverlayPage}
 use Rattle.protector_state.specs.State.{entriesIn}
 use Rattle.protector_state.specs.Reply.{finished, flatOf}
-use Rattle.call_refusals.specs.World.{World}
+use Rattle.call_refusals.specs.Buffers.{Buffers}
 use Rattle.overlay_entries.specs.Calls.{entryIn}
 use Rattle.visibility_claims.specs.Whole.{Protect, BackendAnswer, Fails, Status, Ok, FailedAt, Whole, stands, one, protecting}
 use Rattle.visibility_claims.specs.Runs.{told, whole}
@@ -67,7 +67,7 @@ told-ok : (rest t : List ℕ) (i : IsolationType) (w : Whole) (T : List ℕ) (x 
 unfolding flatOf
 told-ok rest t i w T x n k e d = told-at rest t i w T x Ok n k e d
 
-module _ (w : World) (vtl p source checked new : ℕ) (gs : List BackendAnswer) (z : TakesRegister w vtl p source checked new) where
+module _ (w : Buffers) (vtl p source checked new : ℕ) (gs : List BackendAnswer) (z : TakesRegister w vtl p source checked new) where
   abbrev registered : Told
   registered = registerCall w vtl p source checked new gs
 
@@ -97,7 +97,7 @@ module _ (w : World) (vtl p source checked new : ℕ) (gs : List BackendAnswer) 
         let c : Change = newWhole w (vtlOf vtl) p source new gs false in
         told-ok _ _ _ (c .whole) (c .tables) registered 3 (agrees-new c (is-new false f)) e (ap length (entry-asked _ (vtlOf vtl) (w .maps) gs e))
 
-module _ (w : World) (vtl p : ℕ) (gs : List BackendAnswer) (z : TakesUnregister w vtl p) where
+module _ (w : Buffers) (vtl p : ℕ) (gs : List BackendAnswer) (z : TakesUnregister w vtl p) where
   abbrev unregistered : Told
   unregistered = unregisterCall w vtl p gs
 
@@ -125,7 +125,7 @@ told-failed : (rest t : List ℕ) (i : IsolationType) (w : Whole) (T : List ℕ)
 unfolding flatOf
 told-failed rest t i w T x k e d = told-at rest t i w T x (FailedAt operationDenied 0) 1 k e d
 
-fails-so : (w : World) (v : GuestVtl) (f : HvMapGpaFlags) (p source code k : ℕ) (gs : List BackendAnswer) (x : Told)
+fails-so : (w : Buffers) (v : GuestVtl) (f : HvMapGpaFlags) (p source code k : ℕ) (gs : List BackendAnswer) (x : Told)
     → AgreesIn w (w .pages) (change (wholeOverlay (trackedIn w) (eqb source 0) v f p (w .maps) (Fails code k ∷ gs)) (w .tables)) x → OverlayFails w v f p source x
 fails-so w v f p source code k gs x a =
     let d = overlay-failed (trackedIn w) (eqb source 0) v f p (w .maps) code k gs in

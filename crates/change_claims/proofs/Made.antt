@@ -22,7 +22,7 @@ use Rattle.page_list.specs.Pages.{among, repeats, pagesOf, isLong, isRagged}
 use Rattle.request_pages.specs.Request.{pick, wanted}
 use Rattle.visibility_steps.specs.declared.Settings.{Settings}
 use Rattle.protector_state.specs.State.{settingsOf, ramOf, entriesIn}
-use Rattle.call_refusals.specs.World.{World, overlaysOf, locksOf, fits, lengthsIn}
+use Rattle.call_refusals.specs.Buffers.{Buffers, overlaysOf, locksOf, fits, lengthsIn}
 use Rattle.call_refusals.proofs.Laws.{is-ready, maps-fit}
 use Rattle.call_refusals.specs.Refusals.{pageRefusal, firstRefusal, visibilityRefusal}
 use Rattle.protector.specs.Calls.{stopOf}
@@ -50,7 +50,7 @@ record Long (n : ℕ) (m : Permissions) : Type 0 where
   kernel : length (m .kernel) ≡ n
   user : length (m .user) ≡ n
 
-module _ (w : World) (fit : fits w ≡ true) where
+module _ (w : Buffers) (fit : fits w ≡ true) where
   maps-long : trackedIn w ≡ true → Long (mapLen (entriesIn (w .state))) (w .maps .permissions)
   maps-long t =
       let n : ℕ = mapLen (entriesIn (w .state)) in
@@ -101,7 +101,7 @@ each-ram es overlays locks share (p ∷ ps) q z h = go (eqb (pageRefusal es over
     go true e z false f h more = more z h
     go false e z c f h more = absurd (eqb-false (pageRefusal es overlays locks share p) 0 e z)
 
-listed-ram : (w : World) (vtl flags : ℕ) (l : List ℕ) → TakesProtection w vtl flags l → (p : ℕ) → among (pagesOf l) p ≡ true → isRam (entriesIn (w .state)) p ≡ true
+listed-ram : (w : Buffers) (vtl flags : ℕ) (l : List ℕ) → TakesProtection w vtl flags l → (p : ℕ) → among (pagesOf l) p ≡ true → isRam (entriesIn (w .state)) p ≡ true
 unfolding protectionRefusal
 listed-ram w vtl flags l z p h =
     let b = is-ready (w .state) (fits w) _ z in
@@ -111,7 +111,7 @@ listed-ram w vtl flags l z p h =
     let f = when-passed (isRagged l) 7 _ (e .1) in
     each-ram (entriesIn (w .state)) (overlaysOf (w .tables) (vtlOf vtl)) (locksOf (w .tables) (vtlOf vtl)) true (pagesOf l) p (first-passed (eachRefusal (w .state) (w .tables) (vtlOf vtl) l) _ (f .1) .0) h
 
-shown-ram : (w : World) (vtl visibility : ℕ) (l : List ℕ) → TakesVisibility w vtl visibility l → (fits w ≡ true) × ((p : ℕ) → among (pagesOf l) p ≡ true → isRam (entriesIn (w .state)) p ≡ true)
+shown-ram : (w : Buffers) (vtl visibility : ℕ) (l : List ℕ) → TakesVisibility w vtl visibility l → (fits w ≡ true) × ((p : ℕ) → among (pagesOf l) p ≡ true → isRam (entriesIn (w .state)) p ≡ true)
 unfolding visibilityRefusal
 shown-ram w vtl visibility l z =
     let b = is-ready (w .state) (fits w) _ z in
@@ -142,8 +142,8 @@ among-pick P (q ∷ ps) p h = go (P q) h (among-pick P ps p)
     go true h f = one-more p q (pick P ps) ps f h
     go false h f = or-right (eqb p q) (among ps p) (f h)
 
-module _ (w : World) (vtl visibility : ℕ) (l : List ℕ) (gs : List BackendAnswer) (z : TakesVisibility w vtl visibility l) (h : FitLayout w) where
-  as-whole : (b : Bool) → boolOf visibility ≡ b → wholeOf w (vtlOf vtl) b l gs .maps .permissions ≡ visibilityCall w vtl visibility l gs .last .world .maps .permissions
+module _ (w : Buffers) (vtl visibility : ℕ) (l : List ℕ) (gs : List BackendAnswer) (z : TakesVisibility w vtl visibility l) (h : FitLayout w) where
+  as-whole : (b : Bool) → boolOf visibility ≡ b → wholeOf w (vtlOf vtl) b l gs .maps .permissions ≡ visibilityCall w vtl visibility l gs .last .buffers .maps .permissions
   as-whole b e = sym (ap (λ (m : Maps). m .permissions) (visibility-is-whole w vtl visibility l gs (taken-input w vtl visibility l z) .same-maps) ∙ ap (λ (b : Bool). wholeOf w (vtlOf vtl) b l gs .maps .permissions) e)
 
   -- none of its pages refuses it
@@ -155,7 +155,7 @@ module _ (w : World) (vtl visibility : ℕ) (l : List ℕ) (gs : List BackendAns
   -- of some of the pages asked for
   part-left : (share : Bool) → boolOf visibility ≡ share → (v : GuestVtl) (ps : List ℕ) (f : HvMapGpaFlags) → ((p : ℕ) → among ps p ≡ true → among (requestedPages w (vtlOf vtl) share l) p ≡ true)
       → PermitsFor (trackedIn w) v (within (among ps)) f (w .maps .permissions) (wholeOn w (vtlOf vtl) share (requestedOf w (vtlOf vtl) share l) gs .maps .permissions)
-      → PermitsFor (trackedIn w) v (all (among ps)) f (w .maps .permissions) (visibilityCall w vtl visibility l gs .last .world .maps .permissions)
+      → PermitsFor (trackedIn w) v (all (among ps)) f (w .maps .permissions) (visibilityCall w vtl visibility l gs .last .buffers .maps .permissions)
   part-left share e v ps f part k =
       let r = shown-ram w vtl visibility l z in
       let n : ℕ = stopOf w (vtlOf vtl) share l in
@@ -176,7 +176,7 @@ permissions-left =
           (λ p k. page-in-map (ramOf (w .state)) p (fit (ramOf (w .state)) h) (listed-ram w vtl flags l z p k)) (permission-maps .protection (trackedIn w) (vtlOf vtl) (flagsOf flags) (pagesOf l) (w .maps) gs e));
       default = λ w vtl flags gs z h e.
           let v : GuestVtl = vtlOf vtl in
-          let x : World = storedIn w vtl flags in
+          let x : Buffers = storedIn w vtl flags in
           let P : List MemoryRangeWithNode → ℕ → Bool = λ es. takenRam es (w .maps .private) (overlayIn (w .tables) v) in
           let es : List MemoryRangeWithNode = entriesIn (w .state) in
           let new : Maps = defaultWhole x v flags gs .whole .maps in

@@ -17,7 +17,7 @@ use Rattle.default_change.specs.Visit.{upTo, pick, pagesIn}
 use Rattle.default_change.proofs.Visits.{visits, ascends}
 use Rattle.protector_state.specs.State.{settingsOf, entriesIn}
 use Rattle.protector_state.specs.Reply.{askedOf}
-use Rattle.call_refusals.specs.World.{World, overlaysOf}
+use Rattle.call_refusals.specs.Buffers.{Buffers, overlaysOf}
 use Rattle.visibility_claims.specs.Whole.{Operation, BackendAnswer, Ok, perRun}
 use Rattle.visibility_claims.specs.Calls.{Told, replies}
 use Rattle.visibility_claims.specs.Ends.{pageEnd}
@@ -45,7 +45,7 @@ unfolding perRun replies askedOf protectedIn pagesIn
 named i v f [] = refl
 named i v f (r ∷ rs) = ap (λ (l : List ℕ). upTo (r .first) (r .count) ++ l) (named i v f rs)
 
-module _ (w : World) (vtl flags : ℕ) (gs : List BackendAnswer) (z : TakesDefault w vtl flags) (o : InOrder w) (e : defaultWhole (storedIn w vtl flags) (vtlOf vtl) flags gs .whole .status ≡ Ok) where
+module _ (w : Buffers) (vtl flags : ℕ) (gs : List BackendAnswer) (z : TakesDefault w vtl flags) (o : InOrder w) (e : defaultWhole (storedIn w vtl flags) (vtlOf vtl) flags gs .whole .status ≡ Ok) where
   abbrev x : Told
   x = defaultCall w vtl flags gs
 
@@ -57,7 +57,7 @@ module _ (w : World) (vtl flags : ℕ) (gs : List BackendAnswer) (z : TakesDefau
   first = overlayIn (w .tables) (vtlOf vtl)
 
   abbrev left : ℕ → Bool
-  left = overlayIn (x .last .world .tables) (vtlOf vtl)
+  left = overlayIn (x .last .buffers .tables) (vtlOf vtl)
 
   abbrev changing : Change
   changing = defaultWhole (storedIn w vtl flags) (vtlOf vtl) flags gs

@@ -33,7 +33,7 @@ use Rattle.permissions.specs.HvError.{codeOf}
 use Rattle.protector_state.specs.Reply.{finished, askedOf, flatOf}
 use Rattle.protector_state.specs.Changing.{isChanging}
 use Rattle.call_refusals.specs.Refusals.{ready}
-use Rattle.call_refusals.specs.World.{World, Outcome, overlaysOf, fits, statusOf, statusIn}
+use Rattle.call_refusals.specs.Buffers.{Buffers, Outcome, overlaysOf, fits, statusOf, statusIn}
 use Rattle.protector.specs.Calls.{decided, refusedBy, carriedChange}
 use Rattle.lock_entries.proofs.Lists.{lock-nothing, unlock-nothing}
 use Rattle.setting_entries.specs.Calls.{enableRefusal, enabled, enableOf}
@@ -81,15 +81,15 @@ module _ (i : IsolationType) (tr : Bool) (q : Change) where
   unfolding changes.protectRam
   ram-0 r = pick i (eqb (r .count) 0) _ _ (wait-0 Keep) (protect-0 stage.ProtectRam (r .first + r .count) r)
 
-carried-0 : (w : World) (t : List ℕ) (x : ChangeStep) → Zeroed (settingsOf (w .state) .isolation) x → carriedChange w t x .reply .number ≡ 0
+carried-0 : (w : Buffers) (t : List ℕ) (x : ChangeStep) → Zeroed (settingsOf (w .state) .isolation) x → carriedChange w t x .reply .number ≡ 0
 unfolding carriedChange
 carried-0 w t x h = h .zeroed
 
 -- a call that is decided: refused it changes nothing, taken it has number 0
-keeps : (w : World) (n : ℕ) (o : Outcome) → o .reply .number ≡ 0 → (decided w n o .reply .number ≡ 0 → ⊥) → decided w n o .world ≡ w
+keeps : (w : Buffers) (n : ℕ) (o : Outcome) → o .reply .number ≡ 0 → (decided w n o .reply .number ≡ 0 → ⊥) → decided w n o .buffers ≡ w
 keeps w n o z h = go (eqb n 0) h
   where
-    go : (b : Bool) → (cond b o (refusedBy w n) .reply .number ≡ 0 → ⊥) → cond b o (refusedBy w n) .world ≡ w
+    go : (b : Bool) → (cond b o (refusedBy w n) .reply .number ≡ 0 → ⊥) → cond b o (refusedBy w n) .buffers ≡ w
     go true h = absurd (h z)
     go false h = refl
 
@@ -99,7 +99,7 @@ either-0 : (b : Bool) (x y : Outcome) → x .reply .number ≡ 0 → y .reply .n
 either-0 true x y f g = f
 either-0 false x y f g = g
 
-register-0 : (w : World) (v : GuestVtl) (p source new : ℕ) → registerTaken w v p source new .reply .number ≡ 0
+register-0 : (w : Buffers) (v : GuestVtl) (p source new : ℕ) → registerTaken w v p source new .reply .number ≡ 0
 unfolding registerTaken changes.startNew
 register-0 w v p source new =
     let own : ℕ = bitsOf (currentIn w v p source) in
@@ -108,7 +108,7 @@ register-0 w v p source new =
     (carried-0 w (w .pages) (changes.startNew (settingsOf (w .state) .tracked) v p source own new)
     (pick i (ltb new 16) _ _ (protect-0 i (settingsOf (w .state) .tracked) (changes.overlayOf v p new own source) stage.ProtectNew p (run p 1)) (wait-0 i (settingsOf (w .state) .tracked) (changes.overlayOf v p own own source) Add)))
 
-unregister-0 : (w : World) (v : GuestVtl) (p : ℕ) → unregisterTaken w v p .reply .number ≡ 0
+unregister-0 : (w : Buffers) (v : GuestVtl) (p : ℕ) → unregisterTaken w v p .reply .number ≡ 0
 unfolding unregisterTaken changes.startOld
 unregister-0 w v p =
     let n : ℕ = entryIn (w .tables) v p .«ref_count» in
@@ -147,35 +147,35 @@ not-10 s fit vtl flags = go (eqb (length s) stateLen) (statusIn s) (eqb (statusI
     go true n true h true true false = refl
     go true n true h true true true = refl
 
-module _ (w : World) (vtl flags : ℕ) where
-  abbrev w₁ : World
+module _ (w : Buffers) (vtl flags : ℕ) where
+  abbrev w₁ : Buffers
   w₁ = stored w (vtlOf vtl) flags
 
   started-0 : defaultStarted (renewedIn w₁ (vtlOf vtl) flags) (vtlOf vtl) flags .reply .number ≡ 0
   unfolding defaultStarted
   started-0 =
-      let x : World = renewedIn w₁ (vtlOf vtl) flags in
+      let x : Buffers = renewedIn w₁ (vtlOf vtl) flags in
       carried-0 x (x .pages) _ (ram-0 (settingsOf (x .state) .isolation) (settingsOf (x .state) .tracked) (changes.changeOf (vtlOf vtl) flags 0) (firstPiece (x .maps .private) (x .state) (x .tables) (vtlOf vtl)))
 
   abbrev chosen : Bool → Bool → ℕ → Outcome
   chosen a b n = cond a (cond b (refusedBy w₁ 10) (defaultStarted (renewedIn w₁ (vtlOf vtl) flags) (vtlOf vtl) flags)) (refusedBy w n)
 
   -- any number but 10 leaves all, 10 leaves the default stored
-  default-keeps : (defaultOf w vtl flags .reply .number ≡ 0 → ⊥) → (defaultOf w vtl flags .reply .number ≡ 10 → ⊥) → defaultOf w vtl flags .world ≡ w
+  default-keeps : (defaultOf w vtl flags .reply .number ≡ 0 → ⊥) → (defaultOf w vtl flags .reply .number ≡ 10 → ⊥) → defaultOf w vtl flags .buffers ≡ w
   unfolding defaultOf defaultTaken
   default-keeps h k = go (eqb (defaultRefusal (w .state) (fits w) vtl flags) 0) (barred (w .maps .private) (w₁ .state) (w .tables) (vtlOf vtl)) h k
     where
       go : (a b : Bool) → (chosen a b (defaultRefusal (w .state) (fits w) vtl flags) .reply .number ≡ 0 → ⊥) → (chosen a b (defaultRefusal (w .state) (fits w) vtl flags) .reply .number ≡ 10 → ⊥)
-          → chosen a b (defaultRefusal (w .state) (fits w) vtl flags) .world ≡ w
+          → chosen a b (defaultRefusal (w .state) (fits w) vtl flags) .buffers ≡ w
       go true true h k = absurd (k refl)
       go true false h k = absurd (h started-0)
       go false b h k = refl
 
-  default-10 : defaultOf w vtl flags .reply .number ≡ 10 → defaultOf w vtl flags .world ≡ w₁
+  default-10 : defaultOf w vtl flags .reply .number ≡ 10 → defaultOf w vtl flags .buffers ≡ w₁
   unfolding defaultOf defaultTaken
   default-10 h = go (eqb (defaultRefusal (w .state) (fits w) vtl flags) 0) (barred (w .maps .private) (w₁ .state) (w .tables) (vtlOf vtl)) h
     where
-      go : (a b : Bool) → chosen a b (defaultRefusal (w .state) (fits w) vtl flags) .reply .number ≡ 10 → chosen a b (defaultRefusal (w .state) (fits w) vtl flags) .world ≡ w₁
+      go : (a b : Bool) → chosen a b (defaultRefusal (w .state) (fits w) vtl flags) .reply .number ≡ 10 → chosen a b (defaultRefusal (w .state) (fits w) vtl flags) .buffers ≡ w₁
       go true true h = refl
       go true false h = absurd (omega (arith, h, started-0))
       go false b h = false≢true (sym (not-10 (w .state) (fits w) vtl flags) ∙ eq-eqb (defaultRefusal (w .state) (fits w) vtl flags) 10 h)

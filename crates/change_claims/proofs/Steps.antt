@@ -27,7 +27,7 @@ use Rattle.protector_state.specs.declared.Reply.{Reply}
 use Rattle.protector_state.specs.State.{firstPhases, phaseOf, settingsOf, entriesIn}
 use Rattle.protector_state.specs.Reply.{askedOf, flatOf}
 use Rattle.protector_state.specs.Changing.{stageNumber, stageOf, changeIn, changeWords}
-use Rattle.call_refusals.specs.World.{World, world, Outcome, overlaysOf, fits, takesAt}
+use Rattle.call_refusals.specs.Buffers.{Buffers, buffers, Outcome, overlaysOf, fits, takesAt}
 use Rattle.protector.specs.Writes.{permittedRun, entered}
 use Rattle.protector.specs.Calls.{withPermissions, carriedChange, pieceAfter, afterDone, afterFailed, answerDone, answerFailed}
 use Rattle.call_refusals.specs.Refusals.{answerRefusal}
@@ -112,15 +112,15 @@ module _ (tail t : List ℕ) where
   entries = entriesIn kept
 
   abbrev pub fit : Maps → List ℕ → Bool
-  fit m T = fits (world m kept t T)
+  fit m T = fits (buffers m kept t T)
 
-  abbrev pub held : Stage → Change → Maps → List ℕ → World
-  held g q m T = world m (changeWords g q ++ tail) t T
+  abbrev pub held : Stage → Change → Maps → List ℕ → Buffers
+  held g q m T = buffers m (changeWords g q ++ tail) t T
 
   abbrev pub left : Maps → List ℕ → ChangeStep → Outcome
   left m T x =
       record {
-        world = held (x .stage) (x .change) (withPermissions m (x .written) (flagsOf (x .change .flags))) (entered (x .entry) (x .change) T);
+        buffers = held (x .stage) (x .change) (withPermissions m (x .written) (flagsOf (x .change .flags))) (entered (x .entry) (x .change) T);
         reply = flatOf (settings .isolation) (x .answer);
       }
 
@@ -186,7 +186,7 @@ module _ (tail t : List ℕ) where
         → ((gs : List BackendAnswer) → Same (c + 1) (follows gs) (Tf (Succeeds ∷ gs)) (follow (left m T (changes.doneOf (settings .tracked) g q t (next g q m T))) gs))
         → ((code k : ℕ) (gs : List BackendAnswer) → fails o ≡ true → Same (c + 1) (failed code k gs) (Tf (Fails code k ∷ gs)) (follow (left m T (changes.failedOf g q)) gs))
         → ((code k : ℕ) (gs : List BackendAnswer) → fails o ≡ false → Tf (Fails code k ∷ gs) ≡ Tf gs)
-        → (gs : List BackendAnswer) → Same c (one o m gs follows failed) (Tf gs) (follow (record { world = held g q m T; reply = askedOf (settings .isolation) (crossing o) }) gs)
+        → (gs : List BackendAnswer) → Same c (one o m gs follows failed) (Tf gs) (follow (record { buffers = held g q m T; reply = askedOf (settings .isolation) (crossing o) }) gs)
     unfolding one follow replies
     asks c g q o m T follows failed Tf a b h f z done bad same [] =
         record {
@@ -198,32 +198,32 @@ module _ (tail t : List ℕ) where
           same-rest = refl;
         }
     asks c g q o m T follows failed Tf a b h f z done bad same (Succeeds ∷ gs) =
-        let o₀ : Outcome = record { world = held g q m T; reply = askedOf (settings .isolation) (crossing o) } in
+        let o₀ : Outcome = record { buffers = held g q m T; reply = askedOf (settings .isolation) (crossing o) } in
         let x : Told = follow (answerDone (held g q m T)) gs in
         chosen true _ (whole-more o (follows gs)) (follows gs) c (Tf (Succeeds ∷ gs)) (told-more o x) (follow o₀ gs) (taken g q m T a h f false ∙ a)
         (λ _. more c o (follows gs) (Tf (Succeeds ∷ gs)) x
         (subst (λ (x : Outcome). Same (c + 1) (follows gs) (Tf (Succeeds ∷ gs)) (follow x gs)) (sym (done-left g q m T a h f)) (done gs)))
         (λ e. false≢true (sym e))
     asks c g q o m T follows failed Tf a b h f z done bad same (Fails code k ∷ gs) =
-        let o₀ : Outcome = record { world = held g q m T; reply = askedOf (settings .isolation) (crossing o) } in
+        let o₀ : Outcome = record { buffers = held g q m T; reply = askedOf (settings .isolation) (crossing o) } in
         let x : Told = follow (answerFailed (held g q m T) code k) gs in
         chosen (fails o) _ (whole-more o (failed code k gs)) (one o m gs follows failed) c (Tf (Fails code k ∷ gs)) (told-more o x) (follow o₀ gs) (taken g q m T a h f true ∙ b)
         (λ e. more c o (failed code k gs) (Tf (Fails code k ∷ gs)) x
         (subst (λ (x : Outcome). Same (c + 1) (failed code k gs) (Tf (Fails code k ∷ gs)) (follow x gs)) (sym (failed-left g q m T a h f code k (b ∙ e))) (bad code k gs e)))
-        (λ e. subst (λ (T′ : List ℕ). Same c (one o m gs follows failed) T′ (follow (record { world = held g q m T; reply = askedOf (settings .isolation) (crossing o) }) gs)) (sym (same code k gs e))
+        (λ e. subst (λ (T′ : List ℕ). Same c (one o m gs follows failed) T′ (follow (record { buffers = held g q m T; reply = askedOf (settings .isolation) (crossing o) }) gs)) (sym (same code k gs e))
         (asks c g q o m T follows failed Tf a b h f z done bad same gs))
 
     -- ---- the end: no answer is taken any more
 
     pub over-idle : (q : Change) (m : Maps) (T : List ℕ) (r : Reply) → fit m T ≡ true → (gs : List BackendAnswer)
-        → follow (record { world = held stage.Idle q m T; reply = r }) gs ≡ record { asked = asksIn r; last = record { world = held stage.Idle q m T; reply = r } }
+        → follow (record { buffers = held stage.Idle q m T; reply = r }) gs ≡ record { asked = asksIn r; last = record { buffers = held stage.Idle q m T; reply = r } }
     unfolding follow answerRefusal phaseOf firstPhases
     over-idle q m T r f [] = refl
     over-idle q m T r f (Succeeds ∷ gs) = rw (eq-eqb (length (changeWords stage.Idle q ++ tail)) 128 (omega arith), f) (over-idle q m T r f gs)
     over-idle q m T r f (Fails code k ∷ gs) = rw (eq-eqb (length (changeWords stage.Idle q ++ tail)) 128 (omega arith), f) (over-idle q m T r f gs)
 
     pub over-halted : (q : Change) (m : Maps) (T : List ℕ) (r : Reply) (gs : List BackendAnswer)
-        → follow (record { world = held stage.Halted q m T; reply = r }) gs ≡ record { asked = asksIn r; last = record { world = held stage.Halted q m T; reply = r } }
+        → follow (record { buffers = held stage.Halted q m T; reply = r }) gs ≡ record { asked = asksIn r; last = record { buffers = held stage.Halted q m T; reply = r } }
     unfolding follow answerRefusal phaseOf firstPhases
     over-halted q m T r [] = refl
     over-halted q m T r (Succeeds ∷ gs) = rw (eq-eqb (length (changeWords stage.Halted q ++ tail)) 128 (omega arith)) (over-halted q m T r gs)

@@ -17,7 +17,7 @@ use Rattle.overlay_table.specs.declared.OverlayPage.{OverlayPage}
 use Rattle.overlay_table.specs.Overlays.{used, wordsOf, isOverlay, placeOf, addWords, removeWords, previousWords}
 use Rattle.default_change.specs.Pieces.{privateRam}
 use Rattle.default_change.specs.Renewed.{renewedAt, renewedFrom, renewed}
-use Rattle.call_refusals.specs.World.{tablesLen, overlaysOf}
+use Rattle.call_refusals.specs.Buffers.{tablesLen, overlaysOf}
 use Rattle.protector.specs.Writes.{withOverlays, withoutPage}
 
 module _ (t : List ℕ) (e : length t ≡ tablesLen) where

@@ -16,7 +16,7 @@ use Rattle.lock_table.specs.Locks.{held, total, heldIn}
 use Rattle.lock_entries.specs.Calls.{ended, lockRefusal, lockOf}
 use Rattle.lock_entries.specs.Lists.{Lists, listsAt, withLists, Holds, Makes}
 use Rattle.protector_state.specs.Reply.{finished}
-use Rattle.call_refusals.specs.World.{World, world, overlaysOf, locksOf}
+use Rattle.call_refusals.specs.Buffers.{Buffers, buffers, overlaysOf, locksOf}
 use Rattle.overlay_entries.specs.Calls.{registerOf}
 use Rattle.visibility_claims.specs.Whole.{Wait, Protect, Flush, TlbWait, Succeeds, Fails, Ok, FailedAt, Halts}
 use Rattle.visibility_claims.specs.Table.{page, dones, fresh}
@@ -24,11 +24,11 @@ use Rattle.change_claims.specs.Whole.{Change}
 use Rattle.change_claims.specs.Calls.{protectionWhole, defaultWhole, registerWhole, unregisterWhole}
 
 -- a fresh protector with these overlays of VTL0: how many, then five words for each
-abbrev pub with : List ℕ → World
-with o = world (fresh .maps) (fresh .state) (fresh .pages) (o ++ replicate (tablesLen - length o) 0)
+abbrev pub with : List ℕ → Buffers
+with o = buffers (fresh .maps) (fresh .state) (fresh .pages) (o ++ replicate (tablesLen - length o) 0)
 
 -- two in the run from page 0 to page 15
-abbrev pub two : World
+abbrev pub two : Buffers
 two = with (2 ∷ 5 ∷ 15 ∷ 1 ∷ 1 ∷ 0 ∷ 11 ∷ 15 ∷ 1 ∷ 1 ∷ 0 ∷ [])
 
 abbrev pub defaultTwo : Change
@@ -42,7 +42,7 @@ abbrev pub halted : Change
 halted = protectionWhole fresh Vtl0 0 (page 3 (page 4 (page 8 []))) (Succeeds ∷ Fails 77 0 ∷ [])
 
 -- a page with a count of n
-abbrev pub counts : ℕ → World
+abbrev pub counts : ℕ → Buffers
 counts n = with (1 ∷ 5 ∷ 15 ∷ 15 ∷ n ∷ 0 ∷ [])
 
 pub record Changes : Type 0 where

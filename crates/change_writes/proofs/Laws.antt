@@ -28,7 +28,7 @@ use Rattle.protector_state.specs.declared.Reply.{Reply}
 use Rattle.protector_state.specs.State.{settingsOf, ramOf, entriesIn}
 use Rattle.protector_state.specs.Reply.{flatOf}
 use Rattle.protector_state.specs.Changing.{stageIn, changeIn, withChange}
-use Rattle.call_refusals.specs.World.{overlaysOf}
+use Rattle.call_refusals.specs.Buffers.{overlaysOf}
 use Rattle.protector.specs.Writes.{withOverlays, withoutPage, permittedRun, entered}
 use Rattle.protector.specs.Calls.{pieceAfter, nextIn, afterDone, afterFailed}
 use Rattle.change_writes.proofs.Bounds.{Below, Ends, done-ends, failed-ends}

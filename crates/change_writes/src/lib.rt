@@ -11,7 +11,7 @@ ghost use Rattle.protector_state.specs.Reply.{flatOf};
 ghost use Rattle.change_steps.specs.Changes.{flushStage, flushChange};
 ghost use Rattle.protector_state.specs.Changing.{stageIn, changeIn, withChange};
 ghost use Rattle.change_writes.specs.Flush.{flushReply};
-ghost use Rattle.call_refusals.specs.World.{tablesLen, overlaysOf};
+ghost use Rattle.call_refusals.specs.Buffers.{tablesLen, overlaysOf};
 ghost use Rattle.protector.specs.Writes.{withOverlays, permittedRun, withoutPage, entered};
 ghost use Rattle.protector.specs.Calls.{pieceAfter, nextIn, afterDone, afterFailed};
 use abi::operation;

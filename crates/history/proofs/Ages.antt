@@ -28,7 +28,7 @@ use Rattle.visibility_steps.specs.declared.Request.{Request}
 use Rattle.visibility_steps.specs.declared.Writes.{Writes}
 use Rattle.visibility_steps.specs.declared.Step.{Step}
 use Rattle.visibility_steps.specs.Steps.{isSnp, isCca, releases, noWrites, setShared, setPrivate, ask, end, halt, shareRun, defaultRun, returnRun, afterFlush, afterWait, afterModify, afterAccept, afterDefault0, cutAt, failedModify, doneOf, failedOf}
-use Rattle.call_refusals.specs.World.{takes}
+use Rattle.call_refusals.specs.Buffers.{takes}
 use Rattle.protector.specs.Writes.{putPlaces}
 use Rattle.visibility_claims.specs.Whole.{BackendAnswer, Succeeds, Fails}
 use Rattle.history.specs.Observed.{ReturnState, Never, Returned, Validated, Zeroed, processed, accepted, zeroed, isDone}

@@ -30,7 +30,7 @@ use Rattle.protector_state.specs.declared.Reply.{Reply}
 use Rattle.protector_state.specs.State.{phaseIn, requestOf, withRequest, settingsOf}
 use Rattle.protector_state.specs.Reply.{modifies, onRun, flatOf, askedOf}
 use Rattle.protector_state.specs.Changing.{stageIn, isChanging, changeIn}
-use Rattle.call_refusals.specs.World.{World, world, Outcome, overlaysOf, fits}
+use Rattle.call_refusals.specs.Buffers.{Buffers, buffers, Outcome, overlaysOf, fits}
 use Rattle.protector.specs.Writes.{applied}
 use Rattle.protector.specs.Calls.{refusedBy, carriedOut, carriedChange, stopOf, askedFor, tableFor, visibilityTaken, visibilityOf, afterDone, afterFailed, visibilityDone, visibilityFailed, changeDone, changeFailed, answerDone, answerFailed}
 use Rattle.call_refusals.specs.Refusals.{visibilityRefusal}
@@ -46,12 +46,12 @@ use Rattle.call_refusals.proofs.Laws.{fits-pages}
 use Rattle.history.proofs.Bits.{clash, clear-kept}
 use Rattle.history.proofs.Right.{opened, isQuiet, Names, Fits}
 use Rattle.history.proofs.Steps.{done-fits, failed-fits}
-use Rattle.history.proofs.World.{Stands, digit-read, quiet-names, changing-shut, change-shut}
+use Rattle.history.proofs.Buffers.{Stands, digit-read, quiet-names, changing-shut, change-shut}
 use Rattle.history.proofs.Answers.{Told, done-told, failed-told, Leads, answered, either, takes-change}
 use Rattle.history.proofs.Calls.{called, Taken, taken, few}
 use Rattle.history.proofs.Ages.{isNever, isValid, returning, zeroing, aged, Aged, Ages, made-aged, done-ages, failed-ages, moved-place}
 
-pub record Snp (w : World) (o : Observed) : Type 0 where
+pub record Snp (w : Buffers) (o : Observed) : Type 0 where
   pub snp : isSnp (settingsOf (w .state) .isolation) ≡ true
   pub ages : Aged (w .maps .private) (phaseIn (w .state)) (requestOf (w .state)) (w .pages) (o .age)
 
@@ -156,7 +156,7 @@ set-snp s k x l = ap isolationOf (getD-set-other s k 16 x 0 (λ e. omega arith))
 
 -- ---- every answer
 
-module _ (es : List MemoryRangeWithNode) (w : World) (o : Observed) (k : Stands es w o) (a : Snp w o) where
+module _ (es : List MemoryRangeWithNode) (w : Buffers) (o : Observed) (k : Stands es w o) (a : Snp w o) where
   abbrev p : Phase
   p = phaseIn (w .state)
 
@@ -187,7 +187,7 @@ module _ (es : List MemoryRangeWithNode) (w : World) (o : Observed) (k : Stands 
 
   -- another change, from a state block with the same isolation
   pub change-aged : (s′ tables t : List ℕ) (x : ChangeStep) (o′ : Observed) → settingsOf s′ .isolation ≡ s .isolation → ((z : ℕ) → o′ .age z ≡ o .age z)
-      → Snp (carriedChange (world (w .maps) s′ (w .pages) tables) t x .world) o′
+      → Snp (carriedChange (buffers (w .maps) s′ (w .pages) tables) t x .buffers) o′
   unfolding carriedChange
   change-aged s′ tables t x o′ i e =
       record {
@@ -205,7 +205,7 @@ module _ (es : List MemoryRangeWithNode) (w : World) (o : Observed) (k : Stands 
   few-here : q .n ≤ 512
   few-here = omega arith
 
-  pub answer-aged : (g : BackendAnswer) → Snp (answerOf g w .world) (seesAnswer g (answerOf g w .reply) (answerOf g w .world .pages) o)
+  pub answer-aged : (g : BackendAnswer) → Snp (answerOf g w .buffers) (seesAnswer g (answerOf g w .reply) (answerOf g w .buffers .pages) o)
   unfolding answerDone answerFailed afterDone afterFailed
   answer-aged Succeeds =
       answered Snp w o (k .halts) a Succeeds false (cond (isChanging (w .state)) (changeDone w) (visibilityDone w))
@@ -222,18 +222,18 @@ module _ (es : List MemoryRangeWithNode) (w : World) (o : Observed) (k : Stands 
 
 -- ---- every call
 
-module _ (w : World) (o : Observed) (a : Snp w o) where
-  pub tables-aged : (tables : List ℕ) → Snp (world (w .maps) (w .state) (w .pages) tables) o
+module _ (w : Buffers) (o : Observed) (a : Snp w o) where
+  pub tables-aged : (tables : List ℕ) → Snp (buffers (w .maps) (w .state) (w .pages) tables) o
   tables-aged tables = record { snp = a .snp; ages = a .ages }
 
-  pub set-aged : (i x : ℕ) → 16 < i → Snp (world (w .maps) (set (w .state) i x) (w .pages) (w .tables)) o
+  pub set-aged : (i x : ℕ) → 16 < i → Snp (buffers (w .maps) (set (w .state) i x) (w .pages) (w .tables)) o
   set-aged i x l =
       let word : (j : ℕ) → j < 10 → getD (set (w .state) i x) j 0 ≡ getD (w .state) j 0 = λ j h. getD-set-other (w .state) i j x 0 (λ e. omega arith) in
       let b : requestOf (set (w .state) i x) ≡ requestOf (w .state) =
       rw (word 1 (omega arith), word 2 (omega arith), word 3 (omega arith), word 4 (omega arith), word 5 (omega arith), word 6 (omega arith), word 7 (omega arith), word 8 (omega arith), word 9 (omega arith)) in
       record { snp = ap isSnp (set-snp (w .state) i x l) ∙ a .snp; ages = rw (word 0 (omega arith), b) (a .ages) }
 
-module _ (es : List MemoryRangeWithNode) (w : World) (o : Observed) (k : Stands es w o) (a : Snp w o) where
+module _ (es : List MemoryRangeWithNode) (w : Buffers) (o : Observed) (k : Stands es w o) (a : Snp w o) where
   -- whatever the reply, a call moves no age
   call-ages : (ps : List ℕ) (r : Reply) (t : List ℕ) (z : ℕ) → seesCall ps r t o .age z ≡ o .age z
   call-ages ps r t z = go (asks r)
@@ -243,12 +243,12 @@ module _ (es : List MemoryRangeWithNode) (w : World) (o : Observed) (k : Stands 
       go false = refl
 
   starts : (s′ tables t : List ℕ) (x : ChangeStep) → settingsOf s′ .isolation ≡ settingsOf (w .state) .isolation
-      → let T = carriedChange (world (w .maps) s′ (w .pages) tables) t x in Snp (T .world) (seesCall [] (T .reply) (T .world .pages) o)
+      → let T = carriedChange (buffers (w .maps) s′ (w .pages) tables) t x in Snp (T .buffers) (seesCall [] (T .reply) (T .buffers .pages) o)
   starts s′ tables t x i =
-      let T = carriedChange (world (w .maps) s′ (w .pages) tables) t x in
-      change-aged es w o k a s′ tables t x (seesCall [] (T .reply) (T .world .pages) o) i (call-ages [] (T .reply) (T .world .pages))
+      let T = carriedChange (buffers (w .maps) s′ (w .pages) tables) t x in
+      change-aged es w o k a s′ tables t x (seesCall [] (T .reply) (T .buffers .pages) o) i (call-ages [] (T .reply) (T .buffers .pages))
 
-  pub protection-aged : (vtl flags : ℕ) (l : List ℕ) → let X = protectionOf w vtl flags l in Snp (X .world) (seesCall [] (X .reply) (X .world .pages) o)
+  pub protection-aged : (vtl flags : ℕ) (l : List ℕ) → let X = protectionOf w vtl flags l in Snp (X .buffers) (seesCall [] (X .reply) (X .buffers .pages) o)
   unfolding protectionOf protectionTaken
   protection-aged vtl flags l =
       let t : List ℕ = allListed l (w .pages) in
@@ -263,25 +263,25 @@ module _ (es : List MemoryRangeWithNode) (w : World) (o : Observed) (k : Stands 
     place Vtl0 = omega arith
     place Vtl1 = omega arith
 
-    default-taken : let T = defaultTaken (stored w v flags) v flags in Snp (T .world) (seesCall [] (T .reply) (T .world .pages) o)
+    default-taken : let T = defaultTaken (stored w v flags) v flags in Snp (T .buffers) (seesCall [] (T .reply) (T .buffers .pages) o)
     unfolding defaultTaken defaultStarted
     default-taken = go (barred (w .maps .private) s′ (w .tables) v)
       where
         S : Outcome
         S = defaultStarted (renewedIn (stored w v flags) v flags) v flags
 
-        go : (b : Bool) → let T = cond b (refusedBy (stored w v flags) 10) S in Snp (T .world) (seesCall [] (T .reply) (T .world .pages) o)
+        go : (b : Bool) → let T = cond b (refusedBy (stored w v flags) 10) S in Snp (T .buffers) (seesCall [] (T .reply) (T .buffers .pages) o)
         go true = set-aged w o a (20 + vtlNumber v) flags (place v)
         go false =
             let tables : List ℕ = renewedTables (w .maps .private) s′ (w .tables) v flags in
             starts s′ tables (w .pages) (defaultStep (w .maps .private) s′ tables v flags) (set-snp (w .state) (20 + vtlNumber v) flags (place v))
 
-  pub default-aged : (vtl flags : ℕ) → let X = defaultOf w vtl flags in Snp (X .world) (seesCall [] (X .reply) (X .world .pages) o)
+  pub default-aged : (vtl flags : ℕ) → let X = defaultOf w vtl flags in Snp (X .buffers) (seesCall [] (X .reply) (X .buffers .pages) o)
   unfolding defaultOf
   default-aged vtl flags =
       called Snp w o a [] (defaultRefusal (w .state) (fits w) vtl flags) (defaultTaken (stored w (vtlOf vtl) flags) (vtlOf vtl) flags) (λ z. default-taken (vtlOf vtl) flags)
 
-  pub unregister-aged : (vtl p : ℕ) → let X = unregisterOf w vtl p in Snp (X .world) (seesCall [] (X .reply) (X .world .pages) o)
+  pub unregister-aged : (vtl p : ℕ) → let X = unregisterOf w vtl p in Snp (X .buffers) (seesCall [] (X .reply) (X .buffers .pages) o)
   unfolding unregisterOf unregisterTaken
   unregister-aged vtl p =
       called Snp w o a [] (unregisterRefusal (w .state) (fits w) (w .tables) vtl p) (unregisterTaken w (vtlOf vtl) p) (λ z. go (ltb 1 (entryIn (w .tables) (vtlOf vtl) p .«ref_count»)))
@@ -298,11 +298,11 @@ module _ (es : List MemoryRangeWithNode) (w : World) (o : Observed) (k : Stands 
       B : Outcome
       B = carriedChange w (w .pages) x
 
-      go : (b : Bool) → Snp (cond b A B .world) (seesCall [] (cond b A B .reply) (cond b A B .world .pages) o)
-      go true = tables-aged w o a (A .world .tables)
+      go : (b : Bool) → Snp (cond b A B .buffers) (seesCall [] (cond b A B .reply) (cond b A B .buffers .pages) o)
+      go true = tables-aged w o a (A .buffers .tables)
       go false = starts (w .state) (w .tables) (w .pages) x refl
 
-  pub register-aged : (vtl p source checked new : ℕ) → let X = registerOf w vtl p source checked new in Snp (X .world) (seesCall [] (X .reply) (X .world .pages) o)
+  pub register-aged : (vtl p source checked new : ℕ) → let X = registerOf w vtl p source checked new in Snp (X .buffers) (seesCall [] (X .reply) (X .buffers .pages) o)
   unfolding registerOf registerTaken
   register-aged vtl p source checked new =
       called Snp w o a [] (registerRefusal (w .state) (fits w) (w .maps .shared) (w .tables) (currentIn w (vtlOf vtl) p source) vtl p source checked new) (registerTaken w (vtlOf vtl) p source new)
@@ -320,8 +320,8 @@ module _ (es : List MemoryRangeWithNode) (w : World) (o : Observed) (k : Stands 
       B : Outcome
       B = carriedChange w (w .pages) x
 
-      go : (b : Bool) → Snp (cond b A B .world) (seesCall [] (cond b A B .reply) (cond b A B .world .pages) o)
-      go true = tables-aged w o a (A .world .tables)
+      go : (b : Bool) → Snp (cond b A B .buffers) (seesCall [] (cond b A B .reply) (cond b A B .buffers .pages) o)
+      go true = tables-aged w o a (A .buffers .tables)
       go false = starts (w .state) (w .tables) (w .pages) x refl
 
   -- a visibility change that is taken
@@ -343,7 +343,7 @@ module _ (es : List MemoryRangeWithNode) (w : World) (o : Observed) (k : Stands 
     kept-private true z h = clear-kept _ (w .maps .private) z h
     kept-private false z h = clear-kept _ (w .maps .private) z h
 
-    taken-aged : let T = visibilityTaken w v b l in Snp (T .world) (seesCall (pagesOf l) (T .reply) (T .world .pages) o)
+    taken-aged : let T = visibilityTaken w v b l in Snp (T .buffers) (seesCall (pagesOf l) (T .reply) (T .buffers .pages) o)
     unfolding visibilityTaken carriedOut startOf flatOf askedOf
     taken-aged =
         let stop : ℕ = stopOf w v b l in
@@ -364,7 +364,7 @@ module _ (es : List MemoryRangeWithNode) (w : World) (o : Observed) (k : Stands 
               (subst (λ (y : Request). Aged P′ at.Wait y t (o .age)) (sym (request-read at.Wait q (drop 10 (w .state)) few-asked)) made);
         }
 
-  pub visibility-aged : (vtl visibility : ℕ) (l : List ℕ) → let X = visibilityOf w vtl visibility l in Snp (X .world) (seesCall (pagesOf l) (X .reply) (X .world .pages) o)
+  pub visibility-aged : (vtl visibility : ℕ) (l : List ℕ) → let X = visibilityOf w vtl visibility l in Snp (X .buffers) (seesCall (pagesOf l) (X .reply) (X .buffers .pages) o)
   unfolding visibilityOf
   visibility-aged vtl visibility l =
       called Snp w o a (pagesOf l) (visibilityRefusal (w .state) (fits w) (w .tables) vtl visibility l) (visibilityTaken w (vtlOf vtl) (boolOf visibility) l)

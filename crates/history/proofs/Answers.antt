@@ -29,7 +29,7 @@ use Rattle.protector_state.specs.declared.Reply.{Reply}
 use Rattle.protector_state.specs.State.{stateLen, phaseIn, requestOf, settingsOf}
 use Rattle.protector_state.specs.Reply.{askedOf, flatOf}
 use Rattle.protector_state.specs.Changing.{stageIn, isChanging, changeIn}
-use Rattle.call_refusals.specs.World.{World, Outcome, fits, statusIn, takes, takesAt, takesIn}
+use Rattle.call_refusals.specs.Buffers.{Buffers, Outcome, fits, statusIn, takes, takesAt, takesIn}
 use Rattle.protector.specs.Writes.{applied}
 use Rattle.protector.specs.Calls.{refusedBy, decided, carriedOut, carriedChange, afterDone, afterFailed, visibilityDone, visibilityFailed, changeDone, changeFailed, answerDone, answerFailed}
 use Rattle.call_refusals.specs.Refusals.{answerRefusal}
@@ -40,7 +40,7 @@ use Rattle.history.specs.Observed.{Observed, asks, lastAfter, isTaken, g
 use Rattle.history.proofs.Took.{isShared, sharedIn}
 use Rattle.history.proofs.Right.{opened, isHalted, isQuiet, Right, TakenReply, Fits, Moves, made-right}
 use Rattle.history.proofs.Steps.{after, done-fits, failed-fits, done-moves, failed-moves}
-use Rattle.history.proofs.World.{Stands, settled, right-same, quiet-last, seen-last, stops, goes, quiet-names, changing-shut, stands-step, stands-change}
+use Rattle.history.proofs.Buffers.{Stands, settled, right-same, quiet-last, seen-last, stops, goes, quiet-names, changing-shut, stands-step, stands-change}
 
 -- ---- what a step of another change tells: nothing that Modify, Accept or Zero would
 
@@ -133,13 +133,13 @@ chain-taken true false true false e = false≢true e
 chain-taken true false true true e = (refl, refl)
 
 -- a taken answer that leads to T, which keeps K
-pub record Leads (K : World → Observed → Type 0) (o : Observed) (g : BackendAnswer) (T : Outcome) : Type 0 where
+pub record Leads (K : Buffers → Observed → Type 0) (o : Observed) (g : BackendAnswer) (T : Outcome) : Type 0 where
   pub taken : TakenReply (T .reply)
-  pub stands : K (T .world) (seesTaken g (T .reply) (T .world .pages) o)
+  pub stands : K (T .buffers) (seesTaken g (T .reply) (T .buffers .pages) o)
 
-module _ (K : World → Observed → Type 0) (w : World) (o : Observed) (halts : o .halted ≡ eqb (statusIn (w .state)) refusal.halted) (k : K w o) where
+module _ (K : Buffers → Observed → Type 0) (w : Buffers) (o : Observed) (halts : o .halted ≡ eqb (statusIn (w .state)) refusal.halted) (k : K w o) where
   pub answered : (g : BackendAnswer) (failed : Bool) (T : Outcome) → (o .halted ≡ false → takesIn (w .state) failed ≡ true → Leads K o g T)
-      → let X = decided w (answerRefusal (w .state) (fits w) failed) T in K (X .world) (seesAnswer g (X .reply) (X .world .pages) o)
+      → let X = decided w (answerRefusal (w .state) (fits w) failed) T in K (X .buffers) (seesAnswer g (X .reply) (X .buffers .pages) o)
   unfolding answerRefusal
   answered g failed T f = go (eqb n 0) refl
     where
@@ -149,12 +149,12 @@ module _ (K : World → Observed → Type 0) (w : World) (o : Observed) (halts :
       n : ℕ
       n = chain (eqb (length (w .state)) stateLen) h (fits w) (takesIn (w .state) failed)
 
-      go : (b : Bool) → eqb n 0 ≡ b → K (cond b T (refusedBy w n) .world) (seesAnswer g (cond b T (refusedBy w n) .reply) (cond b T (refusedBy w n) .world .pages) o)
+      go : (b : Bool) → eqb n 0 ≡ b → K (cond b T (refusedBy w n) .buffers) (seesAnswer g (cond b T (refusedBy w n) .reply) (cond b T (refusedBy w n) .buffers .pages) o)
       go true e =
           let c = chain-taken (eqb (length (w .state)) stateLen) h (fits w) (takesIn (w .state) failed) e in
           let x = f (halts ∙ c .0) (c .1) in
           let y : isTaken o (T .reply) ≡ true = rw (halts ∙ c .0, x .taken .not4, x .taken .not21) in
-          subst (λ (b : Bool). K (T .world) (cond b (seesTaken g (T .reply) (T .world .pages) o) o)) (sym y) (x .stands)
+          subst (λ (b : Bool). K (T .buffers) (cond b (seesTaken g (T .reply) (T .buffers .pages) o) o)) (sym y) (x .stands)
       go false e =
           let y : isTaken o (refusedBy w n .reply) ≡ false =
           ap (λ (b : Bool). counts b n) halts ∙ chain-untaken (eqb (length (w .state)) stateLen) h (fits w) (takesIn (w .state) failed) e in
@@ -183,10 +183,10 @@ module _ (K : World → Observed → Type 0) (w : World) (o : Observed) (halts :
   either g true A B e f h = f e
   either g false A B e f h = h e
 
-pub takes-change : (w : World) (c failed : Bool) → isChanging (w .state) ≡ c → takesIn (w .state) failed ≡ true → cond c (takesAt (stageIn (w .state)) failed) (takes (phaseIn (w .state)) failed) ≡ true
+pub takes-change : (w : Buffers) (c failed : Bool) → isChanging (w .state) ≡ c → takesIn (w .state) failed ≡ true → cond c (takesAt (stageIn (w .state)) failed) (takes (phaseIn (w .state)) failed) ≡ true
 takes-change w c failed e h = ap (λ (b : Bool). cond b (takesAt (stageIn (w .state)) failed) (takes (phaseIn (w .state)) failed)) (sym e) ∙ h
 
-module _ (es : List MemoryRangeWithNode) (w : World) (o : Observed) (k : Stands es w o) where
+module _ (es : List MemoryRangeWithNode) (w : Buffers) (o : Observed) (k : Stands es w o) where
   -- of a visibility change
   module _ (g : BackendAnswer) (x : Step) (free : o .halted ≡ false) where
     abbrev p : Phase
@@ -258,7 +258,7 @@ module _ (es : List MemoryRangeWithNode) (w : World) (o : Observed) (k : Stands 
       visible (Fails code n) (visibilitySteps.failedOf s p′ q′ (w .pages) code n) free (failed-fits s p′ q′ (w .pages) code n y)
       (failed-moves s q′ (w .pages) (sharedIn o) p′ code n y (λ j e h d. k .right .toward e j h d) (λ e. k .right .once e)) (few-failed s (w .pages) p′ q′ code n y few))
 
-  pub answer-stands : (g : BackendAnswer) → Stands es (answerOf g w .world) (seesAnswer g (answerOf g w .reply) (answerOf g w .world .pages) o)
+  pub answer-stands : (g : BackendAnswer) → Stands es (answerOf g w .buffers) (seesAnswer g (answerOf g w .reply) (answerOf g w .buffers .pages) o)
   unfolding answerDone answerFailed
   answer-stands Succeeds = answered (Stands es) w o (k .halts) k Succeeds false (cond (isChanging (w .state)) (changeDone w) (visibilityDone w)) done-leads
   answer-stands (Fails code n) = answered (Stands es) w o (k .halts) k (Fails code n) true (cond (isChanging (w .state)) (changeFailed w) (visibilityFailed w code n)) (failed-leads code n)

@@ -27,7 +27,7 @@ use Rattle.protector_state.specs.declared.Reply.{Reply}
 use Rattle.protector_state.specs.State.{phaseIn, requestOf, settingsOf, entriesIn}
 use Rattle.protector_state.specs.Reply.{askedOf, flatOf}
 use Rattle.protector_state.specs.Changing.{isChanging}
-use Rattle.call_refusals.specs.World.{World, world, Outcome, overlaysOf, locksOf, fits, statusIn}
+use Rattle.call_refusals.specs.Buffers.{Buffers, buffers, Outcome, overlaysOf, locksOf, fits, statusIn}
 use Rattle.protector.specs.Writes.{applied}
 use Rattle.protector.specs.Calls.{refusedBy, decided, carriedOut, carriedChange, stopOf, askedFor, tableFor, visibilityTaken, visibilityOf}
 use Rattle.call_refusals.specs.Refusals.{pageRefusal, firstRefusal, visibilityRefusal}
@@ -37,15 +37,15 @@ use Rattle.history.specs.Observed.{Observed, asks, seesCall}
 use Rattle.history.proofs.Took.{sharedIn}
 use Rattle.history.proofs.Right.{opened, Right}
 use Rattle.history.proofs.Start.{repeats-take, repeats-pick, holds, places-apart, first-all, ram-page, start-right}
-use Rattle.history.proofs.World.{Stands, settled, stops, quiet-names, idle-shut, stands-step, stands-change}
+use Rattle.history.proofs.Buffers.{Stands, settled, stops, quiet-names, idle-shut, stands-step, stands-change}
 use Rattle.history.proofs.Answers.{Told}
 
 -- a call: refused it changes nothing, and asks for nothing
-pub called : (K : World → Observed → Type 0) (w : World) (o : Observed) → K w o → (ps : List ℕ) (n : ℕ) (T : Outcome) → (n ≡ 0 → K (T .world) (seesCall ps (T .reply) (T .world .pages) o))
-    → let X = decided w n T in K (X .world) (seesCall ps (X .reply) (X .world .pages) o)
+pub called : (K : Buffers → Observed → Type 0) (w : Buffers) (o : Observed) → K w o → (ps : List ℕ) (n : ℕ) (T : Outcome) → (n ≡ 0 → K (T .buffers) (seesCall ps (T .reply) (T .buffers .pages) o))
+    → let X = decided w n T in K (X .buffers) (seesCall ps (X .reply) (X .buffers .pages) o)
 called K w o k ps n T f = go (eqb n 0) refl
   where
-    go : (b : Bool) → eqb n 0 ≡ b → K (cond b T (refusedBy w n) .world) (seesCall ps (cond b T (refusedBy w n) .reply) (cond b T (refusedBy w n) .world .pages) o)
+    go : (b : Bool) → eqb n 0 ≡ b → K (cond b T (refusedBy w n) .buffers) (seesCall ps (cond b T (refusedBy w n) .reply) (cond b T (refusedBy w n) .buffers .pages) o)
     go true e = f (eqb-true n 0 e)
     go false e = k
 
@@ -65,12 +65,12 @@ module _ (s : List ℕ) (k x : ℕ) (low : 9 < k) (high : k < 31) where
   pub set-entries : entriesIn (set s k x) ≡ entriesIn s
   set-entries = rw (getD-set-other s k 31 x 0 (λ e. omega arith), drop-set-lt 32 s k x (omega arith))
 
-module _ (es : List MemoryRangeWithNode) (w : World) (o : Observed) (k : Stands es w o) where
+module _ (es : List MemoryRangeWithNode) (w : Buffers) (o : Observed) (k : Stands es w o) where
   -- other tables, and another such word
-  pub tables-stand : (tables : List ℕ) → Stands es (world (w .maps) (w .state) (w .pages) tables) o
+  pub tables-stand : (tables : List ℕ) → Stands es (buffers (w .maps) (w .state) (w .pages) tables) o
   tables-stand tables = record { layout = k .layout; right = k .right; halts = k .halts; waits = k .waits; names = k .names; table = k .table }
 
-  pub set-stands : (i x : ℕ) → 9 < i → i < 31 → Stands es (world (w .maps) (set (w .state) i x) (w .pages) (w .tables)) o
+  pub set-stands : (i x : ℕ) → 9 < i → i < 31 → Stands es (buffers (w .maps) (set (w .state) i x) (w .pages) (w .tables)) o
   set-stands i x low high =
       let s : List ℕ = w .state in
       let a : getD (set s i x) 0 0 ≡ getD s 0 0 = first-word s i x low high in
@@ -97,7 +97,7 @@ module _ (es : List MemoryRangeWithNode) (w : World) (o : Observed) (k : Stands 
 
     -- another change starts
     pub change-starts : (s tables t : List ℕ) (x : ChangeStep) → entriesIn s ≡ entriesIn (w .state) → Told (settingsOf s .isolation) x → stops (x .stage) ≡ false
-        → let T = carriedChange (world (w .maps) s (w .pages) tables) t x in Stands es (T .world) (seesCall [] (T .reply) (T .world .pages) o)
+        → let T = carriedChange (buffers (w .maps) s (w .pages) tables) t x in Stands es (T .buffers) (seesCall [] (T .reply) (T .buffers .pages) o)
     unfolding carriedChange
     change-starts s tables t x e told on = go (asks r) refl
       where
@@ -105,30 +105,30 @@ module _ (es : List MemoryRangeWithNode) (w : World) (o : Observed) (k : Stands 
         r = flatOf (settingsOf s .isolation) (x .answer)
 
         T : Outcome
-        T = carriedChange (world (w .maps) s (w .pages) tables) t x
+        T = carriedChange (buffers (w .maps) s (w .pages) tables) t x
 
         o′ : Observed
         o′ = record { op = r; table = t; halted = o .halted; listed = []; last = o .last; age = o .age }
 
-        go : (b : Bool) → asks r ≡ b → Stands es (T .world) (cond b o′ o)
+        go : (b : Bool) → asks r ≡ b → Stands es (T .buffers) (cond b o′ o)
         go true d =
-            stands-change es (T .world .maps) s t (T .world .tables) o′ (x .stage) (x .change) (e ∙ k .layout) (λ p q h. settled (sharedIn o) p q t [] (o .halted) shut h (λ z. refl) settled-right)
+            stands-change es (T .buffers .maps) s t (T .buffers .tables) o′ (x .stage) (x .change) (e ∙ k .layout) (λ p q h. settled (sharedIn o) p q t [] (o .halted) shut h (λ z. refl) settled-right)
             (free ∙ sym on) (told .waits) (told .quiet)
         go false d =
-            stands-change es (T .world .maps) s t (T .world .tables) o (x .stage) (x .change) (e ∙ k .layout)
+            stands-change es (T .buffers .maps) s t (T .buffers .tables) o (x .stage) (x .change) (e ∙ k .layout)
             (λ p q h. settled (sharedIn o) p q t (o .listed) (o .halted) shut h (λ z. refl) settled-right) (free ∙ sym on)
             (k .waits ∙ ap (λ (n : ℕ). eqb n refusal.busy) idle ∙ sym d ∙ told .waits) (quiet-names (phaseIn (w .state)) (requestOf (w .state)) (w .pages) (o .op) shut (k .names))
 
 -- ---- a visibility change
 
-pub record Taken (w : World) (v : GuestVtl) (share : Bool) (l : List ℕ) : Type 0 where
+pub record Taken (w : Buffers) (v : GuestVtl) (share : Bool) (l : List ℕ) : Type 0 where
   pub fit : fits w ≡ true
   pub idle : statusIn (w .state) ≡ 0
   pub short : length l ≤ 4096
   pub apart : repeats (pagesOf l) ≡ false
   pub each : firstRefusal (pageRefusal (entriesIn (w .state)) (overlaysOf (w .tables) v) (locksOf (w .tables) v) share) (pagesOf l) ≡ 0
 
-pub taken : (w : World) (vtl visibility : ℕ) (l : List ℕ) → visibilityRefusal (w .state) (fits w) (w .tables) vtl visibility l ≡ 0 → Taken w (vtlOf vtl) (boolOf visibility) l
+pub taken : (w : Buffers) (vtl visibility : ℕ) (l : List ℕ) → visibilityRefusal (w .state) (fits w) (w .tables) vtl visibility l ≡ 0 → Taken w (vtlOf vtl) (boolOf visibility) l
 unfolding visibilityRefusal
 taken w vtl visibility l z =
     let a = is-ready (w .state) (fits w) _ z in
@@ -139,7 +139,7 @@ taken w vtl visibility l z =
     let h = when-passed (isRagged l) 7 _ (g .1) in
     record { fit = a .fits; idle = a .idle; short = ltb-false 4096 (length l) (d .0); apart = e .0; each = h .1 }
 
-module _ (es : List MemoryRangeWithNode) (w : World) (o : Observed) (k : Stands es w o) (v : GuestVtl) (b : Bool) (l : List ℕ) (x : Taken w v b l) where
+module _ (es : List MemoryRangeWithNode) (w : Buffers) (o : Observed) (k : Stands es w o) (v : GuestVtl) (b : Bool) (l : List ℕ) (x : Taken w v b l) where
   abbrev P : ℕ → Bool
   P = wanted (w .maps .shared) b
 
@@ -169,7 +169,7 @@ module _ (es : List MemoryRangeWithNode) (w : World) (o : Observed) (k : Stands 
   pub few : length Q ≤ 512
   few = omega (arith, length-pick P ps, length-take (stopOf w v b l) (pagesOf l), pages-few l (x .short))
 
-  taken-stands : let T = visibilityTaken w v b l in Stands es (T .world) (seesCall (pagesOf l) (T .reply) (T .world .pages) o)
+  taken-stands : let T = visibilityTaken w v b l in Stands es (T .buffers) (seesCall (pagesOf l) (T .reply) (T .buffers .pages) o)
   unfolding visibilityTaken carriedOut applied startOf flatOf askedOf
   taken-stands =
       let s : Settings = settingsOf (w .state) in
@@ -180,12 +180,12 @@ module _ (es : List MemoryRangeWithNode) (w : World) (o : Observed) (k : Stands 
       start-right (isRam es) (w .maps .private) (w .maps .shared) (phaseIn (w .state)) (requestOf (w .state)) (w .pages) (o .listed) (sharedIn o) (settled-right es w o k (x .idle)) (shut es w o k (x .idle))
       t (pagesOf l) (length Q) stop stopped (s .tracked) v apart in-ram named b (λ j h. ap P (page j h) ∙ holds P ps j h) in
       let o′ : Observed = record { op = T .reply; table = t; halted = o .halted; listed = pagesOf l; last = o .last; age = o .age } in
-      stands-step es (T .world .maps) (w .state) t (w .tables) o′ at.Wait (asked v b (length Q) stop stopped) few (k .layout)
-      (subst (λ (h : Bool). Right (isRam es) (T .world .maps .private) (T .world .maps .shared) at.Wait (asked v b (length Q) stop stopped) t h (pagesOf l) (sharedIn o)) (sym (free es w o k (x .idle))) made)
+      stands-step es (T .buffers .maps) (w .state) t (w .tables) o′ at.Wait (asked v b (length Q) stop stopped) few (k .layout)
+      (subst (λ (h : Bool). Right (isRam es) (T .buffers .maps .private) (T .buffers .maps .shared) at.Wait (asked v b (length Q) stop stopped) t h (pagesOf l) (sharedIn o)) (sym (free es w o k (x .idle))) made)
       (free es w o k (x .idle)) refl refl (λ _. refl)
 
-pub visibility-stands : (es : List MemoryRangeWithNode) (w : World) (o : Observed) → Stands es w o → (vtl visibility : ℕ) (l : List ℕ)
-    → let X = visibilityOf w vtl visibility l in Stands es (X .world) (seesCall (pagesOf l) (X .reply) (X .world .pages) o)
+pub visibility-stands : (es : List MemoryRangeWithNode) (w : Buffers) (o : Observed) → Stands es w o → (vtl visibility : ℕ) (l : List ℕ)
+    → let X = visibilityOf w vtl visibility l in Stands es (X .buffers) (seesCall (pagesOf l) (X .reply) (X .buffers .pages) o)
 unfolding visibilityOf
 visibility-stands es w o k vtl visibility l =
     called (Stands es) w o k (pagesOf l) (visibilityRefusal (w .state) (fits w) (w .tables) vtl visibility l) (visibilityTaken w (vtlOf vtl) (boolOf visibility) l)

@@ -1,4 +1,4 @@
--- A build that is taken leaves a world at rest; so THE CLAIM holds of every list of calls from it, wherever it stops. Assumes nothing.
+-- A build that is taken leaves buffers at rest; so THE CLAIM holds of every list of calls from it, wherever it stops. Assumes nothing.
 use Prim.Native.Nat.{ℕ, _-_, _*_, _/_, _<_, _≤_}
 use mathlib.Core.Path.{_≡_, refl, sym, ap, _∙_, subst, fun-ext}
 use mathlib.Core.List.{List, []}
@@ -25,7 +25,7 @@ use Rattle.overlay_table.specs.Overlays.{flat}
 use Rattle.lock_entries.proofs.Limits.{none-locked}
 use Rattle.protector_state.specs.declared.Reply.{Reply}
 use Rattle.protector_state.specs.State.{stateLen, firstPhases, phaseOf, builtState, settingsOf, ramOf, entriesIn}
-use Rattle.call_refusals.specs.World.{World, Outcome, tablesLen, overlaysOf, locksOf, lengthsFit, lengthsIn}
+use Rattle.call_refusals.specs.Buffers.{Buffers, Outcome, tablesLen, overlaysOf, locksOf, lengthsFit, lengthsIn}
 use Rattle.protector.specs.Calls.{refusedBy, buildTaken, buildOf}
 use Rattle.call_refusals.specs.Refusals.{buildFits, buildRefusal, testedOf}
 use Rattle.call_refusals.proofs.Laws.{maps-fit}
@@ -78,7 +78,7 @@ fresh-bare es n z = fresh-page es false n z ∙ go (isRam es z && ltb (z / 8) n)
 fresh-none : (es : List MemoryRangeWithNode) (n z : ℕ) → Has (fresh es false n) z → ⊥
 fresh-none es n z h = clash _ h (fresh-bare es n z)
 
-module _ (u : World) (ram : List ℕ) (i t r : ℕ) (z : buildRefusal ram i t r (buildFits (mapLen (entriesOf ram)) t (length (u .state)) (lengthsIn u)) ≡ 0) where
+module _ (u : Buffers) (ram : List ℕ) (i t r : ℕ) (z : buildRefusal ram i t r (buildFits (mapLen (entriesOf ram)) t (length (u .state)) (lengthsIn u)) ≡ 0) where
   abbrev es : List MemoryRangeWithNode
   es = entriesOf ram
 
@@ -117,7 +117,7 @@ module _ (u : World) (ram : List ℕ) (i t r : ℕ) (z : buildRefusal ram i t r 
   same-long : (s : Bool) (m : List ℕ) → length (fresh es s (length m)) ≡ length m
   same-long s m = length-fresh es s (length m)
 
-  built-fitting : Fitting (buildTaken u ram i t r .world)
+  built-fitting : Fitting (buildTaken u ram i t r .buffers)
   unfolding buildTaken
   built-fitting =
       record {
@@ -129,7 +129,7 @@ module _ (u : World) (ram : List ℕ) (i t r : ℕ) (z : buildRefusal ram i t r 
       }
 
   -- nothing is under way, and each RAM page is marked private
-  taken-settled : Settled (buildTaken u ram i t r .world)
+  taken-settled : Settled (buildTaken u ram i t r .buffers)
   unfolding buildTaken phaseOf firstPhases
   taken-settled =
       let same : entriesIn (builtState ram i t r) ≡ es = entries-built ram i t r well in
@@ -144,25 +144,25 @@ module _ (u : World) (ram : List ℕ) (i t r : ℕ) (z : buildRefusal ram i t r 
         either = λ z r _. let q : isRam es z ≡ true = sym (ap (λ (es : List MemoryRangeWithNode). isRam es z) same) ∙ r in fresh-has es (length (u .maps .private)) z q (omega (arith, long-private, page-in-map ram z well q));
       }
 
-  taken-entries : entriesIn (buildTaken u ram i t r .world .state) ≡ es
+  taken-entries : entriesIn (buildTaken u ram i t r .buffers .state) ≡ es
   unfolding buildTaken
   taken-entries = entries-built ram i t r well
 
-  taken-unseen : readOff (buildTaken u ram i t r .world .maps) ≡ unseen
+  taken-unseen : readOff (buildTaken u ram i t r .buffers .maps) ≡ unseen
   unfolding buildTaken
   taken-unseen = ap (λ (f : ℕ → Took). record { op = unseen .op; table = unseen .table; halted = false; listed = unseen .listed; last = f; age = unseen .age }) (fun-ext (λ z. ap tookAs (fresh-bare es (length (u .maps .shared)) z)))
 
 -- a build whose reply has no number of a refusal was taken
-build-taken : (u w : World) (ram : List ℕ) (i t r : ℕ) (reply : Reply) → given w reply ≡ buildOf u ram i t r → reply .number ≡ 0
-    → (buildRefusal ram i t r (buildFits (mapLen (entriesOf ram)) t (length (u .state)) (lengthsIn u)) ≡ 0) × (buildTaken u ram i t r .world ≡ w)
+build-taken : (u w : Buffers) (ram : List ℕ) (i t r : ℕ) (reply : Reply) → given w reply ≡ buildOf u ram i t r → reply .number ≡ 0
+    → (buildRefusal ram i t r (buildFits (mapLen (entriesOf ram)) t (length (u .state)) (lengthsIn u)) ≡ 0) × (buildTaken u ram i t r .buffers ≡ w)
 unfolding buildOf
 build-taken u w ram i t r reply e d = go (eqb n 0) refl e
   where
     n : ℕ
     n = buildRefusal ram i t r (buildFits (mapLen (entriesOf ram)) t (length (u .state)) (lengthsIn u))
 
-    go : (b : Bool) → eqb n 0 ≡ b → given w reply ≡ cond b (buildTaken u ram i t r) (refusedBy u n) → (n ≡ 0) × (buildTaken u ram i t r .world ≡ w)
-    go true h e = (eqb-true n 0 h, ap (λ (X : Outcome). X .world) (sym e))
+    go : (b : Bool) → eqb n 0 ≡ b → given w reply ≡ cond b (buildTaken u ram i t r) (refusedBy u n) → (n ≡ 0) × (buildTaken u ram i t r .buffers ≡ w)
+    go true h e = (eqb-true n 0 h, ap (λ (X : Outcome). X .buffers) (sym e))
     go false h e = absurd (eqb-false n 0 h (sym (ap (λ (X : Outcome). X .reply .number) e) ∙ d))
 
 -- ---- its tables: nothing is entered, nothing is locked
@@ -182,33 +182,33 @@ empty-tables es = record { long = none-locked .long; overlays = none-entered es;
 
 -- ---- a build that was taken
 
-module _ {ram : List ℕ} {i t r : ℕ} {u w : World} {reply : Reply} (b : Built ram i t r u w reply) (d : reply .number ≡ 0) where
-  was : (buildRefusal ram i t r (buildFits (mapLen (entriesOf ram)) t (length (u .state)) (lengthsIn u)) ≡ 0) × (buildTaken u ram i t r .world ≡ w)
+module _ {ram : List ℕ} {i t r : ℕ} {u w : Buffers} {reply : Reply} (b : Built ram i t r u w reply) (d : reply .number ≡ 0) where
+  was : (buildRefusal ram i t r (buildFits (mapLen (entriesOf ram)) t (length (u .state)) (lengthsIn u)) ≡ 0) × (buildTaken u ram i t r .buffers ≡ w)
   was = build-taken u w ram i t r reply (build-is b) d
 
-  -- the world that it leaves is settled, and what is read off its marks is what is seen at a build: one start among those that Restart is about
+  -- the buffers that it leaves are settled, and what is read off its marks is what is seen at a build: one start among those that Restart is about
   pub built-settled : Settled w
-  built-settled = subst (λ (w : World). Settled w) (was .1) (taken-settled u ram i t r (was .0))
+  built-settled = subst (λ (w : Buffers). Settled w) (was .1) (taken-settled u ram i t r (was .0))
 
   pub built-unseen : readOff (w .maps) ≡ unseen
-  built-unseen = subst (λ (w : World). readOff (w .maps) ≡ unseen) (was .1) (taken-unseen u ram i t r (was .0))
+  built-unseen = subst (λ (w : Buffers). readOff (w .maps) ≡ unseen) (was .1) (taken-unseen u ram i t r (was .0))
 
   same-entries : entriesIn (w .state) ≡ entriesOf ram
-  same-entries = subst (λ (w : World). entriesIn (w .state) ≡ entriesOf ram) (was .1) (taken-entries u ram i t r (was .0))
+  same-entries = subst (λ (w : Buffers). entriesIn (w .state) ≡ entriesOf ram) (was .1) (taken-entries u ram i t r (was .0))
 
-  first-settings : settingsOf (buildTaken u ram i t r .world .state) ≡ firstSettings i t r
+  first-settings : settingsOf (buildTaken u ram i t r .buffers .state) ≡ firstSettings i t r
   unfolding buildTaken
   first-settings = refl
 
   zeros : w .tables ≡ replicate (length (u .tables)) 0
   unfolding buildTaken
-  zeros = ap (λ (w : World). w .tables) (sym (was .1))
+  zeros = ap (λ (w : Buffers). w .tables) (sym (was .1))
 
   no-words : w .tables ≡ replicate tablesLen 0
   no-words =
       zeros ∙ ap (λ (n : ℕ). replicate n 0) (sym (length-replicate {A = ℕ} (length (u .tables)) 0) ∙ ap (length {A = ℕ}) (sym zeros) ∙ fits-tables w (built-settled .lent))
 
-  fresh-settings : SettingsFit i t r (buildTaken u ram i t r .world .state)
+  fresh-settings : SettingsFit i t r (buildTaken u ram i t r .buffers .state)
   unfolding buildTaken buildRefusal
   fresh-settings =
       let a = first-passed (refusalOf ram) _ (was .0) in
@@ -228,7 +228,7 @@ module _ {ram : List ℕ} {i t r : ℕ} {u w : World} {reply : Reply} (b : Built
         default1 = omega arith;
       }
 
-  fresh-inside : Inside (entriesOf ram) (buildTaken u ram i t r .world .maps .permissions)
+  fresh-inside : Inside (entriesOf ram) (buildTaken u ram i t r .buffers .maps .permissions)
   unfolding buildTaken
   fresh-inside =
       let es : List MemoryRangeWithNode = entriesOf ram in
@@ -241,17 +241,17 @@ module _ {ram : List ℕ} {i t r : ℕ} {u w : World} {reply : Reply} (b : Built
       record {
         settled = built-settled;
         tables = subst (λ (x : List ℕ). Tables (entriesIn (w .state)) x) (sym no-words) (empty-tables (entriesIn (w .state)));
-        settings = subst (λ (w : World). SettingsFit i t r (w .state)) (was .1) fresh-settings;
-        inside = subst (λ (es : List MemoryRangeWithNode). Inside es (w .maps .permissions)) (sym same-entries) (subst (λ (w : World). Inside (entriesOf ram) (w .maps .permissions)) (was .1) fresh-inside);
+        settings = subst (λ (w : Buffers). SettingsFit i t r (w .state)) (was .1) fresh-settings;
+        inside = subst (λ (es : List MemoryRangeWithNode). Inside es (w .maps .permissions)) (sym same-entries) (subst (λ (w : Buffers). Inside (entriesOf ram) (w .maps .permissions)) (was .1) fresh-inside);
       }
 
 -- THE CLAIM, of every list of calls of the protector's entries from a build that was taken, refused calls and refused builds among them, wherever it stops
-module _ {ram : List ℕ} {i t r : ℕ} {u w v : World} {reply : Reply} {o : Observed} (b : Built ram i t r u w reply) (d : reply .number ≡ 0) (h : History w unseen v o) where
+module _ {ram : List ℕ} {i t r : ℕ} {u w v : Buffers} {reply : Reply} {o : Observed} (b : Built ram i t r u w reply) (d : reply .number ≡ 0) (h : History w unseen v o) where
   pub calls-hold : Claim ram i t r u reply h
   calls-hold =
       record {
         built = build-is b;
-        first = subst (λ (w : World). settingsOf (w .state) ≡ firstSettings i t r) (was b d .1) (first-settings b d);
+        first = subst (λ (w : Buffers). settingsOf (w .state) ≡ firstSettings i t r) (was b d .1) (first-settings b d);
         calls =
             subst (λ (a : Observed). (h : History w a v o) → ClaimFrom (entriesOf ram) i t r h) (built-unseen b d)
             (subst (λ (es : List MemoryRangeWithNode). (h : History w (readOff (w .maps)) v o) → ClaimFrom es i t r h) (same-entries b d) (λ h. settled-hold w (built-starts b d) h))

@@ -1,4 +1,4 @@
--- What each call does to the entries and the lists of a world whose tables are such, as those of every stop are: what leaves the tables alone, what an answer and a
+-- What each call does to the entries and the lists of buffers whose tables are such, as those of every stop are: what leaves the tables alone, what an answer and a
 -- default change do, and the laws of `overlay_entries` and `lock_entries`, which ask for no more than `TablesFit` has. Assumes nothing.
 use native.Mathlib.Omega.{arith}
 use mathlib.Core.Path.{_≡_, refl, sym, ap, _∙_, subst}
@@ -30,7 +30,7 @@ use Rattle.change_steps.specs.declared.ChangeStep.{ChangeStep}
 use Rattle.change_steps.specs.Changes.{protect, ask, wait, finish, halt, keep, changeOf, protectPages, protectRam, doneOf, failedOf}
 use Rattle.protector_state.specs.State.{settingsOf, entriesIn}
 use Rattle.protector_state.specs.Changing.{stageIn, isChanging, changeIn}
-use Rattle.call_refusals.specs.World.{World, overlaysOf, fits}
+use Rattle.call_refusals.specs.Buffers.{Buffers, overlaysOf, fits}
 use Rattle.protector.specs.Writes.{entered}
 use Rattle.protector.specs.Calls.{refusedBy, carriedOut, carriedChange, visibilityTaken, visibilityOf, nextIn, afterDone, afterFailed, visibilityDone, visibilityFailed, changeDone, changeFailed, answerDone, answerFailed}
 use Rattle.call_refusals.specs.Refusals.{visibilityRefusal, answerRefusal}
@@ -51,7 +51,7 @@ use Rattle.history.proofs.Entries.{overlays-long, overlays-used, overla
 
 -- ---- the tables are left alone
 
-abbrev Same : World → World → Type 0
+abbrev Same : Buffers → Buffers → Type 0
 Same w v = v .tables ≡ w .tables
 
 failed-kept : (g : Stage) (q : Change) (t : List ℕ) → entered (failedOf g q .entry) (failedOf g q .change) t ≡ t
@@ -106,24 +106,24 @@ done-kept tracked stage.Wait q p r t e = refl
 done-kept tracked stage.Flush q p r t e = refl
 done-kept tracked stage.TlbWait q p r t e = refl
 
-module _ (w : World) where
-  pub visibility-alone : (vtl share : ℕ) (l : List ℕ) → visibilityOf w vtl share l .world .tables ≡ w .tables
+module _ (w : Buffers) where
+  pub visibility-alone : (vtl share : ℕ) (l : List ℕ) → visibilityOf w vtl share l .buffers .tables ≡ w .tables
   unfolding visibilityOf visibilityTaken carriedOut
   visibility-alone vtl share l = decides (Same w) w (visibilityRefusal (w .state) (fits w) (w .tables) vtl share l) _ refl (λ _. refl)
 
-  pub protection-alone : (vtl flags : ℕ) (l : List ℕ) → protectionOf w vtl flags l .world .tables ≡ w .tables
+  pub protection-alone : (vtl flags : ℕ) (l : List ℕ) → protectionOf w vtl flags l .buffers .tables ≡ w .tables
   unfolding protectionOf protectionTaken carriedChange
   protection-alone vtl flags l =
       decides (Same w) w (protectionRefusal (w .state) (fits w) (w .maps .shared) (w .tables) vtl flags l) _ refl (λ _. pages-kept (settingsOf (w .state) .tracked) _ _ 0 (w .tables))
 
-  pub failed-alone : (code n : ℕ) → answerFailed w code n .world .tables ≡ w .tables
+  pub failed-alone : (code n : ℕ) → answerFailed w code n .buffers .tables ≡ w .tables
   unfolding answerFailed afterFailed carriedChange carriedOut
   failed-alone code n =
       decides (Same w) w (answerRefusal (w .state) (fits w) true) _ refl
       (λ _. either (Same w) (isChanging (w .state)) (changeFailed w) (visibilityFailed w code n) (failed-kept (stageIn (w .state)) (changeIn (w .state)) (w .tables)) refl)
 
   -- an answer that is done, unless an overlay call waits for it
-  pub done-alone : isEntering (stageIn (w .state)) ≡ false → answerDone w .world .tables ≡ w .tables
+  pub done-alone : isEntering (stageIn (w .state)) ≡ false → answerDone w .buffers .tables ≡ w .tables
   unfolding answerDone afterDone carriedChange carriedOut
   done-alone e =
       decides (Same w) w (answerRefusal (w .state) (fits w) false) _ refl
@@ -131,7 +131,7 @@ module _ (w : World) where
 
 -- ---- an answer that is done, while one does
 
-module _ (es : List MemoryRangeWithNode) (w : World) (k : TablesFit es w) (z : answerRefusal (w .state) (fits w) false ≡ 0) (c : isChanging (w .state) ≡ true) where
+module _ (es : List MemoryRangeWithNode) (w : Buffers) (k : TablesFit es w) (z : answerRefusal (w .state) (fits w) false ≡ 0) (c : isChanging (w .state) ≡ true) where
   abbrev q : Change
   q = changeIn (w .state)
 
@@ -141,18 +141,18 @@ module _ (es : List MemoryRangeWithNode) (w : World) (k : TablesFit es w) (z : a
   abbrev step : Stage → ChangeStep
   step g = doneOf (settingsOf (w .state) .tracked) g (changeIn (w .state)) (w .pages) (nextIn (w .maps .private) (w .state) (w .tables))
 
-  done-is : answerDone w .world .tables ≡ entered (step (stageIn (w .state)) .entry) (step (stageIn (w .state)) .change) (w .tables)
+  done-is : answerDone w .buffers .tables ≡ entered (step (stageIn (w .state)) .entry) (step (stageIn (w .state)) .change) (w .tables)
   unfolding answerDone afterDone carriedChange
   done-is = rw (eq-eqb (answerRefusal (w .state) (fits w) false) 0 z, c) refl
 
-  done-at : (g : Stage) → stageIn (w .state) ≡ g → answerDone w .world .tables ≡ entered (step g .entry) (step g .change) (w .tables)
+  done-at : (g : Stage) → stageIn (w .state) ≡ g → answerDone w .buffers .tables ≡ entered (step g .entry) (step g .change) (w .tables)
   done-at g e = done-is ∙ ap (λ (g : Stage). entered (step g .entry) (step g .change) (w .tables)) e
 
   waiting : (g : Stage) → stageIn (w .state) ≡ g → Pending es g (entryFor q) (overlaysOf (w .tables) (q .vtl))
   waiting g e = subst (λ (g : Stage). Pending es g (entryFor q) (overlaysOf (w .tables) (q .vtl))) e (k .pending)
 
   -- a new page: its entry is the last
-  pub done-enters : stageIn (w .state) ≡ stage.ProtectNew → overlaysOf (answerDone w .world .tables) (q .vtl) ≡ tableOf (os ++ (entryFor q ∷ []))
+  pub done-enters : stageIn (w .state) ≡ stage.ProtectNew → overlaysOf (answerDone w .buffers .tables) (q .vtl) ≡ tableOf (os ++ (entryFor q ∷ []))
   unfolding doneOf wait ask
   done-enters e =
       let x = k .tables .overlays (q .vtl) in
@@ -160,7 +160,7 @@ module _ (es : List MemoryRangeWithNode) (w : World) (k : TablesFit es w) (z : a
       ap (λ (t : List ℕ). overlaysOf t (q .vtl)) (done-at stage.ProtectNew e) ∙ entered-last (step stage.ProtectNew .change) (w .tables) os (k .tables .long) (x .words) few
 
   -- an old one: its entry is gone
-  pub done-removes : stageIn (w .state) ≡ stage.ProtectOld → overlaysOf (answerDone w .world .tables) (q .vtl) ≡ tableOf (dropFirst os (q .at))
+  pub done-removes : stageIn (w .state) ≡ stage.ProtectOld → overlaysOf (answerDone w .buffers .tables) (q .vtl) ≡ tableOf (dropFirst os (q .at))
   unfolding doneOf wait ask
   done-removes e =
       let x = k .tables .overlays (q .vtl) in
@@ -169,31 +169,31 @@ module _ (es : List MemoryRangeWithNode) (w : World) (k : TablesFit es w) (z : a
 
 -- ---- a default change that is taken and meets no lock renews the previous permissions of private RAM pages
 
-module _ (es : List MemoryRangeWithNode) (w : World) (k : Tables es (w .tables)) (v : GuestVtl) (flags : ℕ) (free : barred (w .maps .private) (w .state) (w .tables) v ≡ false) where
-  started-renews : overlaysOf (defaultTaken w v flags .world .tables) v ≡ tableOf (renewedEntries (w .maps .private) (entriesIn (w .state)) flags (k .overlays v .entries))
+module _ (es : List MemoryRangeWithNode) (w : Buffers) (k : Tables es (w .tables)) (v : GuestVtl) (flags : ℕ) (free : barred (w .maps .private) (w .state) (w .tables) v ≡ false) where
+  started-renews : overlaysOf (defaultTaken w v flags .buffers .tables) v ≡ tableOf (renewedEntries (w .maps .private) (entriesIn (w .state)) flags (k .overlays v .entries))
   unfolding defaultTaken defaultStarted carriedChange
   started-renews =
       let m : List ℕ = w .maps .private in
-      let r : World = renewedIn w v flags in
+      let r : Buffers = renewedIn w v flags in
       let x = k .overlays v in
       let o : List ℕ = renewed m (entriesIn (w .state)) flags (overlaysOf (w .tables) v) in
-      ap (λ (b : Bool). overlaysOf (cond b (refusedBy w 10) (defaultStarted r v flags) .world .tables) v) free
+      ap (λ (b : Bool). overlaysOf (cond b (refusedBy w 10) (defaultStarted r v flags) .buffers .tables) v) free
       ∙ ap (λ (t : List ℕ). overlaysOf t v) (ram-kept (settingsOf (w .state) .tracked) (changeOf v flags 0) (firstPiece m (w .state) (r .tables) v) (r .tables))
       ∙ overlays-written (w .tables) o v (k .long) (renewed-long m (entriesIn (w .state)) flags (used (overlaysOf (w .tables) v)) (overlaysOf (w .tables) v) 1 ∙ overlays-long es (overlaysOf (w .tables) v) x)
       ∙ ap (renewed m (entriesIn (w .state)) flags) (x .words) ∙ table-renewed m (entriesIn (w .state)) flags (x .entries) (x .few)
 
-module _ (es : List MemoryRangeWithNode) (w : World) (k : TablesFit es w) (vtl flags : ℕ) (z : defaultRefusal (w .state) (fits w) vtl flags ≡ 0)
+module _ (es : List MemoryRangeWithNode) (w : Buffers) (k : TablesFit es w) (vtl flags : ℕ) (z : defaultRefusal (w .state) (fits w) vtl flags ≡ 0)
     (free : barred (w .maps .private) (stored w (vtlOf vtl) flags .state) (w .tables) (vtlOf vtl) ≡ false) where
-  pub default-renews : overlaysOf (defaultOf w vtl flags .world .tables) (vtlOf vtl)
+  pub default-renews : overlaysOf (defaultOf w vtl flags .buffers .tables) (vtlOf vtl)
       ≡ tableOf (renewedEntries (w .maps .private) (entriesIn (stored w (vtlOf vtl) flags .state)) flags (k .tables .overlays (vtlOf vtl) .entries))
   unfolding defaultOf
   default-renews =
-      ap (λ (b : Bool). overlaysOf (cond b (defaultTaken (stored w (vtlOf vtl) flags) (vtlOf vtl) flags) (refusedBy w (defaultRefusal (w .state) (fits w) vtl flags)) .world .tables) (vtlOf vtl)) (eq-eqb _ 0 z)
+      ap (λ (b : Bool). overlaysOf (cond b (defaultTaken (stored w (vtlOf vtl) flags) (vtlOf vtl) flags) (refusedBy w (defaultRefusal (w .state) (fits w) vtl flags)) .buffers .tables) (vtlOf vtl)) (eq-eqb _ 0 z)
       ∙ started-renews es (stored w (vtlOf vtl) flags) (k .tables) (vtlOf vtl) flags free
 
 -- ---- the calls on overlay pages that are taken: the laws of `overlay_entries`, of the entries here
 
-module _ (es : List MemoryRangeWithNode) (w : World) (k : TablesFit es w) (vtl p : ℕ) where
+module _ (es : List MemoryRangeWithNode) (w : Buffers) (k : TablesFit es w) (vtl p : ℕ) where
   abbrev v : GuestVtl
   v = vtlOf vtl
 
@@ -208,28 +208,28 @@ module _ (es : List MemoryRangeWithNode) (w : World) (k : TablesFit es w) (vtl p
 
   module _ (source checked new : ℕ) (z : registerRefusal (w .state) (fits w) (w .maps .shared) (w .tables) (currentIn w (vtlOf vtl) p source) vtl p source checked new ≡ 0) where
     -- a known page is counted once more
-    pub register-counts : knows own p ≡ true → overlaysOf (registerOf w vtl p source checked new .world .tables) v ≡ tableOf (changed (withCount (entryOf own p .«ref_count» + 1)) own p)
+    pub register-counts : knows own p ≡ true → overlaysOf (registerOf w vtl p source checked new .buffers .tables) v ≡ tableOf (changed (withCount (entryOf own p .«ref_count» + 1)) own p)
     register-counts h = register-known w vtl p own few (k .tables .long) is source checked new z h .0
 
     -- a new one without flags is the last entry at once; with flags nothing is entered yet
     pub register-adds : knows own p ≡ false → ltb new 16 ≡ false
-        → overlaysOf (registerOf w vtl p source checked new .world .tables) v ≡ tableOf (own ++ (entry p (bitsOf (currentIn w v p source)) (bitsOf (currentIn w v p source)) 1 source ∷ []))
+        → overlaysOf (registerOf w vtl p source checked new .buffers .tables) v ≡ tableOf (own ++ (entry p (bitsOf (currentIn w v p source)) (bitsOf (currentIn w v p source)) 1 source ∷ []))
     register-adds h e = register-enters w vtl p source checked new z own few (k .tables .long) is h e .0
 
-    pub register-waits : knows own p ≡ false → ltb new 16 ≡ true → registerOf w vtl p source checked new .world .tables ≡ w .tables
+    pub register-waits : knows own p ≡ false → ltb new 16 ≡ true → registerOf w vtl p source checked new .buffers .tables ≡ w .tables
     register-waits h e = register-protects w vtl p source checked new z own few (k .tables .long) is h e .0
 
   module _ (z : unregisterRefusal (w .state) (fits w) (w .tables) vtl p ≡ 0) (h : knows own p ≡ true) where
     -- a count above 1 is lowered; else nothing is taken out yet
-    pub unregister-counts : 1 < entryOf own p .«ref_count» → overlaysOf (unregisterOf w vtl p .world .tables) v ≡ tableOf (changed (withCount (entryOf own p .«ref_count» - 1)) own p)
+    pub unregister-counts : 1 < entryOf own p .«ref_count» → overlaysOf (unregisterOf w vtl p .buffers .tables) v ≡ tableOf (changed (withCount (entryOf own p .«ref_count» - 1)) own p)
     unregister-counts c = unregister-lowers w vtl p own few (k .tables .long) is z h c .0
 
-    pub unregister-waits : entryOf own p .«ref_count» ≤ 1 → unregisterOf w vtl p .world .tables ≡ w .tables
+    pub unregister-waits : entryOf own p .«ref_count» ≤ 1 → unregisterOf w vtl p .buffers .tables ≡ w .tables
     unregister-waits c = unregister-restores w vtl p z own few (k .tables .long) is h c .0
 
 -- ---- the calls on locks that are taken: those of `lock_entries`
 
-module _ (es : List MemoryRangeWithNode) (w : World) (k : TablesFit es w) (vtl : ℕ) (l : List ℕ) (z : lockRefusal (w .state) (length (w .tables)) vtl l ≡ 0) where
+module _ (es : List MemoryRangeWithNode) (w : Buffers) (k : TablesFit es w) (vtl : ℕ) (l : List ℕ) (z : lockRefusal (w .state) (length (w .tables)) vtl l ≡ 0) where
   abbrev x : Lists
   x = lists (k .tables .locks Vtl0 .lists) (k .tables .locks Vtl1 .lists)
 

@@ -20,7 +20,7 @@ use Rattle.change_steps.specs.Changes as changes
 use Rattle.protector_state.specs.State.{firstPhases, phaseOf}
 use Rattle.protector_state.specs.Reply.{askedOf, flatOf}
 use Rattle.protector_state.specs.Changing.{stageOf}
-use Rattle.call_refusals.specs.World.{World, world, Outcome}
+use Rattle.call_refusals.specs.Buffers.{Buffers, buffers, Outcome}
 use Rattle.protector.specs.Writes.{applied, entered}
 use Rattle.protector.specs.Calls.{carriedOut, carriedChange, visibilityTaken, visibilityOf, afterDone, answerDone, buildTaken, buildOf}
 use Rattle.call_refusals.specs.Refusals.{ready, firstRefusal, visibilityRefusal, answerRefusal, buildRefusal}
@@ -40,14 +40,14 @@ use Rattle.history.proofs.Exists.{any-call}
 abbrev ram8 : List ℕ
 ram8 = 0 ∷ 0x8000 ∷ 0 ∷ []
 
-abbrev before8 : World
-before8 = world (maps (0 ∷ []) (0 ∷ []) (0 ∷ []) (0 ∷ []) (0 ∷ []) (0 ∷ [])) (replicate 128 0) (replicate 1024 0) (replicate 3460 0)
+abbrev before8 : Buffers
+before8 = buffers (maps (0 ∷ []) (0 ∷ []) (0 ∷ []) (0 ∷ []) (0 ∷ []) (0 ∷ [])) (replicate 128 0) (replicate 1024 0) (replicate 3460 0)
 
 abbrev building8 : Outcome
 building8 = buildOf before8 ram8 2 1 0
 
-abbrev pub built8 : World
-built8 = building8 .world
+abbrev pub built8 : Buffers
+built8 = building8 .buffers
 
 pub build8 : Built ram8 2 1 0 before8 built8 (building8 .reply)
 build8 = any-call before8 .built ram8 2 1 0
@@ -57,7 +57,7 @@ unfolding buildOf buildRefusal refusalOf entriesOf ordered aligned buildTaken
 build8-taken = refl
 
 -- so the claim holds of every list of calls from it
-pub claim8 : {v : World} {o : Observed} (h : History built8 unseen v o) → Claim ram8 2 1 0 before8 (building8 .reply) h
+pub claim8 : {v : Buffers} {o : Observed} (h : History built8 unseen v o) → Claim ram8 2 1 0 before8 (building8 .reply) h
 claim8 h = calls-hold build8 build8-taken h
 
 -- ---- and there its page 3 may be shared: a call that asks for an operation
@@ -68,7 +68,7 @@ sharing8 = Write (Visibility 0 1 (page 3 []))
 abbrev pub asking8 : Outcome
 asking8 = visibilityOf built8 0 1 (page 3 [])
 
-pub share8 : Made sharing8 built8 (asking8 .world) (asking8 .reply)
+pub share8 : Made sharing8 built8 (asking8 .buffers) (asking8 .reply)
 share8 = any-call built8 .made sharing8
 
 pub share8-asks : asks (asking8 .reply) ≡ true
@@ -78,10 +78,10 @@ share8-asks = refl
 -- ---- and while it waits a build with isolation 9, lent what stands, is refused: a step of the list
 
 abbrev seen8 : Observed
-seen8 = sees sharing8 (asking8 .reply) (asking8 .world .pages) unseen
+seen8 = sees sharing8 (asking8 .reply) (asking8 .buffers .pages) unseen
 
-pub refused8 : History built8 unseen (asking8 .world) seen8
-refused8 = refusedBuild (call none sharing8 (asking8 .reply) share8) ram8 9 1 0 (buildOf (asking8 .world) ram8 9 1 0 .reply) (any-call (asking8 .world) .built ram8 9 1 0) (any-call (asking8 .world) .refused ram8 9 1 0 refl)
+pub refused8 : History built8 unseen (asking8 .buffers) seen8
+refused8 = refusedBuild (call none sharing8 (asking8 .reply) share8) ram8 9 1 0 (buildOf (asking8 .buffers) ram8 9 1 0 .reply) (any-call (asking8 .buffers) .built ram8 9 1 0) (any-call (asking8 .buffers) .refused ram8 9 1 0 refl)
 
 -- ---- so do the other calls that may ask: a protection change, a default change, and an overlay page registered and, with that over, unregistered
 
@@ -89,7 +89,7 @@ pub record Others8 : Type 0 where
   pub protects : asks (protectionOf built8 0 3 (page 3 []) .reply) ≡ true
   pub defaults : asks (defaultOf built8 0 3 .reply) ≡ true
   pub registers : asks (registerOf built8 0 5 0 15 1 .reply) ≡ true
-  pub unregisters : asks (unregisterOf (afterAll (registerOf built8 0 5 0 15 1 .world) (dones 4)) 0 5 .reply) ≡ true
+  pub unregisters : asks (unregisterOf (afterAll (registerOf built8 0 5 0 15 1 .buffers) (dones 4)) 0 5 .reply) ≡ true
 
 pub others8 : Others8
 unfolding ready buildOf buildRefusal refusalOf entriesOf ordered aligned buildTaken word writtenFrom ramByte numberOf numberAt numbersFrom neighbours runAt pick tableOf placeFrom among span nextOf anyOf

@@ -11,7 +11,7 @@ use Rattle.layout.specs.declared.MemoryRangeWithNode.{MemoryRangeWithNode}
 use Rattle.layout.specs.Layout.{entriesOf}
 use Rattle.protector_state.specs.declared.Reply.{Reply}
 use Rattle.protector_state.specs.State.{entriesIn}
-use Rattle.call_refusals.specs.World.{World, Outcome, takes}
+use Rattle.call_refusals.specs.Buffers.{Buffers, Outcome, takes}
 use Rattle.protector.specs.Calls.{answerDone}
 use Rattle.visibility_claims.specs.Whole.{BackendAnswer, Succeeds}
 use Rattle.visibility_claims.specs.Calls.{answerOf, takenBy}
@@ -25,7 +25,7 @@ use Rattle.history.specs.History.{History, none, call, Event, Called, ev
 use Rattle.history.specs.Answered.{given}
 use Rattle.history.specs.Ends.{Trace, start, answer, other, traceOf, takenIn, heardIn, Falls, Meanwhile, Answers, Ends, Heard, insisting, Told, RequestEnds}
 use Rattle.history.proofs.Bits.{clash}
-use Rattle.history.proofs.World.{Stands}
+use Rattle.history.proofs.Buffers.{Stands}
 use Rattle.history.proofs.Answers.{taken-seen}
 use Rattle.history.proofs.Passed.{Fitting}
 use Rattle.history.proofs.Fittings.{answer-long}
@@ -38,28 +38,28 @@ use Rattle.history.proofs.Eight.{sharing8, asking8, share8-asks}
 
 -- ---- and the whole of it
 
-answer-sum : (l k : ℕ) (u v : World) (b : Bool) → (b ≡ true → leftIn v < leftIn u) → (b ≡ false → v ≡ u) → leftIn u + k ≤ l → leftIn v + (cond b 1 0 + k) ≤ l
+answer-sum : (l k : ℕ) (u v : Buffers) (b : Bool) → (b ≡ true → leftIn v < leftIn u) → (b ≡ false → v ≡ u) → leftIn u + k ≤ l → leftIn v + (cond b 1 0 + k) ≤ l
 answer-sum l k u v true f g h = add (leftIn v) (leftIn u) (f refl) h
   where
     add : (a b : ℕ) → a < b → b + k ≤ l → a + (1 + k) ≤ l
     add a b c d = omega (arith, c, d)
-answer-sum l k u v false f g h = add (leftIn v) (subst (λ (v : World). leftIn v + k ≤ l) (sym (g refl)) h)
+answer-sum l k u v false f g h = add (leftIn v) (subst (λ (v : Buffers). leftIn v + k ≤ l) (sym (g refl)) h)
   where
     add : (a : ℕ) → a + k ≤ l → a + (0 + k) ≤ l
     add a h = omega (arith, h)
 
-sum-falls : {w v : World} {a o : Observed} (h : Trace w a v o) → Falls h → Meanwhile h → leftIn v + takenIn h ≤ leftIn w
+sum-falls : {w v : Buffers} {a o : Observed} (h : Trace w a v o) → Falls h → Meanwhile h → leftIn v + takenIn h ≤ leftIn w
 unfolding Falls Meanwhile takenIn
 sum-falls start f m = omega arith
 sum-falls {w} (answer {u} {v} h g b) f m = answer-sum (leftIn w) (takenIn h) u v b (f .1) (f .2) (sum-falls h (f .0) m)
-sum-falls {w} (other {u} {v} h) f m = subst (λ (v : World). leftIn v + takenIn h ≤ leftIn w) (sym (f .1 (m .1))) (sum-falls h (f .0) (m .0))
+sum-falls {w} (other {u} {v} h) f m = subst (λ (v : Buffers). leftIn v + takenIn h ≤ leftIn w) (sym (f .1 (m .1))) (sum-falls h (f .0) (m .0))
 
-idle-at-none : (v : World) → leftIn v ≤ 0 → underWay v ≡ false
+idle-at-none : (v : Buffers) → leftIn v ≤ 0 → underWay v ≡ false
 unfolding afterAll takenOf
 idle-at-none v h = claims.ends v [] h
 
 -- where it still waits it waited at each answer, and each that wasn't refused was taken
-all-taken : {w v : World} {a o : Observed} (h : Trace w a v o) → Falls h → Meanwhile h → isWaiting o ≡ true → heardIn h ≡ takenIn h
+all-taken : {w v : Buffers} {a o : Observed} (h : Trace w a v o) → Falls h → Meanwhile h → isWaiting o ≡ true → heardIn h ≡ takenIn h
 unfolding Falls Meanwhile takenIn heardIn
 all-taken start f m e = refl
 all-taken (answer {u} {v} {o} {p} h g b) f m e =
@@ -71,7 +71,7 @@ all-taken (answer {u} {v} {o} {p} h g b) f m e =
     or-false false = refl
 all-taken (other h) f m e = all-taken h (f .0) (m .0) (m .1)
 
-module _ (es : List MemoryRangeWithNode) {w v : World} {a o : Observed} (k : Stands es w a) (h : History w a v o) (m : Meanwhile (traceOf h)) where
+module _ (es : List MemoryRangeWithNode) {w v : Buffers} {a o : Observed} (k : Stands es w a) (h : History w a v o) (m : Meanwhile (traceOf h)) where
   still-fewer : isWaiting o ≡ true → takenIn (traceOf h) < leftIn w
   still-fewer e = go (leftIn v) refl
     where
@@ -101,13 +101,13 @@ abbrev answered : BackendAnswer → Event
 answered g = Called (Answer g)
 
 -- from where h stops, gs in turn
-record Further (v : World) (o : Observed) (l : List Event) (w : World) (gs : List BackendAnswer) : Type 0 where
+record Further (v : Buffers) (o : Observed) (l : List Event) (w : Buffers) (gs : List BackendAnswer) : Type 0 where
   seen : Observed
   calls : History v o (afterAll w gs) seen
   alone : eventsIn calls ≡ l ++ map answered gs
   meanwhile : Meanwhile (traceOf calls)
 
-further : {v w : World} {o p : Observed} (h : History v o w p) → Meanwhile (traceOf h) → (gs : List BackendAnswer) → Further v o (eventsIn h) w gs
+further : {v w : Buffers} {o p : Observed} (h : History v o w p) → Meanwhile (traceOf h) → (gs : List BackendAnswer) → Further v o (eventsIn h) w gs
 unfolding afterAll traceOf eventsIn Meanwhile
 further {p = p} h m [] = record { seen = p; calls = h; alone = sym (append-nil (eventsIn h)); meanwhile = m }
 further {w = w} h m (g ∷ gs) =
@@ -115,57 +115,57 @@ further {w = w} h m (g ∷ gs) =
     record { seen = x .seen; calls = x .calls; alone = x .alone ∙ append-assoc (eventsIn h) (answered g ∷ []) (map answered gs); meanwhile = x .meanwhile }
 
 -- done after each that isn't taken
-insisting-over : (w : World) → Fitting w → (gs : List BackendAnswer) → (underWay w ≡ true → leftIn w ≤ length gs) → underWay (afterAll w (insisting w gs)) ≡ false
+insisting-over : (w : Buffers) → Fitting w → (gs : List BackendAnswer) → (underWay w ≡ true → leftIn w ≤ length gs) → underWay (afterAll w (insisting w gs)) ≡ false
 unfolding afterAll insisting
 insisting-over w k [] f = not-true (underWay w) (not-of (underWay w) (λ e. clash (underWay w) e (idle-at-none w (f e))))
-insisting-over w k (g ∷ gs) f = go (takenBy g w) refl (λ (h : BackendAnswer) e. insisting-over (answerOf h w .world) (answer-long w k h) gs e)
+insisting-over w k (g ∷ gs) f = go (takenBy g w) refl (λ (h : BackendAnswer) e. insisting-over (answerOf h w .buffers) (answer-long w k h) gs e)
   where
     less : (a b n : ℕ) → a < b → b ≤ suc n → a ≤ n
     less a b n c d = omega (arith, c, d)
 
-    lower : (h : BackendAnswer) → takenBy h w ≡ true → leftIn (answerOf h w .world) ≤ length gs
-    lower h t = less (leftIn (answerOf h w .world)) (leftIn w) (length gs) (claims.taken-lowers w h t) (f (taken-waits w h t))
+    lower : (h : BackendAnswer) → takenBy h w ≡ true → leftIn (answerOf h w .buffers) ≤ length gs
+    lower h t = less (leftIn (answerOf h w .buffers)) (leftIn w) (length gs) (claims.taken-lowers w h t) (f (taken-waits w h t))
 
-    again : (b : Bool) → takenBy Succeeds w ≡ b → underWay (answerOf Succeeds w .world) ≡ true → leftIn (answerOf Succeeds w .world) ≤ length gs
+    again : (b : Bool) → takenBy Succeeds w ≡ b → underWay (answerOf Succeeds w .buffers) ≡ true → leftIn (answerOf Succeeds w .buffers) ≤ length gs
     again true t b = lower Succeeds t
     again false t b = clash _ (claims.done-taken w (k .long) (k .fit) (sym (ap underWay (claims.untaken-keeps w Succeeds t)) ∙ b)) t
 
     go : (b : Bool) → takenBy g w ≡ b
-        → ((h : BackendAnswer) → (underWay (answerOf h w .world) ≡ true → leftIn (answerOf h w .world) ≤ length gs) → underWay (afterAll (answerOf h w .world) (insisting (answerOf h w .world) gs)) ≡ false)
-        → underWay (afterAll w (cond b (g ∷ insisting (answerOf g w .world) gs) (g ∷ Succeeds ∷ insisting (answerOf Succeeds w .world) gs))) ≡ false
+        → ((h : BackendAnswer) → (underWay (answerOf h w .buffers) ≡ true → leftIn (answerOf h w .buffers) ≤ length gs) → underWay (afterAll (answerOf h w .buffers) (insisting (answerOf h w .buffers) gs)) ≡ false)
+        → underWay (afterAll w (cond b (g ∷ insisting (answerOf g w .buffers) gs) (g ∷ Succeeds ∷ insisting (answerOf Succeeds w .buffers) gs))) ≡ false
     go true t next = next g (λ _. lower g t)
     go false t next =
-        subst (λ (u : World). underWay (afterAll (answerOf Succeeds u .world) (insisting (answerOf Succeeds w .world) gs)) ≡ false) (sym (claims.untaken-keeps w g t))
+        subst (λ (u : Buffers). underWay (afterAll (answerOf Succeeds u .buffers) (insisting (answerOf Succeeds w .buffers) gs)) ≡ false) (sym (claims.untaken-keeps w g t))
         (next Succeeds (again (takenBy Succeeds w) refl))
 
 -- done alone
-dones-unrefused : (n : ℕ) (w : World) → Fitting w → unrefused w (replicate n Succeeds)
+dones-unrefused : (n : ℕ) (w : Buffers) → Fitting w → unrefused w (replicate n Succeeds)
 unfolding unrefused
 dones-unrefused zero w k = tt
-dones-unrefused (suc n) w k = (claims.done-taken w (k .long) (k .fit), dones-unrefused n (answerDone w .world) (answer-long w k Succeeds))
+dones-unrefused (suc n) w k = (claims.done-taken w (k .long) (k .fit), dones-unrefused n (answerDone w .buffers) (answer-long w k Succeeds))
 
--- ---- THE CLAIM, from any world that meets the invariant
+-- ---- THE CLAIM, from any buffers that meet the invariant
 
-stands-told : (es : List MemoryRangeWithNode) (v : World) (o : Observed) → Stands es v o → Told v o
+stands-told : (es : List MemoryRangeWithNode) (v : Buffers) (o : Observed) → Stands es v o → Told v o
 stands-told es v o k = record { waits = k .waits; takes = taken-seen es v o k }
 
 -- while a request is under way done is taken
-done-answers : (es : List MemoryRangeWithNode) (v : World) (o : Observed) → Lent es v o → {x : World} {r : Reply} → Made (Answer Succeeds) v x r → isWaiting o ≡ true → isTaken o r ≡ true
+done-answers : (es : List MemoryRangeWithNode) (v : Buffers) (o : Observed) → Lent es v o → {x : Buffers} {r : Reply} → Made (Answer Succeeds) v x r → isWaiting o ≡ true → isTaken o r ≡ true
 done-answers es v o k m b = ap (λ (X : Outcome). isTaken o (X .reply)) (answer-is m) ∙ taken-seen es v o (k .first) Succeeds ∙ claims.done-taken v (k .second .long) (k .second .fit) (sym (k .first .waits) ∙ b)
 
-module _ (es : List MemoryRangeWithNode) (v : World) (o : Observed) (k : Lent es v o) where
+module _ (es : List MemoryRangeWithNode) (v : Buffers) (o : Observed) (k : Lent es v o) where
   giving : (gs : List BackendAnswer) → Answers v o gs
   unfolding traceOf eventsIn Meanwhile
   giving gs =
       let x = further none tt gs in
-      record { world = afterAll v gs; seen = x .seen; calls = x .calls; alone = x .alone; enough = request-ends es (k .first) (x .calls) (x .meanwhile) }
+      record { buffers = afterAll v gs; seen = x .seen; calls = x .calls; alone = x .alone; enough = request-ends es (k .first) (x .calls) (x .meanwhile) }
 
   ending : (gs : List BackendAnswer) → underWay (afterAll v gs) ≡ false → Ends v o gs
   unfolding giving
   ending gs e = record { answers = giving gs; over = at-stop es (k .first) (giving gs .calls) .waits ∙ e }
 
   -- done so many times
-  done-heard : {x y : World} {p : Observed} {r : Reply} → Lent es x p → Made (Answer Succeeds) x y r → (isTaken p r || not (isWaiting p)) ≡ true
+  done-heard : {x y : Buffers} {p : Observed} {r : Reply} → Lent es x p → Made (Answer Succeeds) x y r → (isTaken p r || not (isWaiting p)) ≡ true
   done-heard {x} {p = p} {r = r} s m = go (isWaiting p) refl
     where
       go : (b : Bool) → isWaiting p ≡ b → (isTaken p r || not b) ≡ true
@@ -178,14 +178,14 @@ module _ (es : List MemoryRangeWithNode) (v : World) (o : Observed) (k : Lent es
 
   hearing : (n : ℕ) → Heard v o n
   unfolding traceOf Meanwhile heardIn
-  hearing zero = record { world = v; seen = o; calls = none; meanwhile = tt; heard = refl }
+  hearing zero = record { buffers = v; seen = o; calls = none; meanwhile = tt; heard = refl }
   hearing (suc n) =
       let x = hearing n in
-      let X : Outcome = answerDone (x .world) in
-      let m = any-call (x .world) .made (Answer Succeeds) in
+      let X : Outcome = answerDone (x .buffers) in
+      let m = any-call (x .buffers) .made (Answer Succeeds) in
       record {
-        world = X .world;
-        seen = seesAnswer Succeeds (X .reply) (X .world .pages) (x .seen);
+        buffers = X .buffers;
+        seen = seesAnswer Succeeds (X .reply) (X .buffers .pages) (x .seen);
         calls = call (x .calls) (Answer Succeeds) (X .reply) m;
         meanwhile = x .meanwhile;
         heard = ap₂ (λ (b : Bool) (n : ℕ). cond b 1 0 + n) (done-heard (history-keeps (Lent es) (lent-kept es) (x .calls) k) m) (x .heard) ∙ one-more n;
@@ -211,11 +211,11 @@ module _ (es : List MemoryRangeWithNode) (v : World) (o : Observed) (k : Lent es
       }
 
 -- THE CLAIM, wherever a list of calls from a build stops
-pub every-request-ends : {ram : List ℕ} {i t r : ℕ} {u w v : World} {reply : Reply} {o : Observed} → Built ram i t r u w reply → reply .number ≡ 0 → History w unseen v o → RequestEnds v o
+pub every-request-ends : {ram : List ℕ} {i t r : ℕ} {u w v : Buffers} {reply : Reply} {o : Observed} → Built ram i t r u w reply → reply .number ≡ 0 → History w unseen v o → RequestEnds v o
 every-request-ends {ram} {v = v} {o = o} b d h = lent-ends (entriesOf ram) v o (lent-holds b d h)
 
--- and wherever one stops from a world that is settled
-pub settled-requests-end : {w v : World} {o : Observed} → Settled w → History w (readOff (w .maps)) v o → RequestEnds v o
+-- and wherever one stops from buffers that are settled
+pub settled-requests-end : {w v : Buffers} {o : Observed} → Settled w → History w (readOff (w .maps)) v o → RequestEnds v o
 settled-requests-end {w} {v} {o} k h = lent-ends (entriesIn (w .state)) v o (settled-lent w k h)
 
 -- ---- a request that is under way, of eight pages of RAM: page 3 is shared
@@ -224,7 +224,7 @@ asked-waits : (ps : List ℕ) (r : Reply) (p : List ℕ) (o : Observed) → asks
 asked-waits ps r p o e = ap (λ (b : Bool). isWaiting (cond b (record { op = r; table = p; halted = o .halted; listed = ps; last = o .last; age = o .age }) o)) e ∙ e
 
 abbrev seen8 : Observed
-seen8 = sees sharing8 (asking8 .reply) (asking8 .world .pages) unseen
+seen8 = sees sharing8 (asking8 .reply) (asking8 .buffers .pages) unseen
 
 pub share8-waits : isWaiting seen8 ≡ true
-share8-waits = asked-waits _ (asking8 .reply) (asking8 .world .pages) unseen share8-asks
+share8-waits = asked-waits _ (asking8 .reply) (asking8 .buffers .pages) unseen share8-asks

@@ -8,12 +8,12 @@ use Rattle.laws.specs.Bools.{and-left, and-right}
 use Rattle.layout.specs.Layout.{mapLen}
 use Rattle.mapping.specs.Maps.{marksFit, mapsFit, lengthsOf}
 use Rattle.protector_state.specs.State.{settingsOf, entriesIn}
-use Rattle.call_refusals.specs.World.{World, fits}
+use Rattle.call_refusals.specs.Buffers.{Buffers, fits}
 
-abbrev pub mapsIn : World → Bool
+abbrev pub mapsIn : Buffers → Bool
 mapsIn w = mapsFit (mapLen (entriesIn (w .state))) (settingsOf (w .state) .tracked) (lengthsOf (w .maps))
 
-module _ (w : World) (e : fits w ≡ true) where
+module _ (w : Buffers) (e : fits w ≡ true) where
   marks : marksFit (mapLen (entriesIn (w .state))) (lengthsOf (w .maps)) ≡ true
   marks = and-left _ _ (and-left (mapsIn w) _ e)
 

@@ -17,7 +17,7 @@ use Rattle.request_pages.specs.Request.{wanted}
 use Rattle.request_pages.proofs.Table.{length-table, pages-few}
 use Rattle.protector_state.specs.State.{entriesIn}
 use Rattle.protector_state.specs.Changing.{isChanging}
-use Rattle.call_refusals.specs.World.{World, world, overlaysOf, locksOf, fits}
+use Rattle.call_refusals.specs.Buffers.{Buffers, buffers, overlaysOf, locksOf, fits}
 use Rattle.protector.specs.Calls.{refusedBy, stopOf, tableFor, visibilityTaken, visibilityOf, visibilityDone, visibilityFailed, changeDone, changeFailed, answerDone, answerFailed}
 use Rattle.call_refusals.specs.Refusals.{visibilityRefusal, answerRefusal}
 use Rattle.protection_entries.specs.Calls.{protectionRefusal, allListed, protectionTaken, protectionOf, defaultRefusal, stored, barred, renewedIn, defaultStarted, defaultTaken, defaultOf}
@@ -34,8 +34,8 @@ use Rattle.history.proofs.Deciding.{decides, either}
 use Rattle.history.proofs.Passed.{Fitting}
 use Rattle.history.proofs.Lengths.{step-fitting, change-fitting, tables-fitting, set-fitting, replaced-long, lock-long, unlock-long}
 
-module _ (w : World) (k : Fitting w) where
-  pub visibility-long : (vtl share : ℕ) (l : List ℕ) → Fitting (visibilityOf w vtl share l .world)
+module _ (w : Buffers) (k : Fitting w) where
+  pub visibility-long : (vtl share : ℕ) (l : List ℕ) → Fitting (visibilityOf w vtl share l .buffers)
   unfolding visibilityOf visibilityTaken
   visibility-long vtl share l =
       let v : GuestVtl = vtlOf vtl in
@@ -44,33 +44,33 @@ module _ (w : World) (k : Fitting w) where
       decides Fitting w (visibilityRefusal (w .state) (fits w) (w .tables) vtl share l) (visibilityTaken w v b l) k
       (λ z. step-fitting w (tableFor w v b l) _ (length-table (wanted (w .maps .shared) b) (take (stopOf w v b l) (pagesOf l)) (w .pages) p (omega (arith, length-take (stopOf w v b l) (pagesOf l), pages-few l (taken w vtl share l z .short))) ∙ sym p) k)
 
-  pub answer-long : (g : BackendAnswer) → Fitting (answerOf g w .world)
+  pub answer-long : (g : BackendAnswer) → Fitting (answerOf g w .buffers)
   unfolding answerDone answerFailed
   answer-long Succeeds =
       decides Fitting w (answerRefusal (w .state) (fits w) false) _ k (λ _. either Fitting (isChanging (w .state)) (changeDone w) (visibilityDone w) (change-fitting w (w .pages) _ refl k) (step-fitting w (w .pages) _ refl k))
   answer-long (Fails code n) =
       decides Fitting w (answerRefusal (w .state) (fits w) true) _ k (λ _. either Fitting (isChanging (w .state)) (changeFailed w) (visibilityFailed w code n) (change-fitting w (w .pages) _ refl k) (step-fitting w (w .pages) _ refl k))
 
-  pub protection-long : (vtl flags : ℕ) (l : List ℕ) → Fitting (protectionOf w vtl flags l .world)
+  pub protection-long : (vtl flags : ℕ) (l : List ℕ) → Fitting (protectionOf w vtl flags l .buffers)
   unfolding protectionOf protectionTaken
   protection-long vtl flags l =
       let p = fits-pages w (k .fit) in
       decides Fitting w (protectionRefusal (w .state) (fits w) (w .maps .shared) (w .tables) vtl flags l) (protectionTaken w (vtlOf vtl) flags l) k
       (λ z. change-fitting w (allListed l (w .pages)) _ (length-table (λ p. true) (pagesOf l) (w .pages) p (pages-few l (protection-passed w vtl flags l _ refl z .2)) ∙ sym p) k)
 
-  counted : (v : GuestVtl) (p n : ℕ) → Fitting (counting w v p n .world)
+  counted : (v : GuestVtl) (p n : ℕ) → Fitting (counting w v p n .buffers)
   counted v p n =
       let o : List ℕ = overlaysOf (w .tables) v in
       tables-fitting w _ (replaced-long (641 * vtlNumber v) 641 (w .tables) (countWords o (placeOf o p) n) (length-set o (placeOf o p + 3) n)) k
 
-  pub register-long : (vtl p source checked new : ℕ) → Fitting (registerOf w vtl p source checked new .world)
+  pub register-long : (vtl p source checked new : ℕ) → Fitting (registerOf w vtl p source checked new .buffers)
   unfolding registerOf registerTaken
   register-long vtl p source checked new =
       let v : GuestVtl = vtlOf vtl in
       decides Fitting w (registerRefusal (w .state) (fits w) (w .maps .shared) (w .tables) (currentIn w v p source) vtl p source checked new) (registerTaken w v p source new) k
       (λ _. either Fitting (isOverlay (overlaysOf (w .tables) v) p) (counting w v p (entryIn (w .tables) v p .«ref_count» + 1)) _ (counted v p _) (change-fitting w (w .pages) _ refl k))
 
-  pub unregister-long : (vtl p : ℕ) → Fitting (unregisterOf w vtl p .world)
+  pub unregister-long : (vtl p : ℕ) → Fitting (unregisterOf w vtl p .buffers)
   unfolding unregisterOf unregisterTaken
   unregister-long vtl p =
       let v : GuestVtl = vtlOf vtl in
@@ -81,14 +81,14 @@ module _ (w : World) (k : Fitting w) where
   stored-long Vtl0 flags = set-fitting w 20 flags (omega arith) (omega arith) k
   stored-long Vtl1 flags = set-fitting w 21 flags (omega arith) (omega arith) k
 
-started-long : (w : World) (v : GuestVtl) (flags : ℕ) → Fitting w → Fitting (defaultTaken w v flags .world)
+started-long : (w : Buffers) (v : GuestVtl) (flags : ℕ) → Fitting w → Fitting (defaultTaken w v flags .buffers)
 unfolding defaultTaken defaultStarted
 started-long w v flags k =
     let o : List ℕ = overlaysOf (w .tables) v in
     let r = tables-fitting w _ (replaced-long (641 * vtlNumber v) 641 (w .tables) (renewed (w .maps .private) (entriesIn (w .state)) flags o) (renewed-long (w .maps .private) (entriesIn (w .state)) flags (used o) o 1)) k in
     either Fitting (barred (w .maps .private) (w .state) (w .tables) v) (refusedBy w 10) (defaultStarted (renewedIn w v flags) v flags) k (change-fitting (renewedIn w v flags) (w .pages) _ refl r)
 
-pub default-long : (w : World) → Fitting w → (vtl flags : ℕ) → Fitting (defaultOf w vtl flags .world)
+pub default-long : (w : Buffers) → Fitting w → (vtl flags : ℕ) → Fitting (defaultOf w vtl flags .buffers)
 unfolding defaultOf
 default-long w k vtl flags =
     decides Fitting w (defaultRefusal (w .state) (fits w) vtl flags) (defaultTaken (stored w (vtlOf vtl) flags) (vtlOf vtl) flags) k

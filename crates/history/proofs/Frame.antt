@@ -12,7 +12,7 @@ use Rattle.call_refusals.proofs.Laws.{is-ready}
 use Rattle.permissions.specs.HvError.{codeOf}
 use Rattle.protector_state.specs.Reply.{finished}
 use Rattle.protector_state.specs.State.{stateLen, settingsOf}
-use Rattle.call_refusals.specs.World.{World, world}
+use Rattle.call_refusals.specs.Buffers.{Buffers, buffers}
 use Rattle.setting_entries.specs.Calls.{enableRefusal, enabled, enableOf}
 use Rattle.history.specs.Observed.{Observed}
 use Rattle.history.specs.Call.{Visibility, Protection, Default, Register, Unregister, Lock, Unlock, Enable, Call, Write, Read, Answer, gives, sees}
@@ -30,9 +30,9 @@ setter-frame K s k f = go (eqb (enableRefusal s) 0) refl
         f (passed (settingsOf s .tracked) 23 _ (a .goes) .0) (a .long)
     go false e = k
 
-pub record Framed (K : World → Observed → Type 0) : Type 0 where
-  pub tables : (w : World) (o : Observed) (t : List ℕ) → length t ≡ length (w .tables) → K w o → K (world (w .maps) (w .state) (w .pages) t) o
-  pub setting : (w : World) (o : Observed) → K w o → K (world (w .maps) (set (w .state) 19 1) (w .pages) (w .tables)) o
+pub record Framed (K : Buffers → Observed → Type 0) : Type 0 where
+  pub tables : (w : Buffers) (o : Observed) (t : List ℕ) → length t ≡ length (w .tables) → K w o → K (buffers (w .maps) (w .state) (w .pages) t) o
+  pub setting : (w : Buffers) (o : Observed) → K w o → K (buffers (w .maps) (set (w .state) 19 1) (w .pages) (w .tables)) o
 
 -- the calls that touch neither marks nor request: on locks, the setter, and those that only read
 abbrev pub isApart : Call → Bool
@@ -48,11 +48,11 @@ isApart (Read q) = true
 isApart (Answer g) = false
 
 -- K of what a call leaves and of what is seen then
-abbrev pub After : (World → Observed → Type 0) → Call → World → Observed → Type 0
-After K c w o = K (gives c w .world) (sees c (gives c w .answer) (gives c w .world .pages) o)
+abbrev pub After : (Buffers → Observed → Type 0) → Call → Buffers → Observed → Type 0
+After K c w o = K (gives c w .buffers) (sees c (gives c w .answer) (gives c w .buffers .pages) o)
 
 -- THE FRAME LAW
-pub frame : {K : World → Observed → Type 0} → Framed K → (c : Call) → isApart c ≡ true → (w : World) (o : Observed) → K w o → After K c w o
+pub frame : {K : Buffers → Observed → Type 0} → Framed K → (c : Call) → isApart c ≡ true → (w : Buffers) (o : Observed) → K w o → After K c w o
 frame f (Write (Visibility vtl share list)) e w o k = clash _ e refl
 frame f (Write (Protection vtl flags list)) e w o k = clash _ e refl
 frame f (Write (Default vtl flags)) e w o k = clash _ e refl
@@ -60,6 +60,6 @@ frame f (Write (Register vtl page source checked new)) e w o k = clash _ e refl
 frame f (Write (Unregister vtl page)) e w o k = clash _ e refl
 frame f (Write (Lock vtl list)) e w o k = f .tables w o _ (lock-tables-long (w .state) (w .tables) vtl list) k
 frame f (Write (Unlock vtl list)) e w o k = f .tables w o _ (unlock-tables-long (w .state) (w .tables) vtl list) k
-frame {K} f (Write Enable) e w o k = setter-frame (λ (s : List ℕ). K (world (w .maps) s (w .pages) (w .tables)) o) (w .state) k (λ _ _. f .setting w o k)
+frame {K} f (Write Enable) e w o k = setter-frame (λ (s : List ℕ). K (buffers (w .maps) s (w .pages) (w .tables)) o) (w .state) k (λ _ _. f .setting w o k)
 frame f (Read q) e w o k = k
 frame f (Answer g) e w o k = clash _ e refl

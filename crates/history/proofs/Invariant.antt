@@ -15,16 +15,16 @@ use Rattle.change_steps.specs.declared.Stage.{Stage}
 use Rattle.change_steps.specs.declared.Change.{Change}
 use Rattle.protector_state.specs.State.{ramOf, withRequest}
 use Rattle.protector_state.specs.Changing.{withChange}
-use Rattle.call_refusals.specs.World.{World}
+use Rattle.call_refusals.specs.Buffers.{Buffers}
 use Rattle.protection_entries.specs.Calls.{storedDefault}
 use Rattle.history.specs.Observed.{Observed}
 use Rattle.history.specs.History.{History}
 use Rattle.history.specs.Tables.{TablesFit}
 use Rattle.history.specs.Settings.{SettingsFit}
 use Rattle.history.specs.Permitted.{Permitted}
-use Rattle.history.proofs.World.{Stands}
+use Rattle.history.proofs.Buffers.{Stands}
 use Rattle.history.proofs.Passed.{Fitting}
-use Rattle.history.proofs.Histories.{Keeps, Both, InWorld, product, history-keeps, stands-kept, SnpAges, ages-kept, Lengths, lengths-kept, Unlisted, unlisted-kept}
+use Rattle.history.proofs.Histories.{Keeps, Both, InBuffers, product, history-keeps, stands-kept, SnpAges, ages-kept, Lengths, lengths-kept, Unlisted, unlisted-kept}
 use Rattle.history.proofs.Tabled.{tables-kept}
 use Rattle.history.proofs.PermittedCalls.{permissions-kept}
 use Rattle.history.proofs.StateWords.{Words, words-kept}
@@ -54,7 +54,7 @@ module _ (l : List ℕ) where
 
 -- ---- of the layout es, its words l, and a build with isolation i, tracked t and release flag r
 
-pub record Invariant (es : List MemoryRangeWithNode) (l : List ℕ) (i t r : ℕ) (w : World) (o : Observed) : Type 0 where
+pub record Invariant (es : List MemoryRangeWithNode) (l : List ℕ) (i t r : ℕ) (w : Buffers) (o : Observed) : Type 0 where
   pub stands : Stands es w o
   pub tables : TablesFit es w
   pub permitted : Permitted es w
@@ -65,17 +65,17 @@ pub record Invariant (es : List MemoryRangeWithNode) (l : List ℕ) (i t r : ℕ
   pub ram : ramOf (w .state) ≡ l
 
 module _ (es : List MemoryRangeWithNode) (l : List ℕ) (i t r : ℕ) where
-  abbrev Marks : World → Observed → Type 0
-  Marks = Both (Both (Both (Stands es) (InWorld (TablesFit es))) (InWorld (Permitted es))) (SnpAges (isolationOf i))
+  abbrev Marks : Buffers → Observed → Type 0
+  Marks = Both (Both (Both (Stands es) (InBuffers (TablesFit es))) (InBuffers (Permitted es))) (SnpAges (isolationOf i))
 
-  abbrev Listed : World → Observed → Type 0
+  abbrev Listed : Buffers → Observed → Type 0
   Listed = Both (Both Marks Lengths) Unlisted
 
-  abbrev Set : World → Observed → Type 0
-  Set = Both Listed (InWorld (λ (w : World). SettingsFit i t r (w .state)))
+  abbrev Set : Buffers → Observed → Type 0
+  Set = Both Listed (InBuffers (λ (w : Buffers). SettingsFit i t r (w .state)))
 
-  abbrev All : World → Observed → Type 0
-  All = Both Set (InWorld (λ (w : World). Ram l (w .state)))
+  abbrev All : Buffers → Observed → Type 0
+  All = Both Set (InBuffers (λ (w : Buffers). Ram l (w .state)))
 
   marks-kept : Keeps Marks
   marks-kept = product (product (product (stands-kept es) (tables-kept es)) (permissions-kept es)) (λ c w o k. ages-kept es (isolationOf i) c w o (k .first .first))
@@ -87,7 +87,7 @@ module _ (es : List MemoryRangeWithNode) (l : List ℕ) (i t r : ℕ) where
   all-kept = product (product listed-kept (words-kept (SettingsFit i t r) (settings-words i t r) Listed)) (words-kept (Ram l) (ram-words l) Set)
 
   -- every list of calls keeps it
-  pub invariant-kept : {w v : World} {a o : Observed} → History w a v o → Invariant es l i t r w a → Invariant es l i t r v o
+  pub invariant-kept : {w v : Buffers} {a o : Observed} → History w a v o → Invariant es l i t r w a → Invariant es l i t r v o
   invariant-kept h k =
       let x =
       history-keeps All all-kept h

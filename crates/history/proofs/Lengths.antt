@@ -23,12 +23,12 @@ use Rattle.change_steps.specs.declared.Change.{Change}
 use Rattle.change_steps.specs.declared.ChangeStep.{ChangeStep}
 use Rattle.protector_state.specs.State.{stateLen, requestWords, withRequest, settingsOf, entriesIn}
 use Rattle.protector_state.specs.Changing.{changeWords, withChange}
-use Rattle.call_refusals.specs.World.{World, world, overlaysOf}
+use Rattle.call_refusals.specs.Buffers.{Buffers, buffers, overlaysOf}
 use Rattle.protector.specs.Writes.{applied, withoutPage, entered}
 use Rattle.protector.specs.Calls.{carriedOut, carriedChange}
 use Rattle.visibility_claims.proofs.Ends.{change-entries}
 use Rattle.change_claims.proofs.Tables.{add-long, without-long}
-use Rattle.history.proofs.World.{request-entries}
+use Rattle.history.proofs.Buffers.{request-entries}
 use Rattle.history.proofs.Calls.{set-entries}
 use Rattle.history.proofs.Passed.{Fitting}
 
@@ -88,9 +88,9 @@ entered-long Keep q t = refl
 entered-long Add q t = replaced-long (641 * vtlNumber (q .vtl)) 641 t (addWords (overlaysOf t (q .vtl)) (entry (q .at) (q .previous) (q .flags) 1 (q .source))) (add-long (overlaysOf t (q .vtl)) (entry (q .at) (q .previous) (q .flags) 1 (q .source)))
 entered-long Remove q t = replaced-long (641 * vtlNumber (q .vtl)) 641 t (withoutPage (overlaysOf t (q .vtl)) (q .at)) (without-long (overlaysOf t (q .vtl)) (q .at))
 
--- ---- two worlds whose lengths, layout and tracking are the same
+-- ---- buffers whose lengths, layout and tracking are the same
 
-pub record Same (w v : World) : Type 0 where
+pub record Same (w v : Buffers) : Type 0 where
   pub state : length (v .state) ≡ length (w .state)
   pub entries : entriesIn (v .state) ≡ entriesIn (w .state)
   pub tracked : settingsOf (v .state) .tracked ≡ settingsOf (w .state) .tracked
@@ -103,7 +103,7 @@ pub record Same (w v : World) : Type 0 where
   pub pages : length (v .pages) ≡ length (w .pages)
   pub tables : length (v .tables) ≡ length (w .tables)
 
-pub same-fitting : (w v : World) → Same w v → Fitting w → Fitting v
+pub same-fitting : (w v : Buffers) → Same w v → Fitting w → Fitting v
 same-fitting w v s k =
     record { long = s .state ∙ k .long; fit = rw (s .entries, s .tracked, s .private, s .shared, s .read, s .write, s .kernel, s .user, s .pages, s .tables) (k .fit) }
 
@@ -115,7 +115,7 @@ request-long p q s e = length-append (requestWords p q) (drop 10 s) ∙ omega (a
 change-long : (g : Stage) (q : Change) (s : List ℕ) → length s ≡ stateLen → length (withChange g q s) ≡ length s
 change-long g q s e = length-append (changeWords g q) (drop 14 s) ∙ omega (arith, length-drop 14 s, e)
 
-pub step-fitting : (w : World) (t : List ℕ) (x : Step) → length t ≡ length (w .pages) → Fitting w → Fitting (carriedOut w t x .world)
+pub step-fitting : (w : Buffers) (t : List ℕ) (x : Step) → length t ≡ length (w .pages) → Fitting w → Fitting (carriedOut w t x .buffers)
 unfolding carriedOut applied put
 step-fitting w t x e k =
     same-fitting w _
@@ -133,7 +133,7 @@ step-fitting w t x e k =
       tables = refl;
     }) k
 
-pub change-fitting : (w : World) (t : List ℕ) (x : ChangeStep) → length t ≡ length (w .pages) → Fitting w → Fitting (carriedChange w t x .world)
+pub change-fitting : (w : Buffers) (t : List ℕ) (x : ChangeStep) → length t ≡ length (w .pages) → Fitting w → Fitting (carriedChange w t x .buffers)
 unfolding carriedChange
 change-fitting w t x e k =
     same-fitting w _
@@ -153,11 +153,11 @@ change-fitting w t x e k =
 
 -- ---- other tables, and another word of the state block
 
-pub tables-fitting : (w : World) (t : List ℕ) → length t ≡ length (w .tables) → Fitting w → Fitting (world (w .maps) (w .state) (w .pages) t)
+pub tables-fitting : (w : Buffers) (t : List ℕ) → length t ≡ length (w .tables) → Fitting w → Fitting (buffers (w .maps) (w .state) (w .pages) t)
 tables-fitting w t e k =
     same-fitting w _ (record { state = refl; entries = refl; tracked = refl; private = refl; shared = refl; read = refl; write = refl; kernel = refl; user = refl; pages = refl; tables = e }) k
 
-pub set-fitting : (w : World) (i x : ℕ) → 17 < i → i < 31 → Fitting w → Fitting (world (w .maps) (set (w .state) i x) (w .pages) (w .tables))
+pub set-fitting : (w : Buffers) (i x : ℕ) → 17 < i → i < 31 → Fitting w → Fitting (buffers (w .maps) (set (w .state) i x) (w .pages) (w .tables))
 set-fitting w i x low high k =
     same-fitting w _
     (record {

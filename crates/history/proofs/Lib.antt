@@ -5,7 +5,7 @@ pub mod Bits
 pub mod Right
 pub mod Steps
 pub mod Start
-pub mod World
+pub mod Buffers
 pub mod Answers
 pub mod Calls
 pub mod Others

@@ -16,7 +16,7 @@ use Rattle.page_list.specs.Pages.{pagesOf, isLong}
 use Rattle.request_pages.proofs.Table.{pages-few}
 use Rattle.lock_table.specs.Locks as locks
 use Rattle.lock_table.specs.Locks.{Fit, roomFor, same, lastOf, allButLast, lastFirst, unlocked}
-use Rattle.call_refusals.specs.World.{overlaysOf, locksOf}
+use Rattle.call_refusals.specs.Buffers.{overlaysOf, locksOf}
 use Rattle.lock_entries.specs.Calls.{Kept, ended, lockRefusal, lockOf, unlockOf}
 use Rattle.lock_entries.specs.Lists.{Lists, lists, listsAt, withLists, Holds, Makes}
 use Rattle.lock_entries.proofs.Lists.{lock-room, lock-full, unlock-found, unlock-none, lock-refused, unlock-refused}

@@ -9,7 +9,7 @@ use borrow.Author.Tests.{eqb-true, ne-eqb}
 use Rattle.abi.specs.Refusals as refusal
 use Rattle.laws.specs.Refusal.{passed, when-passed}
 use Rattle.protector_state.specs.State.{stateLen}
-use Rattle.call_refusals.specs.World.{World, Outcome, tablesLen, fits, statusIn, takesIn}
+use Rattle.call_refusals.specs.Buffers.{Buffers, Outcome, tablesLen, fits, statusIn, takesIn}
 use Rattle.protector.specs.Calls.{refusedBy, decided}
 use Rattle.call_refusals.specs.Refusals.{answerRefusal}
 use Rattle.visibility_claims.specs.Whole.{BackendAnswer}
@@ -20,15 +20,15 @@ use Rattle.history.proofs.Bits.{clash}
 use Rattle.history.proofs.Answers.{chain, counts, chain-untaken}
 
 -- nothing is of another length where the state block has its length and what else is lent fits
-pub not-fitting : (u x : World) → OtherLengths u x → Fitting x → ⊥
+pub not-fitting : (u x : Buffers) → OtherLengths u x → Fitting x → ⊥
 not-fitting u x (block f) k = f (k .long)
 not-fitting u x (other e f) k = clash (fits x) (k .fit) f
 
-pub not-lent : (u x : World) → OtherLockLengths u x → Passed x (eqb (length (x .tables)) tablesLen) → ⊥
+pub not-lent : (u x : Buffers) → OtherLockLengths u x → Passed x (eqb (length (x .tables)) tablesLen) → ⊥
 not-lent u x (lockBlock f) k = f (k .long)
 not-lent u x (lockTables _ f) k = f (eqb-true _ _ (k .fits))
 
-pub answer-fitting : (x : World) (failed : Bool) → answerRefusal (x .state) (fits x) failed ≡ 0 → Fitting x
+pub answer-fitting : (x : Buffers) (failed : Bool) → answerRefusal (x .state) (fits x) failed ≡ 0 → Fitting x
 unfolding answerRefusal
 answer-fitting x failed z =
     let a = passed (eqb (length (x .state)) stateLen) 3 _ z in
@@ -36,7 +36,7 @@ answer-fitting x failed z =
     record { long = eqb-true _ _ (a .0); fit = passed (fits x) 3 _ (b .1) .0 }
 
 -- an answer refused so
-module _ (u x : World) (o : Observed) (halts : o .halted ≡ eqb (statusIn (u .state)) refusal.halted) (failed : Bool) (T : Outcome) (s : OtherLengths u x) where
+module _ (u x : Buffers) (o : Observed) (halts : o .halted ≡ eqb (statusIn (u .state)) refusal.halted) (failed : Bool) (T : Outcome) (s : OtherLengths u x) where
   abbrev A : Bool
   A = eqb (length (x .state)) stateLen
 
@@ -75,8 +75,8 @@ module _ (u x : World) (o : Observed) (halts : o .halted ≡ eqb (statusIn (u .s
   untaken-seen = ap (λ (X : Outcome). isTaken o (X .reply)) refused-answer ∙ untaken s
 
   pub answer-other-lengths : (K : Observed → Type 0) (g : BackendAnswer) → K o
-      → K (seesAnswer g (decided x (answerRefusal (x .state) (fits x) failed) T .reply) (decided x (answerRefusal (x .state) (fits x) failed) T .world .pages) o)
+      → K (seesAnswer g (decided x (answerRefusal (x .state) (fits x) failed) T .reply) (decided x (answerRefusal (x .state) (fits x) failed) T .buffers .pages) o)
   unfolding answerRefusal
   answer-other-lengths K g k =
-      subst (λ (X : Outcome). K (seesAnswer g (X .reply) (X .world .pages) o)) (sym refused-answer)
+      subst (λ (X : Outcome). K (seesAnswer g (X .reply) (X .buffers .pages) o)) (sym refused-answer)
       (subst (λ (b : Bool). K (cond b (seesTaken g (refusedBy x (chain A H (fits x) D) .reply) (x .pages) o) o)) (sym (untaken s)) k)

@@ -6,7 +6,7 @@ use lib.Dec.{eqb}
 use lib.ListN.{length}
 use Rattle.permissions.specs.Flags.{vtlOf}
 use Rattle.protector_state.specs.State.{stateLen}
-use Rattle.call_refusals.specs.World.{World, tablesLen, fits, statusIn}
+use Rattle.call_refusals.specs.Buffers.{Buffers, tablesLen, fits, statusIn}
 use Rattle.call_refusals.specs.Refusals.{ready, visibilityRefusal}
 use Rattle.call_refusals.proofs.Laws.{is-ready}
 use Rattle.protection_entries.specs.Calls.{protectionRefusal, defaultRefusal}
@@ -18,7 +18,7 @@ use Rattle.history.specs.Call.{Writer, Visibility, Protection, Default, 
 
 -- ---- the number that a call is refused by, and the test of what it is lent beside the state block
 
-abbrev pub refusalIn : Writer → World → ℕ
+abbrev pub refusalIn : Writer → Buffers → ℕ
 refusalIn (Visibility vtl share list) x = visibilityRefusal (x .state) (fits x) (x .tables) vtl share list
 refusalIn (Protection vtl flags list) x = protectionRefusal (x .state) (fits x) (x .maps .shared) (x .tables) vtl flags list
 refusalIn (Default vtl flags) x = defaultRefusal (x .state) (fits x) vtl flags
@@ -28,7 +28,7 @@ refusalIn (Lock vtl list) x = lockRefusal (x .state) (length (x .tables)) vtl li
 refusalIn (Unlock vtl list) x = lockRefusal (x .state) (length (x .tables)) vtl list
 refusalIn Enable x = enableRefusal (x .state)
 
-abbrev pub lentFits : Writer → World → Bool
+abbrev pub lentFits : Writer → Buffers → Bool
 lentFits (Visibility vtl share list) x = fits x
 lentFits (Protection vtl flags list) x = fits x
 lentFits (Default vtl flags) x = fits x
@@ -38,15 +38,15 @@ lentFits (Lock vtl list) x = eqb (length (x .tables)) tablesLen
 lentFits (Unlock vtl list) x = eqb (length (x .tables)) tablesLen
 lentFits Enable x = true
 
-pub record Passed (x : World) (fit : Bool) : Type 0 where
+pub record Passed (x : Buffers) (fit : Bool) : Type 0 where
   pub long : length (x .state) ≡ stateLen
   pub idle : statusIn (x .state) ≡ 0
   pub fits : fit ≡ true
 
-by-ready : (x : World) (fit : Bool) (rest : ℕ) → ready (x .state) fit rest ≡ 0 → Passed x fit
+by-ready : (x : Buffers) (fit : Bool) (rest : ℕ) → ready (x .state) fit rest ≡ 0 → Passed x fit
 by-ready x fit rest z = let k = is-ready (x .state) fit rest z in record { long = k .long; idle = k .idle; fits = k .fits }
 
-pub passed-in : (a : Writer) (x : World) → refusalIn a x ≡ 0 → Passed x (lentFits a x)
+pub passed-in : (a : Writer) (x : Buffers) → refusalIn a x ≡ 0 → Passed x (lentFits a x)
 unfolding visibilityRefusal protectionRefusal defaultRefusal callRefusal registerRefusal unregisterRefusal lockRefusal enableRefusal
 passed-in (Visibility vtl share list) x z = by-ready x _ _ z
 passed-in (Protection vtl flags list) x z = by-ready x _ _ z
@@ -59,9 +59,9 @@ passed-in Enable x z = by-ready x _ _ z
 
 -- ---- a state block of its length, and all else as it should be
 
-pub record Fitting (x : World) : Type 0 where
+pub record Fitting (x : Buffers) : Type 0 where
   pub long : length (x .state) ≡ stateLen
   pub fit : fits x ≡ true
 
-pub fitting : (x : World) → Passed x (fits x) → Fitting x
+pub fitting : (x : Buffers) → Passed x (fits x) → Fitting x
 fitting x k = record { long = k .long; fit = k .fits }

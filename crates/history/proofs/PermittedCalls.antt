@@ -38,7 +38,7 @@ use Rattle.change_steps.specs.declared.ChangeStep.{ChangeStep}
 use Rattle.change_steps.specs.Changes.{changeOf, startNew}
 use Rattle.protector_state.specs.State.{stateLen, firstPhases, phaseOf, phaseIn, requestOf, settingsOf, entriesIn}
 use Rattle.protector_state.specs.Changing.{stageOf, stageIn, isChanging, changeIn, withChange}
-use Rattle.call_refusals.specs.World.{World, world, overlaysOf, locksOf, fits, statusOf, statusIn, takes, takesAt, takesIn}
+use Rattle.call_refusals.specs.Buffers.{Buffers, buffers, overlaysOf, locksOf, fits, statusOf, statusIn, takes, takesAt, takesIn}
 use Rattle.protector.specs.Writes.{applied}
 use Rattle.protector.specs.Calls.{refusedBy, carriedOut, carriedChange, stopOf, askedFor, tableFor, visibilityTaken, visibilityOf, pieceAfter, nextIn, afterDone, afterFailed, visibilityDone, visibilityFailed, changeDone, changeFailed, answerDone, answerFailed}
 use Rattle.call_refusals.specs.Refusals.{visibilityRefusal, answerRefusal}
@@ -62,9 +62,9 @@ use Rattle.history.proofs.OtherLengths.{answer-fitting}
 use Rattle.history.proofs.Deciding.{decides, either}
 use Rattle.history.proofs.Entries.{overlays-entry, overlays-own}
 use Rattle.history.proofs.Tabled.{fresh-page}
-use Rattle.history.proofs.World.{Stands, phase-waits}
+use Rattle.history.proofs.Buffers.{Stands, phase-waits}
 use Rattle.history.proofs.Frame.{Framed, frame}
-use Rattle.history.proofs.Histories.{Both, InWorld, KeepsWith}
+use Rattle.history.proofs.Histories.{Both, InBuffers, KeepsWith}
 use Rattle.history.proofs.PermittedSteps.{written-ram, places-ram, piece-all, Narrow, done-narrow, failed-narrow, start-narrow, Safe, safe-pages, safe-ram, safe-done, safe-failed, safe-new, safe-old}
 
 -- ---- which pages are listed, read from the state block
@@ -94,7 +94,7 @@ module _ (es : List MemoryRangeWithNode) where
 
   -- ---- steps carried out
 
-  pub change-permits : (w : World) (t : List ℕ) (x : ChangeStep) → Inside es (w .maps .permissions) → Safe es t x → Permitted es (carriedChange w t x .world)
+  pub change-permits : (w : Buffers) (t : List ℕ) (x : ChangeStep) → Inside es (w .maps .permissions) → Safe es t x → Permitted es (carriedChange w t x .buffers)
   unfolding carriedChange
   change-permits w t x k f =
       let R : ℕ → Bool = between (x .written .first) (x .written .first + x .written .count) in
@@ -109,7 +109,7 @@ module _ (es : List MemoryRangeWithNode) where
         listed = λ e. fewer (x .change .n) (min (x .change .n) 512) t (omega arith) (f .listed (listing-change (x .stage) (x .change) (w .state) e));
       }
 
-  pub step-permits : (w : World) (t : List ℕ) (n : ℕ) (x : Step) → Inside es (w .maps .permissions) → Narrow n x → OnRam es n t → Permitted es (carriedOut w t x .world)
+  pub step-permits : (w : Buffers) (t : List ℕ) (n : ℕ) (x : Step) → Inside es (w .maps .permissions) → Narrow n x → OnRam es n t → Permitted es (carriedOut w t x .buffers)
   unfolding carriedOut applied put
   step-permits w t n x k f h =
       let a : ℕ = x .writes .permissions .from in
@@ -128,20 +128,20 @@ module _ (es : List MemoryRangeWithNode) where
       }
 
   -- the same maps, pages and words: tables may differ
-  tables-permit : (w : World) (u : List ℕ) → Permitted es w → Permitted es (world (w .maps) (w .state) (w .pages) u)
+  tables-permit : (w : Buffers) (u : List ℕ) → Permitted es w → Permitted es (buffers (w .maps) (w .state) (w .pages) u)
   tables-permit w u k = record { inside = k .inside; listed = k .listed }
 
-  set-permits : (w : World) (i x : ℕ) → 13 < i → Permitted es w → Permitted es (world (w .maps) (set (w .state) i x) (w .pages) (w .tables))
+  set-permits : (w : Buffers) (i x : ℕ) → 13 < i → Permitted es w → Permitted es (buffers (w .maps) (set (w .state) i x) (w .pages) (w .tables))
   set-permits w i x h k = record { inside = k .inside; listed = rw (word 0 (omega arith), word 3 (omega arith)) (k .listed) }
     where
       word : (j : ℕ) → j < 14 → getD (set (w .state) i x) j 0 ≡ getD (w .state) j 0
       word j d = getD-set-other (w .state) i j x 0 (λ e. omega (arith, h, d, e))
 
-  stored-permits : (w : World) (v : GuestVtl) (flags : ℕ) → Permitted es w → Permitted es (stored w v flags)
+  stored-permits : (w : Buffers) (v : GuestVtl) (flags : ℕ) → Permitted es w → Permitted es (stored w v flags)
   stored-permits w Vtl0 flags k = set-permits w 20 flags (omega arith) k
   stored-permits w Vtl1 flags k = set-permits w 21 flags (omega arith) k
 
-  permits-framed : Framed (InWorld (Permitted es))
+  permits-framed : Framed (InBuffers (Permitted es))
   permits-framed = record { tables = λ w o t _ k. tables-permit w t k; setting = λ w o k. set-permits w 19 1 (omega arith) k }
 
   -- a piece of a default change is private, and so RAM
@@ -163,16 +163,16 @@ module _ (es : List MemoryRangeWithNode) where
   after-ram stage.Flush private overlays ram a f z e = absurd (omega (arith, between-to 0 0 z e))
   after-ram stage.TlbWait private overlays ram a f z e = absurd (omega (arith, between-to 0 0 z e))
 
-  default-permits : (w : World) → ((z : ℕ) → Has (w .maps .private) z → isRam es z ≡ true) → Permitted es w → (v : GuestVtl) (flags : ℕ) → Permitted es (defaultTaken w v flags .world)
+  default-permits : (w : Buffers) → ((z : ℕ) → Has (w .maps .private) z → isRam es z ≡ true) → Permitted es w → (v : GuestVtl) (flags : ℕ) → Permitted es (defaultTaken w v flags .buffers)
   unfolding defaultTaken defaultStarted
   default-permits w f k v flags =
-      let r : World = renewedIn w v flags in
+      let r : Buffers = renewedIn w v flags in
       either (Permitted es) (barred (w .maps .private) (w .state) (w .tables) v) (refusedBy w 10) (defaultStarted r v flags) k
       (change-permits r (w .pages) _ (k .inside)
       (safe-ram es (w .pages) (settingsOf (w .state) .tracked) (changeOf v flags 0) (firstPiece (w .maps .private) (w .state) (r .tables) v) (piece-ram (w .maps .private) (overlaysOf (r .tables) v) (entriesIn (w .state)) 0 f)))
 
   -- the pages that a protection change lists, once it is taken
-  module _ (w : World) (layout : entriesIn (w .state) ≡ es) (vtl flags : ℕ) (l : List ℕ) (z : protectionRefusal (w .state) (fits w) (w .maps .shared) (w .tables) vtl flags l ≡ 0) where
+  module _ (w : Buffers) (layout : entriesIn (w .state) ≡ es) (vtl flags : ℕ) (l : List ℕ) (z : protectionRefusal (w .state) (fits w) (w .maps .shared) (w .tables) vtl flags l ≡ 0) where
     listed-each : (length l ≤ 4096) × (eachRefusal (w .state) (w .tables) (vtlOf vtl) l ≡ 0)
     unfolding protectionRefusal
     listed-each =
@@ -194,8 +194,8 @@ module _ (es : List MemoryRangeWithNode) where
 
   -- ---- the calls
 
-  module _ (w : World) (o : Observed) (k : Both (Stands es) (InWorld (TablesFit es)) w o) (p : Permitted es w) where
-    visibility-permits : (vtl share : ℕ) (l : List ℕ) → Permitted es (visibilityOf w vtl share l .world)
+  module _ (w : Buffers) (o : Observed) (k : Both (Stands es) (InBuffers (TablesFit es)) w o) (p : Permitted es w) where
+    visibility-permits : (vtl share : ℕ) (l : List ℕ) → Permitted es (visibilityOf w vtl share l .buffers)
     unfolding visibilityOf visibilityTaken
     visibility-permits vtl share l =
         decides (Permitted es) w (visibilityRefusal (w .state) (fits w) (w .tables) vtl share l) _ p
@@ -227,11 +227,11 @@ module _ (es : List MemoryRangeWithNode) where
       paged : isChanging (w .state) ≡ true → isPages (stageIn (w .state)) ≡ true → OnRam es (requestOf (w .state) .n) (w .pages)
       paged e d = p .listed (ap (λ (b : Bool). cond b (isPages (stageIn (w .state))) (eqb (statusOf (phaseIn (w .state))) refusal.busy)) e ∙ d)
 
-    answer-permits : (g : BackendAnswer) → Permitted es (answerOf g w .world)
+    answer-permits : (g : BackendAnswer) → Permitted es (answerOf g w .buffers)
     unfolding answerDone answerFailed afterDone afterFailed
     answer-permits Succeeds = decides (Permitted es) w (answerRefusal (w .state) (fits w) false) _ p (λ z. go z (isChanging (w .state)) refl)
       where
-        go : answerRefusal (w .state) (fits w) false ≡ 0 → (c : Bool) → isChanging (w .state) ≡ c → Permitted es (cond c (changeDone w) (visibilityDone w) .world)
+        go : answerRefusal (w .state) (fits w) false ≡ 0 → (c : Bool) → isChanging (w .state) ≡ c → Permitted es (cond c (changeDone w) (visibilityDone w) .buffers)
         go z true e =
             change-permits w (w .pages) _ (p .inside)
             (safe-done es (w .pages) (settingsOf (w .state) .tracked) (stageIn (w .state)) (changeIn (w .state)) (nextIn (w .maps .private) (w .state) (w .tables)) (long false z) (paged false z e)
@@ -239,11 +239,11 @@ module _ (es : List MemoryRangeWithNode) where
         go z false e = step-permits w (w .pages) (requestOf (w .state) .n) _ (p .inside) (done-narrow (settingsOf (w .state)) (w .pages) (phaseIn (w .state)) (requestOf (w .state))) (visible false z e)
     answer-permits (Fails code n) = decides (Permitted es) w (answerRefusal (w .state) (fits w) true) _ p (λ z. go z (isChanging (w .state)) refl)
       where
-        go : answerRefusal (w .state) (fits w) true ≡ 0 → (c : Bool) → isChanging (w .state) ≡ c → Permitted es (cond c (changeFailed w) (visibilityFailed w code n) .world)
+        go : answerRefusal (w .state) (fits w) true ≡ 0 → (c : Bool) → isChanging (w .state) ≡ c → Permitted es (cond c (changeFailed w) (visibilityFailed w code n) .buffers)
         go z true e = change-permits w (w .pages) _ (p .inside) (safe-failed es (w .pages) (stageIn (w .state)) (changeIn (w .state)) (takes-change true z true e))
         go z false e = step-permits w (w .pages) (requestOf (w .state) .n) _ (p .inside) (failed-narrow (settingsOf (w .state)) (w .pages) (phaseIn (w .state)) (requestOf (w .state)) code n) (visible true z e)
 
-    protection-permits : (vtl flags : ℕ) (l : List ℕ) → Permitted es (protectionOf w vtl flags l .world)
+    protection-permits : (vtl flags : ℕ) (l : List ℕ) → Permitted es (protectionOf w vtl flags l .buffers)
     unfolding protectionOf protectionTaken
     protection-permits vtl flags l =
         decides (Permitted es) w (protectionRefusal (w .state) (fits w) (w .maps .shared) (w .tables) vtl flags l) _ p
@@ -253,10 +253,10 @@ module _ (es : List MemoryRangeWithNode) where
         change-permits w (allListed l (w .pages)) _ (p .inside)
         (safe-pages es (allListed l (w .pages)) (settingsOf (w .state) .tracked) (changeOf (vtlOf vtl) flags (length (pagesOf l))) 0 (omega (arith, few, long)) (listed-ram w (k .first .layout) vtl flags l z)))
 
-    counted : (v : GuestVtl) (page n : ℕ) → Permitted es (counting w v page n .world)
+    counted : (v : GuestVtl) (page n : ℕ) → Permitted es (counting w v page n .buffers)
     counted v page n = tables-permit w _ p
 
-    unregister-permits : (vtl page : ℕ) → Permitted es (unregisterOf w vtl page .world)
+    unregister-permits : (vtl page : ℕ) → Permitted es (unregisterOf w vtl page .buffers)
     unfolding unregisterOf unregisterTaken unregisterRefusal
     unregister-permits vtl page =
         decides (Permitted es) w (unregisterRefusal (w .state) (fits w) (w .tables) vtl page) (unregisterTaken w v page) p
@@ -268,14 +268,14 @@ module _ (es : List MemoryRangeWithNode) where
         e : OverlayPage
         e = entryIn (w .tables) v page
 
-        go : isOverlay (overlaysOf (w .tables) v) page ≡ true → Permitted es (unregisterTaken w v page .world)
+        go : isOverlay (overlaysOf (w .tables) v) page ≡ true → Permitted es (unregisterTaken w v page .buffers)
         go h =
             let own = overlays-own es (overlaysOf (w .tables) v) (k .second .tables .overlays v) page h in
             let fit = overlays-entry es (overlaysOf (w .tables) v) (k .second .tables .overlays v) page h in
             either (Permitted es) (ltb 1 (e .«ref_count»)) (counting w v page (e .«ref_count» - 1)) _ (counted v page _)
             (change-permits w (w .pages) _ (p .inside) (safe-old es (w .pages) (settingsOf (w .state) .tracked) v page (e .«previous_permissions») (e .«gpn_source») (ap (isRam es) (sym own) ∙ fit .page)))
 
-    register-permits : (vtl page source checked new : ℕ) → Permitted es (registerOf w vtl page source checked new .world)
+    register-permits : (vtl page source checked new : ℕ) → Permitted es (registerOf w vtl page source checked new .buffers)
     unfolding registerOf registerTaken registerRefusal
     register-permits vtl page source checked new =
         decides (Permitted es) w (registerRefusal (w .state) (fits w) (w .maps .shared) (w .tables) (currentIn w v page source) vtl page source checked new) (registerTaken w v page source new) p
@@ -293,14 +293,14 @@ module _ (es : List MemoryRangeWithNode) where
         x = startNew (settingsOf (w .state) .tracked) v page source (bitsOf (currentIn w v page source)) new
 
         go : source < 2 → tests.pageRefusal (entriesIn (w .state)) (w .maps .shared) o′ (locksOf (w .tables) v) page source (currentIn w v page source) checked new ≡ 0
-            → (b : Bool) → isOverlay o′ page ≡ b → Permitted es (cond b (counting w v page (entryIn (w .tables) v page .«ref_count» + 1)) (carriedChange w (w .pages) x) .world)
+            → (b : Bool) → isOverlay o′ page ≡ b → Permitted es (cond b (counting w v page (entryIn (w .tables) v page .«ref_count» + 1)) (carriedChange w (w .pages) x) .buffers)
         go two z true h = counted v page _
         go two z false h =
             let c = fresh-page (entriesIn (w .state)) (w .maps .shared) o′ (locksOf (w .tables) v) page source (currentIn w v page source) checked new two h z in
             change-permits w (w .pages) x (p .inside)
             (safe-new es (w .pages) (settingsOf (w .state) .tracked) v page source (bitsOf (currentIn w v page source)) new (ap (λ (y : List MemoryRangeWithNode). isRam y page) (sym (k .first .layout)) ∙ c .page))
 
-    permits-writer : (a : Writer) → Permitted es (givesWriter a w .world)
+    permits-writer : (a : Writer) → Permitted es (givesWriter a w .buffers)
     unfolding defaultOf
     permits-writer (Visibility vtl share list) = visibility-permits vtl share list
     permits-writer (Protection vtl flags list) = protection-permits vtl flags list
@@ -313,10 +313,10 @@ module _ (es : List MemoryRangeWithNode) where
     permits-writer (Unlock vtl list) = frame permits-framed (Write (Unlock vtl list)) refl w o p
     permits-writer Enable = frame permits-framed (Write Enable) refl w o p
 
-    permits-step : (c : Call) → Permitted es (gives c w .world)
+    permits-step : (c : Call) → Permitted es (gives c w .buffers)
     permits-step (Write a) = permits-writer a
     permits-step (Read q) = frame permits-framed (Read q) refl w o p
     permits-step (Answer g) = answer-permits g
 
-pub permissions-kept : (es : List MemoryRangeWithNode) → KeepsWith (Both (Stands es) (InWorld (TablesFit es))) (InWorld (Permitted es))
+pub permissions-kept : (es : List MemoryRangeWithNode) → KeepsWith (Both (Stands es) (InBuffers (TablesFit es))) (InBuffers (Permitted es))
 permissions-kept es c w o k p = permits-step es w o k p c

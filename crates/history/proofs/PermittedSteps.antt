@@ -37,7 +37,7 @@ use Rattle.change_steps.specs.declared.Entry.the-variants.{Keep}
 use Rattle.change_steps.specs.declared.Change.{Change}
 use Rattle.change_steps.specs.declared.ChangeStep.{ChangeStep}
 use Rattle.change_steps.specs.Changes as changes
-use Rattle.call_refusals.specs.World.{takesAt}
+use Rattle.call_refusals.specs.Buffers.{takesAt}
 use Rattle.history.specs.Marks.{Has}
 use Rattle.history.specs.Permitted.{OnRam, isPages}
 use Rattle.history.proofs.Bits.{clash, of-part, set-cases, clear-kept}

@@ -13,7 +13,7 @@ use Rattle.permissions.specs.Flags.{vtlOf, boolOf}
 use Rattle.page_list.specs.Pages.{pagesOf}
 use Rattle.protector_state.specs.declared.Reply.{Reply}
 use Rattle.protector_state.specs.Changing.{isChanging}
-use Rattle.call_refusals.specs.World.{World, world, Outcome, fits, statusIn, lengthsIn}
+use Rattle.call_refusals.specs.Buffers.{Buffers, buffers, Outcome, fits, statusIn, lengthsIn}
 use Rattle.protector.specs.Calls.{refusedBy, decided, buildTaken, buildOf, visibilityTaken, visibilityOf, visibilityDone, visibilityFailed, changeDone, changeFailed, answerDone, answerFailed}
 use Rattle.call_refusals.specs.Refusals.{buildFits, buildRefusal, answerRefusal}
 use Rattle.protection_entries.specs.Calls.{protectionTaken, protectionOf, stored, defaultTaken, defaultOf}
@@ -32,18 +32,18 @@ use Rattle.history.proofs.Passed.{refusalIn, lentFits, Passed, passed-i
 use Rattle.history.proofs.OtherLengths.{not-fitting, not-lent, answer-fitting, untaken-seen, answer-other-lengths}
 
 -- nothing comes of it: it leaves what it was lent, and nothing is seen
-pub record NoEffect (x : World) (X : Effect Reply) (view : Reply → List ℕ → Observed → Observed) : Type 0 where
-  pub keeps : X .world ≡ x
-  pub unseen : (o : Observed) → view (X .answer) (X .world .pages) o ≡ o
+pub record NoEffect (x : Buffers) (X : Effect Reply) (view : Reply → List ℕ → Observed → Observed) : Type 0 where
+  pub keeps : X .buffers ≡ x
+  pub unseen : (o : Observed) → view (X .answer) (X .buffers .pages) o ≡ o
 
-refused : (x : World) (n : ℕ) (T : Outcome) → (n ≡ 0 → ⊥) → decided x n T ≡ refusedBy x n
+refused : (x : Buffers) (n : ℕ) (T : Outcome) → (n ≡ 0 → ⊥) → decided x n T ≡ refusedBy x n
 refused x n T f = ap (λ (b : Bool). cond b T (refusedBy x n)) (ne-eqb n 0 f)
 
-call-no-effect : (ps : List ℕ) (x : World) (n : ℕ) (T : Outcome) → (n ≡ 0 → ⊥) → NoEffect x (replied (decided x n T)) (seesCall ps)
+call-no-effect : (ps : List ℕ) (x : Buffers) (n : ℕ) (T : Outcome) → (n ≡ 0 → ⊥) → NoEffect x (replied (decided x n T)) (seesCall ps)
 call-no-effect ps x n T f =
-    record { keeps = ap (λ (X : Outcome). X .world) (refused x n T f); unseen = λ o. ap (λ (X : Outcome). seesCall ps (X .reply) (X .world .pages) o) (refused x n T f) }
+    record { keeps = ap (λ (X : Outcome). X .buffers) (refused x n T f); unseen = λ o. ap (λ (X : Outcome). seesCall ps (X .reply) (X .buffers .pages) o) (refused x n T f) }
 
-pub barred-no-effect : (a : Writer) (x : World) → (refusalIn a x ≡ 0 → ⊥) → NoEffect x (givesWriter a x) (seesWriter a)
+pub barred-no-effect : (a : Writer) (x : Buffers) → (refusalIn a x ≡ 0 → ⊥) → NoEffect x (givesWriter a x) (seesWriter a)
 unfolding visibilityOf protectionOf defaultOf registerOf unregisterOf lockOf unlockOf enableOf
 barred-no-effect (Visibility vtl share list) x f = call-no-effect (pagesOf list) x _ (visibilityTaken x (vtlOf vtl) (boolOf share) list) f
 barred-no-effect (Protection vtl flags list) x f = call-no-effect [] x _ (protectionTaken x (vtlOf vtl) flags list) f
@@ -52,15 +52,15 @@ barred-no-effect (Register vtl page source checked new) x f = call-no-effect [] 
 barred-no-effect (Unregister vtl page) x f = call-no-effect [] x _ (unregisterTaken x (vtlOf vtl) page) f
 barred-no-effect (Lock vtl list) x f =
     let n : ℕ = lockRefusal (x .state) (length (x .tables)) vtl list in
-    record { keeps = ap (λ (b : Bool). world (x .maps) (x .state) (x .pages) (cond b (lockTaken (x .tables) (vtlOf vtl) (pagesOf list)) (ended (x .tables) n) .tables)) (ne-eqb n 0 f); unseen = λ o. refl }
+    record { keeps = ap (λ (b : Bool). buffers (x .maps) (x .state) (x .pages) (cond b (lockTaken (x .tables) (vtlOf vtl) (pagesOf list)) (ended (x .tables) n) .tables)) (ne-eqb n 0 f); unseen = λ o. refl }
 barred-no-effect (Unlock vtl list) x f =
     let n : ℕ = lockRefusal (x .state) (length (x .tables)) vtl list in
-    record { keeps = ap (λ (b : Bool). world (x .maps) (x .state) (x .pages) (cond b (unlockTaken (x .tables) (vtlOf vtl) (pagesOf list)) (ended (x .tables) n) .tables)) (ne-eqb n 0 f); unseen = λ o. refl }
+    record { keeps = ap (λ (b : Bool). buffers (x .maps) (x .state) (x .pages) (cond b (unlockTaken (x .tables) (vtlOf vtl) (pagesOf list)) (ended (x .tables) n) .tables)) (ne-eqb n 0 f); unseen = λ o. refl }
 barred-no-effect Enable x f = record { keeps = rw (ne-eqb (enableRefusal (x .state)) 0 f); unseen = λ o. refl }
 
 -- ---- something of another length bars it
 
-other-lengths-barred : (a : Writer) (u x : World) → OtherWriterLengths a u x → refusalIn a x ≡ 0 → ⊥
+other-lengths-barred : (a : Writer) (u x : Buffers) → OtherWriterLengths a u x → refusalIn a x ≡ 0 → ⊥
 other-lengths-barred a u x s z = go a s (passed-in a x z)
   where
     go : (a : Writer) → OtherWriterLengths a u x → Passed x (lentFits a x) → ⊥
@@ -74,11 +74,11 @@ other-lengths-barred a u x s z = go a s (passed-in a x z)
     go Enable s k = s (k .long)
 
 -- an answer too writes nothing then, and isn't taken
-module _ (u x : World) (s : OtherLengths u x) where
-  answer-keeps : (g : BackendAnswer) → answerOf g x .world ≡ x
+module _ (u x : Buffers) (s : OtherLengths u x) where
+  answer-keeps : (g : BackendAnswer) → answerOf g x .buffers ≡ x
   unfolding answerDone answerFailed
-  answer-keeps Succeeds = ap (λ (X : Outcome). X .world) (refused x (answerRefusal (x .state) (fits x) false) (cond (isChanging (x .state)) (changeDone x) (visibilityDone x)) (λ z. not-fitting u x s (answer-fitting x false z)))
-  answer-keeps (Fails code n) = ap (λ (X : Outcome). X .world) (refused x (answerRefusal (x .state) (fits x) true) (cond (isChanging (x .state)) (changeFailed x) (visibilityFailed x code n)) (λ z. not-fitting u x s (answer-fitting x true z)))
+  answer-keeps Succeeds = ap (λ (X : Outcome). X .buffers) (refused x (answerRefusal (x .state) (fits x) false) (cond (isChanging (x .state)) (changeDone x) (visibilityDone x)) (λ z. not-fitting u x s (answer-fitting x false z)))
+  answer-keeps (Fails code n) = ap (λ (X : Outcome). X .buffers) (refused x (answerRefusal (x .state) (fits x) true) (cond (isChanging (x .state)) (changeFailed x) (visibilityFailed x code n)) (λ z. not-fitting u x s (answer-fitting x true z)))
 
   module _ (o : Observed) (halts : o .halted ≡ eqb (statusIn (u .state)) refusal.halted) where
     pub other-lengths-untaken : (g : BackendAnswer) → isTaken o (answerOf g x .reply) ≡ false
@@ -86,17 +86,17 @@ module _ (u x : World) (s : OtherLengths u x) where
     other-lengths-untaken Succeeds = untaken-seen u x o halts false (cond (isChanging (x .state)) (changeDone x) (visibilityDone x)) s
     other-lengths-untaken (Fails code n) = untaken-seen u x o halts true (cond (isChanging (x .state)) (changeFailed x) (visibilityFailed x code n)) s
 
-    answer-unseen : (g : BackendAnswer) → sees (Answer g) (answerOf g x .reply) (answerOf g x .world .pages) o ≡ o
+    answer-unseen : (g : BackendAnswer) → sees (Answer g) (answerOf g x .reply) (answerOf g x .buffers .pages) o ≡ o
     unfolding answerDone answerFailed
     answer-unseen Succeeds = answer-other-lengths u x o halts false (cond (isChanging (x .state)) (changeDone x) (visibilityDone x)) s (λ (p : Observed). p ≡ o) Succeeds refl
     answer-unseen (Fails code n) = answer-other-lengths u x o halts true (cond (isChanging (x .state)) (changeFailed x) (visibilityFailed x code n)) s (λ (p : Observed). p ≡ o) (Fails code n) refl
 
-pub other-lengths-keeps : (c : Call) (u x : World) → OtherCallLengths c u x → gives c x .world ≡ x
+pub other-lengths-keeps : (c : Call) (u x : Buffers) → OtherCallLengths c u x → gives c x .buffers ≡ x
 other-lengths-keeps (Write a) u x s = barred-no-effect a x (other-lengths-barred a u x s) .keeps
 other-lengths-keeps (Read q) u x s = refl
 other-lengths-keeps (Answer g) u x s = answer-keeps u x s g
 
-pub other-lengths-unseen : (c : Call) (u x : World) (o : Observed) → o .halted ≡ eqb (statusIn (u .state)) refusal.halted → OtherCallLengths c u x → sees c (gives c x .answer) (gives c x .world .pages) o ≡ o
+pub other-lengths-unseen : (c : Call) (u x : Buffers) (o : Observed) → o .halted ≡ eqb (statusIn (u .state)) refusal.halted → OtherCallLengths c u x → sees c (gives c x .answer) (gives c x .buffers .pages) o ≡ o
 other-lengths-unseen (Write a) u x o halts s = barred-no-effect a x (other-lengths-barred a u x s) .unseen o
 other-lengths-unseen (Read q) u x o halts s = refl
 other-lengths-unseen (Answer g) u x o halts s = answer-unseen u x s o halts g
@@ -106,15 +106,15 @@ other-lengths-unseen (Answer g) u x o halts s = answer-unseen u x s o halts g
 busy : (n : ℕ) → eqb n refusal.busy ≡ true → n ≡ 0 → ⊥
 busy n e z = clash (eqb n refusal.busy) e (ap (λ n. eqb n refusal.busy) z)
 
-busy-barred : (a : Writer) (x : World) → underWay x ≡ true → refusalIn a x ≡ 0 → ⊥
+busy-barred : (a : Writer) (x : Buffers) → underWay x ≡ true → refusalIn a x ≡ 0 → ⊥
 busy-barred a x b z = busy _ b (passed-in a x z .idle)
 
-pub busy-no-effect : (a : Writer) (x : World) → underWay x ≡ true → NoEffect x (givesWriter a x) (seesWriter a)
+pub busy-no-effect : (a : Writer) (x : Buffers) → underWay x ≡ true → NoEffect x (givesWriter a x) (seesWriter a)
 busy-no-effect a x b = barred-no-effect a x (busy-barred a x b)
 
 -- ---- a build
 
-pub build-keeps : (x y : World) (ram : List ℕ) (i t l : ℕ) (r : Reply) → given y r ≡ buildOf x ram i t l → IsRefusal r → y ≡ x
+pub build-keeps : (x y : Buffers) (ram : List ℕ) (i t l : ℕ) (r : Reply) → given y r ≡ buildOf x ram i t l → IsRefusal r → y ≡ x
 unfolding buildOf buildTaken
 build-keeps x y ram i t l r e f = go (eqb n 0) e
   where
@@ -123,4 +123,4 @@ build-keeps x y ram i t l r e f = go (eqb n 0) e
 
     go : (b : Bool) → given y r ≡ cond b (buildTaken x ram i t l) (refusedBy x n) → y ≡ x
     go true e = absurd (f (ap (λ (X : Outcome). X .reply .number) e))
-    go false e = ap (λ (X : Outcome). X .world) e
+    go false e = ap (λ (X : Outcome). X .buffers) e

@@ -1,4 +1,4 @@
--- A list of calls may begin at any world at rest: THE CLAIM holds of it, what was last taken there being read off the marks. Assumes nothing.
+-- A list of calls may begin at any buffers at rest: THE CLAIM holds of it, what was last taken there being read off the marks. Assumes nothing.
 use native.Mathlib.Omega.{arith}
 use Prim.Native.Nat.{ℕ, _/_, _<_}
 use mathlib.Core.Path.{_≡_, refl, sym, ap, _∙_}
@@ -17,7 +17,7 @@ use Rattle.visibility_steps.specs.declared.Phase.the-variants as at
 use Rattle.visibility_steps.specs.Steps.{isSnp}
 use Rattle.protector_state.specs.Changing.{isChanging}
 use Rattle.protector_state.specs.State.{phaseIn, requestOf, settingsOf, ramOf, entriesIn}
-use Rattle.call_refusals.specs.World.{World, statusOf}
+use Rattle.call_refusals.specs.Buffers.{Buffers, statusOf}
 use Rattle.history.specs.Observed.{Observed, isWaiting}
 use Rattle.history.specs.Marks.{Has, Exact, Marked, readOff, Settled}
 use Rattle.history.specs.Resting.{Rests}
@@ -26,7 +26,7 @@ use Rattle.history.specs.History.{History}
 use Rattle.history.proofs.Bits.{clash}
 use Rattle.history.proofs.Right.{Right, Names, opened}
 use Rattle.history.proofs.Took.{isShared, sharedIn, shared-as, is-private, is-shared}
-use Rattle.history.proofs.World.{Stands, right-same}
+use Rattle.history.proofs.Buffers.{Stands, right-same}
 use Rattle.history.proofs.Ages.{Aged}
 use Rattle.history.proofs.Aging.{Snp}
 use Rattle.history.proofs.Answered.{answered, composed}
@@ -40,7 +40,7 @@ use Rattle.history.proofs.Unasked.{unasked}
 
 -- ---- what the invariant says of the marks
 
-stands-exact : (es : List MemoryRangeWithNode) (w : World) (o : Observed) → Stands es w o → (z : ℕ) → isRam es z ≡ true → among (o .listed) z ≡ false → Exact (w .maps) o z
+stands-exact : (es : List MemoryRangeWithNode) (w : Buffers) (o : Observed) → Stands es w o → (z : ℕ) → isRam es z ≡ true → among (o .listed) z ≡ false → Exact (w .maps) o z
 stands-exact es w o k z r off =
     let g = k .right in
     let f = g .full z r (λ j a b d y. clash (among (o .listed) z) (ap (among (o .listed)) (sym y) ∙ g .named a j b d) off) (λ _. off) in
@@ -51,7 +51,7 @@ stands-exact es w o k z r off =
       shared-only = λ h. is-shared (o .last z) (g .only-shared z h);
     }
 
-stands-marked : (es : List MemoryRangeWithNode) (w : World) (o : Observed) → Stands es w o → Unlisted w o → Marked es (w .maps) o
+stands-marked : (es : List MemoryRangeWithNode) (w : Buffers) (o : Observed) → Stands es w o → Unlisted w o → Marked es (w .maps) o
 unfolding among
 stands-marked es w o k n =
     let g = k .right in
@@ -65,8 +65,8 @@ stands-marked es w o k n =
       shared-ram = g .shared-ram;
     }
 
--- of every list of calls from any world that meets the invariant, whatever was seen before
-claim-from : (es : List MemoryRangeWithNode) (l : List ℕ) (i t r : ℕ) {w v : World} {a o : Observed} → Invariant es l i t r w a → ordered 0 es ≡ true → isWaiting a ≡ false
+-- of every list of calls from any buffers that meet the invariant, whatever was seen before
+claim-from : (es : List MemoryRangeWithNode) (l : List ℕ) (i t r : ℕ) {w v : Buffers} {a o : Observed} → Invariant es l i t r w a → ordered 0 es ≡ true → isWaiting a ≡ false
     → (h : History w a v o) → ClaimFrom es i t r h
 claim-from es l i t r {w} {v} {a} {o} k order free h =
     let x : Invariant es l i t r v o = invariant-kept es l i t r h k in
@@ -108,7 +108,7 @@ resting : (b : Bool) (p : Phase) → cond b refusal.busy (statusOf p) ≡ 0 → 
 resting true p e = absurd (no-status refusal.busy refl e)
 resting false p e = e
 
-module _ (w : World) (k : Settled w) where
+module _ (w : Buffers) (k : Settled w) where
   abbrev es : List MemoryRangeWithNode
   es = entriesIn (w .state)
 
@@ -166,12 +166,12 @@ module _ (w : World) (k : Settled w) where
       }
 
   -- the invariant stands, and what was last left has its lengths
-  pub settled-lent : {v : World} {o : Observed} → History w (readOff (w .maps)) v o → Lent es v o
+  pub settled-lent : {v : Buffers} {o : Observed} → History w (readOff (w .maps)) v o → Lent es v o
   settled-lent h = history-keeps (Lent es) (lent-kept es) h (record { first = settled-stands; second = record { long = k .long; fit = k .lent } })
 
 -- ---- and all else is as it should be
 
-module _ {i t r : ℕ} (w : World) (k : Rests i t r w) where
+module _ {i t r : ℕ} (w : Buffers) (k : Rests i t r w) where
   rests-invariant : Invariant (entriesIn (w .state)) (ramOf (w .state)) i t r w (readOff (w .maps))
   rests-invariant =
       record {
@@ -186,8 +186,8 @@ module _ {i t r : ℕ} (w : World) (k : Rests i t r w) where
       }
 
   -- THE CLAIM
-  pub settled-hold : {v : World} {o : Observed} (h : History w (readOff (w .maps)) v o) → ClaimFrom (entriesIn (w .state)) i t r h
+  pub settled-hold : {v : Buffers} {o : Observed} (h : History w (readOff (w .maps)) v o) → ClaimFrom (entriesIn (w .state)) i t r h
   settled-hold h = claim-from (entriesIn (w .state)) (ramOf (w .state)) i t r rests-invariant (fit (ramOf (w .state)) (k .settled .layout) .in-order) refl h
 
-  pub settled-invariant : {v : World} {o : Observed} → History w (readOff (w .maps)) v o → Invariant (entriesIn (w .state)) (ramOf (w .state)) i t r v o
+  pub settled-invariant : {v : Buffers} {o : Observed} → History w (readOff (w .maps)) v o → Invariant (entriesIn (w .state)) (ramOf (w .state)) i t r v o
   settled-invariant h = invariant-kept (entriesIn (w .state)) (ramOf (w .state)) i t r h rests-invariant

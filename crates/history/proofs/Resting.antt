@@ -11,7 +11,7 @@ use Rattle.layout.specs.Layout.{refusalOf, isRam}
 use Rattle.protector_state.specs.declared.Reply.{Reply}
 use Rattle.protector_state.specs.State.{phaseIn, ramOf, entriesIn}
 use Rattle.protector_state.specs.Changing.{isChanging}
-use Rattle.call_refusals.specs.World.{World, statusIn}
+use Rattle.call_refusals.specs.Buffers.{Buffers, statusIn}
 use Rattle.history.specs.Observed.{Observed, unseen}
 use Rattle.history.specs.Marks.{Has, readOff, Settled}
 use Rattle.history.specs.Made.{Built}
@@ -22,14 +22,14 @@ use Rattle.history.specs.Resting.{Rests}
 use Rattle.history.proofs.Bits.{clash}
 use Rattle.history.proofs.Took.{sharedIn}
 use Rattle.history.proofs.Right.{opened}
-use Rattle.history.proofs.World.{idle-shut}
+use Rattle.history.proofs.Buffers.{idle-shut}
 use Rattle.history.proofs.Invariant.{Invariant}
 use Rattle.history.proofs.Restart.{settled-invariant}
 use Rattle.history.proofs.Claim.{built-starts, built-unseen}
 
 -- ---- nothing under way
 
-module _ (es : List MemoryRangeWithNode) (v : World) (o : Observed) {l : List ℕ} {i t r : ℕ} (k : Invariant es l i t r v o) (layout : refusalOf (ramOf (v .state)) ≡ 0) (idle : statusIn (v .state) ≡ 0) where
+module _ (es : List MemoryRangeWithNode) (v : Buffers) (o : Observed) {l : List ℕ} {i t r : ℕ} (k : Invariant es l i t r v o) (layout : refusalOf (ramOf (v .state)) ≡ 0) (idle : statusIn (v .state) ≡ 0) where
   in-ram : (z : ℕ) → isRam es z ≡ true → isRam (entriesIn (v .state)) z ≡ true
   in-ram z h = ap (λ (y : List MemoryRangeWithNode). isRam y z) (k .stands .layout) ∙ h
 
@@ -64,7 +64,7 @@ module _ (es : List MemoryRangeWithNode) (v : World) (o : Observed) {l : List �
 
 -- ---- from one such stop to the next, and from a build on
 
-pub rests-again : (i t r : ℕ) (w : World) → Rests i t r w → {v : World} {o : Observed} → History w (readOff (w .maps)) v o → statusIn (v .state) ≡ 0 → Rests i t r v
+pub rests-again : (i t r : ℕ) (w : Buffers) → Rests i t r w → {v : Buffers} {o : Observed} → History w (readOff (w .maps)) v o → statusIn (v .state) ≡ 0 → Rests i t r v
 rests-again i t r w k {v} {o} h idle =
     let x : Invariant (entriesIn (w .state)) (ramOf (w .state)) i t r v o = settled-invariant w k h in
     let same : entriesIn (w .state) ≡ entriesIn (v .state) = sym (x .stands .layout) in
@@ -75,5 +75,5 @@ rests-again i t r w k {v} {o} h idle =
       inside = subst (λ (es : List MemoryRangeWithNode). Inside es (v .maps .permissions)) same (x .permitted .inside);
     }
 
-pub built-rests : {ram : List ℕ} {i t r : ℕ} {u w : World} {reply : Reply} → Built ram i t r u w reply → reply .number ≡ 0 → {v : World} {o : Observed} → History w unseen v o → statusIn (v .state) ≡ 0 → Rests i t r v
+pub built-rests : {ram : List ℕ} {i t r : ℕ} {u w : Buffers} {reply : Reply} → Built ram i t r u w reply → reply .number ≡ 0 → {v : Buffers} {o : Observed} → History w unseen v o → statusIn (v .state) ≡ 0 → Rests i t r v
 built-rests {i = i} {t = t} {r = r} {w = w} b d {v} {o} h idle = rests-again i t r w (built-starts b d) (subst (λ (a : Observed). History w a v o) (sym (built-unseen b d)) h) idle

@@ -22,7 +22,7 @@ use Rattle.visibility_steps.specs.declared.Step.{Step}
 use Rattle.visibility_steps.specs.Steps.{runOf}
 use Rattle.protector_state.specs.declared.Reply.{Reply}
 use Rattle.protector_state.specs.Reply.{modifies, onRun, flatOf}
-use Rattle.call_refusals.specs.World.{statusOf}
+use Rattle.call_refusals.specs.Buffers.{statusOf}
 use Rattle.protector.specs.Writes.{putPlaces}
 use Rattle.history.specs.Observed.{asks, goesOn}
 use Rattle.history.specs.Marks.{Has}

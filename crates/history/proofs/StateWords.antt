@@ -16,7 +16,7 @@ use Rattle.change_steps.specs.declared.Change.{Change}
 use Rattle.change_steps.specs.declared.ChangeStep.{ChangeStep}
 use Rattle.protector_state.specs.State.{stateLen, withRequest, settingsOf}
 use Rattle.protector_state.specs.Changing.{isChanging, withChange}
-use Rattle.call_refusals.specs.World.{World, overlaysOf, fits}
+use Rattle.call_refusals.specs.Buffers.{Buffers, overlaysOf, fits}
 use Rattle.protector.specs.Calls.{refusedBy, carriedOut, carriedChange, visibilityTaken, visibilityOf, visibilityDone, visibilityFailed, changeDone, changeFailed, answerDone, answerFailed}
 use Rattle.call_refusals.specs.Refusals.{visibilityRefusal, answerRefusal}
 use Rattle.protection_entries.specs.Calls.{storedDefault, protectionRefusal, protectionTaken, protectionOf, defaultRefusal, stored, barred, renewedIn, defaultStarted, defaultTaken, defaultOf}
@@ -29,7 +29,7 @@ use Rattle.history.specs.Call.{Writer, Visibility, Protection, Default, 
 use Rattle.history.proofs.Passed.{passed-in}
 use Rattle.history.proofs.Deciding.{decides, either}
 use Rattle.history.proofs.Frame.{setter-frame}
-use Rattle.history.proofs.Histories.{InWorld, KeepsWith}
+use Rattle.history.proofs.Histories.{InBuffers, KeepsWith}
 use Rattle.history.proofs.Tabled.{flags-fit}
 
 pub record Words (K : List ℕ → Type 0) : Type 0 where
@@ -39,24 +39,24 @@ pub record Words (K : List ℕ → Type 0) : Type 0 where
   pub enabling : (s : List ℕ) → settingsOf s .tracked ≡ true → length s ≡ stateLen → K s → K (set s 19 1)
 
 module _ (K : List ℕ → Type 0) (f : Words K) where
-  abbrev S : World → Type 0
+  abbrev S : Buffers → Type 0
   S w = K (w .state)
 
-  carried : (w : World) (p : List ℕ) (x : ChangeStep) → S w → S (carriedChange w p x .world)
+  carried : (w : Buffers) (p : List ℕ) (x : ChangeStep) → S w → S (carriedChange w p x .buffers)
   unfolding carriedChange
   carried w p x k = f .changing (x .stage) (x .change) (w .state) k
 
-  stepped : (w : World) (p : List ℕ) (x : Step) → S w → S (carriedOut w p x .world)
+  stepped : (w : Buffers) (p : List ℕ) (x : Step) → S w → S (carriedOut w p x .buffers)
   unfolding carriedOut
   stepped w p x k = f .requested (x .phase) (x .request) (w .state) k
 
-  default-set : (w : World) (v : GuestVtl) (flags : ℕ) → S w → S (defaultTaken w v flags .world)
+  default-set : (w : Buffers) (v : GuestVtl) (flags : ℕ) → S w → S (defaultTaken w v flags .buffers)
   unfolding defaultTaken defaultStarted
   default-set w v flags k =
       either S (barred (w .maps .private) (w .state) (w .tables) v) (refusedBy w 10) (defaultStarted (renewedIn w v flags) v flags) k (carried (renewedIn w v flags) (w .pages) _ k)
 
-  module _ (w : World) (k : S w) where
-    set-writer : (a : Writer) → S (givesWriter a w .world)
+  module _ (w : Buffers) (k : S w) where
+    set-writer : (a : Writer) → S (givesWriter a w .buffers)
     unfolding visibilityOf visibilityTaken protectionOf protectionTaken defaultOf registerOf registerTaken unregisterOf unregisterTaken
     set-writer (Visibility vtl share list) = decides S w (visibilityRefusal (w .state) (fits w) (w .tables) vtl share list) _ k (λ _. stepped w _ _ k)
     set-writer (Protection vtl flags list) = decides S w (protectionRefusal (w .state) (fits w) (w .maps .shared) (w .tables) vtl flags list) _ k (λ _. carried w _ _ k)
@@ -73,17 +73,17 @@ module _ (K : List ℕ → Type 0) (f : Words K) where
     set-writer (Unlock vtl list) = k
     set-writer Enable = setter-frame K (w .state) k (λ tracked long. f .enabling (w .state) tracked long k)
 
-    set-answer : (g : BackendAnswer) → S (answerOf g w .world)
+    set-answer : (g : BackendAnswer) → S (answerOf g w .buffers)
     unfolding answerDone answerFailed
     set-answer Succeeds =
         decides S w (answerRefusal (w .state) (fits w) false) _ k (λ _. either S (isChanging (w .state)) (changeDone w) (visibilityDone w) (carried w (w .pages) _ k) (stepped w (w .pages) _ k))
     set-answer (Fails code n) =
         decides S w (answerRefusal (w .state) (fits w) true) _ k (λ _. either S (isChanging (w .state)) (changeFailed w) (visibilityFailed w code n) (carried w (w .pages) _ k) (stepped w (w .pages) _ k))
 
-    words-step : (c : Call) → S (gives c w .world)
+    words-step : (c : Call) → S (gives c w .buffers)
     words-step (Write a) = set-writer a
     words-step (Read q) = k
     words-step (Answer g) = set-answer g
 
-  pub words-kept : (P : World → Observed → Type 0) → KeepsWith P (InWorld S)
+  pub words-kept : (P : Buffers → Observed → Type 0) → KeepsWith P (InBuffers S)
   words-kept P c w o _ k = words-step w k c

@@ -25,7 +25,7 @@ use Rattle.visibility_steps.specs.declared.Writes.{Writes}
 use Rattle.visibility_steps.specs.declared.Step.{Step}
 use Rattle.visibility_steps.specs.Steps.{isSnp, isCca, releases, noWrites, setShared, setPrivate, setPermissions, operationOf, ask, step, noRequest, end, halt, shareRun, defaultRun, returnRun, afterFlush, afterWait, afterModify, afterAccept, afterDefault0, cutAt, failedModify, doneOf, failedOf}
 use Rattle.protector_state.specs.Reply.{askedOf, flatOf}
-use Rattle.call_refusals.specs.World.{statusOf, takes}
+use Rattle.call_refusals.specs.Buffers.{statusOf, takes}
 use Rattle.visibility_claims.specs.Whole.{BackendAnswer, Succeeds, Fails}
 use Rattle.history.specs.Observed.{processed}
 use Rattle.history.proofs.Bits.{clash, of-part, in-part, less-among}

@@ -25,7 +25,7 @@ use Rattle.change_steps.specs.declared.ChangeStep.{ChangeStep}
 use Rattle.change_steps.specs.Changes.{changeOf, startNew, startOld}
 use Rattle.protector_state.specs.State.{settingsOf, entriesIn}
 use Rattle.protector_state.specs.Changing.{stageIn, isChanging, changeIn}
-use Rattle.call_refusals.specs.World.{World, world, Outcome, overlaysOf, locksOf, isLocked, fits, statusIn}
+use Rattle.call_refusals.specs.Buffers.{Buffers, buffers, Outcome, overlaysOf, locksOf, isLocked, fits, statusIn}
 use Rattle.protector.specs.Calls.{refusedBy, carriedOut, carriedChange, visibilityTaken, visibilityOf, nextIn, afterDone, afterFailed, visibilityDone, visibilityFailed, changeDone, changeFailed, answerDone, answerFailed}
 use Rattle.call_refusals.specs.Refusals.{visibilityRefusal, answerRefusal}
 use Rattle.protection_entries.specs.Calls.{protectionRefusal, allListed, protectionTaken, protectionOf, defaultRefusal, stored, barred, renewedIn, defaultStarted, defaultTaken, defaultOf, firstPiece}
@@ -37,9 +37,9 @@ use Rattle.visibility_claims.specs.Whole.{BackendAnswer, Succeeds, Fails}
 use Rattle.visibility_claims.specs.Calls.{answerOf}
 use Rattle.history.specs.Call.{Writer, Visibility, Protection, Default, Register, Unregister, Lock, Unlock, Enable, Call, Write, Read, Answer, givesWriter, gives}
 use Rattle.history.specs.Tables.{Tables, TablesFit}
-use Rattle.history.proofs.World.{Stands}
+use Rattle.history.proofs.Buffers.{Stands}
 use Rattle.history.proofs.Frame.{setter-frame}
-use Rattle.history.proofs.Histories.{KeepsWith, InWorld}
+use Rattle.history.proofs.Histories.{KeepsWith, InBuffers}
 use Rattle.history.proofs.Locked.{lock-tables, unlock-tables}
 use Rattle.history.proofs.Deciding.{decides, either}
 use Rattle.history.proofs.Entries.{overlays-entry, overlays-counted, overlays-renewed}
@@ -99,7 +99,7 @@ bits-few : (f : HvMapGpaFlags) → bitsOf f < 16
 bits-few f = omega (arith, digit-le (f .readable), digit-le (f .writable), digit-le (f .«kernel_executable»), digit-le (f .«user_executable»))
 
 -- a default change that is taken is of flags
-pub flags-fit : (w : World) (vtl flags : ℕ) → defaultRefusal (w .state) (fits w) vtl flags ≡ 0 → flags < 16
+pub flags-fit : (w : Buffers) (vtl flags : ℕ) → defaultRefusal (w .state) (fits w) vtl flags ≡ 0 → flags < 16
 unfolding defaultRefusal
 flags-fit w vtl flags z =
     let d = passed (fitVtl vtl) 7 _ (is-ready (w .state) (fits w) _ z .goes) in
@@ -108,20 +108,20 @@ flags-fit w vtl flags z =
 -- ---- the calls
 
 module _ (es : List MemoryRangeWithNode) where
-  made : (w : World) (p : List ℕ) (x : ChangeStep) → Sound es (w .tables) x → TablesFit es (carriedChange w p x .world)
+  made : (w : Buffers) (p : List ℕ) (x : ChangeStep) → Sound es (w .tables) x → TablesFit es (carriedChange w p x .buffers)
   unfolding carriedChange
   made w p x k = record { tables = k .tables; pending = pending-written es (x .stage) (x .change) (w .state) _ (k .pending) }
 
-  asked : (w : World) (p : List ℕ) (x : Step) → Tables es (w .tables) → TablesFit es (carriedOut w p x .world)
+  asked : (w : Buffers) (p : List ℕ) (x : Step) → Tables es (w .tables) → TablesFit es (carriedOut w p x .buffers)
   unfolding carriedOut
   asked w p x k = record { tables = k; pending = pending-request es (x .phase) (x .request) (w .state) (w .tables) }
 
-  module _ (w : World) (k : TablesFit es w) where
-    visibility-tabled : (vtl share : ℕ) (l : List ℕ) → TablesFit es (visibilityOf w vtl share l .world)
+  module _ (w : Buffers) (k : TablesFit es w) where
+    visibility-tabled : (vtl share : ℕ) (l : List ℕ) → TablesFit es (visibilityOf w vtl share l .buffers)
     unfolding visibilityOf visibilityTaken
     visibility-tabled vtl share l = decides (TablesFit es) w (visibilityRefusal (w .state) (fits w) (w .tables) vtl share l) _ k (λ _. asked w _ _ (k .tables))
 
-    answer-tabled : (g : BackendAnswer) → TablesFit es (answerOf g w .world)
+    answer-tabled : (g : BackendAnswer) → TablesFit es (answerOf g w .buffers)
     unfolding answerDone answerFailed afterDone afterFailed
     answer-tabled Succeeds =
         decides (TablesFit es) w (answerRefusal (w .state) (fits w) false) _ k
@@ -134,31 +134,31 @@ module _ (es : List MemoryRangeWithNode) where
         (made w (w .pages) _ (sound-failed es (w .tables) (k .tables) (stageIn (w .state)) (changeIn (w .state))))
         (asked w (w .pages) _ (k .tables)))
 
-    protection-tabled : (vtl flags : ℕ) (l : List ℕ) → TablesFit es (protectionOf w vtl flags l .world)
+    protection-tabled : (vtl flags : ℕ) (l : List ℕ) → TablesFit es (protectionOf w vtl flags l .buffers)
     unfolding protectionOf protectionTaken
     protection-tabled vtl flags l =
         decides (TablesFit es) w (protectionRefusal (w .state) (fits w) (w .maps .shared) (w .tables) vtl flags l) _ k
         (λ _. made w (allListed l (w .pages)) _ (sound-pages es (w .tables) (k .tables) (settingsOf (w .state) .tracked) (changeOf (vtlOf vtl) flags (length (pagesOf l))) (allListed l (w .pages)) 0))
 
-    set-tabled : (i x : ℕ) → 13 < i → TablesFit es (world (w .maps) (set (w .state) i x) (w .pages) (w .tables))
+    set-tabled : (i x : ℕ) → 13 < i → TablesFit es (buffers (w .maps) (set (w .state) i x) (w .pages) (w .tables))
     set-tabled i x h = record { tables = k .tables; pending = pending-set es (w .state) (w .tables) i x h (k .pending) }
 
     stored-tabled : (v : GuestVtl) (flags : ℕ) → TablesFit es (stored w v flags)
     stored-tabled Vtl0 flags = set-tabled 20 flags (omega arith)
     stored-tabled Vtl1 flags = set-tabled 21 flags (omega arith)
 
-    enable-tabled : TablesFit es (world (w .maps) (enableOf (w .state) .state) (w .pages) (w .tables))
-    enable-tabled = setter-frame (λ (s : List ℕ). TablesFit es (world (w .maps) s (w .pages) (w .tables))) (w .state) k (λ _ _. set-tabled 19 1 (omega arith))
+    enable-tabled : TablesFit es (buffers (w .maps) (enableOf (w .state) .state) (w .pages) (w .tables))
+    enable-tabled = setter-frame (λ (s : List ℕ). TablesFit es (buffers (w .maps) s (w .pages) (w .tables))) (w .state) k (λ _ _. set-tabled 19 1 (omega arith))
 
     -- a count changed, where nothing is under way
-    counted : statusIn (w .state) ≡ 0 → (v : GuestVtl) (p n : ℕ) → isOverlay (overlaysOf (w .tables) v) p ≡ true → 1 ≤ n → n ≤ 65535 → TablesFit es (counting w v p n .world)
+    counted : statusIn (w .state) ≡ 0 → (v : GuestVtl) (p n : ℕ) → isOverlay (overlaysOf (w .tables) v) p ≡ true → 1 ≤ n → n ≤ 65535 → TablesFit es (counting w v p n .buffers)
     counted idle v p n h a b =
         record {
           tables = put es (w .tables) (k .tables) v _ (overlays-counted es (overlaysOf (w .tables) v) (k .tables .overlays v) p h n a b);
           pending = pending-idle es (w .state) _ idle;
         }
 
-    unregister-tabled : (vtl p : ℕ) → TablesFit es (unregisterOf w vtl p .world)
+    unregister-tabled : (vtl p : ℕ) → TablesFit es (unregisterOf w vtl p .buffers)
     unfolding unregisterOf unregisterTaken unregisterRefusal
     unregister-tabled vtl p =
         decides (TablesFit es) w (unregisterRefusal (w .state) (fits w) (w .tables) vtl p) (unregisterTaken w v p) k
@@ -176,14 +176,14 @@ module _ (es : List MemoryRangeWithNode) where
         B : Outcome
         B = carriedChange w (w .pages) (startOld (settingsOf (w .state) .tracked) v p (e .«previous_permissions») (e .«gpn_source»))
 
-        go : statusIn (w .state) ≡ 0 → isOverlay (overlaysOf (w .tables) v) p ≡ true → (b : Bool) → ltb 1 (e .«ref_count») ≡ b → TablesFit es (cond b A B .world)
+        go : statusIn (w .state) ≡ 0 → isOverlay (overlaysOf (w .tables) v) p ≡ true → (b : Bool) → ltb 1 (e .«ref_count») ≡ b → TablesFit es (cond b A B .buffers)
         go idle h true d =
             let f = overlays-entry es (overlaysOf (w .tables) v) (k .tables .overlays v) p h in
             let c : 1 < e .«ref_count» = ltb-true 1 (e .«ref_count») d in
             counted idle v p (e .«ref_count» - 1) h (omega (arith, c)) (omega (arith, f .most))
         go idle h false d = made w (w .pages) _ (sound-old es (w .tables) (k .tables) (settingsOf (w .state) .tracked) v p (e .«previous_permissions») (e .«gpn_source») h (ltb-false 1 (e .«ref_count») d))
 
-    register-tabled : entriesIn (w .state) ≡ es → (vtl p source checked new : ℕ) → TablesFit es (registerOf w vtl p source checked new .world)
+    register-tabled : entriesIn (w .state) ≡ es → (vtl p source checked new : ℕ) → TablesFit es (registerOf w vtl p source checked new .buffers)
     unfolding registerOf registerTaken registerRefusal
     register-tabled layout vtl p source checked new =
         decides (TablesFit es) w (registerRefusal (w .state) (fits w) (w .maps .shared) (w .tables) (currentIn w v p source) vtl p source checked new) (registerTaken w v p source new) k
@@ -213,7 +213,7 @@ module _ (es : List MemoryRangeWithNode) where
         B = carriedChange w (w .pages) x
 
         go : statusIn (w .state) ≡ 0 → source < 2 → pageRefusal (entriesIn (w .state)) (w .maps .shared) o (locksOf (w .tables) v) p source (currentIn w v p source) checked new ≡ 0
-            → (b : Bool) → isOverlay o p ≡ b → TablesFit es (cond b A B .world)
+            → (b : Bool) → isOverlay o p ≡ b → TablesFit es (cond b A B .buffers)
         go idle two z true h =
             let c = count-left (entriesIn (w .state)) (w .maps .shared) o (locksOf (w .tables) v) p source (currentIn w v p source) checked new h z in
             counted idle v p (e .«ref_count» + 1) h (omega arith) (omega (arith, c))
@@ -226,16 +226,16 @@ module _ (es : List MemoryRangeWithNode) where
             (λ own d. record { fits = record { counted = omega arith; most = omega arith; previous = few; own = d; source = two; page = ram }; none = h; room = c .room }) few)
 
   -- a default change renews previous permissions, and stores the default where it is refused by 10
-  default-taken : (w : World) → TablesFit es w → (v : GuestVtl) (flags : ℕ) → flags < 16 → TablesFit es (defaultTaken w v flags .world)
+  default-taken : (w : Buffers) → TablesFit es w → (v : GuestVtl) (flags : ℕ) → flags < 16 → TablesFit es (defaultTaken w v flags .buffers)
   unfolding defaultTaken defaultStarted
   default-taken w k v flags h =
       let m : List ℕ = w .maps .private in
-      let r : World = renewedIn w v flags in
+      let r : Buffers = renewedIn w v flags in
       let t : Tables es (r .tables) = put es (w .tables) (k .tables) v _ (overlays-renewed es m (entriesIn (w .state)) flags h (overlaysOf (w .tables) v) (k .tables .overlays v)) in
       either (TablesFit es) (barred m (w .state) (w .tables) v) (refusedBy w 10) (defaultStarted r v flags) k
       (made r (w .pages) _ (sound-ram es (r .tables) t (settingsOf (w .state) .tracked) (changeOf v flags 0) (firstPiece m (w .state) (r .tables) v)))
 
-  default-tabled : (w : World) → TablesFit es w → (vtl flags : ℕ) → TablesFit es (defaultOf w vtl flags .world)
+  default-tabled : (w : Buffers) → TablesFit es w → (vtl flags : ℕ) → TablesFit es (defaultOf w vtl flags .buffers)
   unfolding defaultOf
   default-tabled w k vtl flags =
       decides (TablesFit es) w (defaultRefusal (w .state) (fits w) vtl flags) _ k
@@ -243,8 +243,8 @@ module _ (es : List MemoryRangeWithNode) where
 
 -- ---- every call
 
-module _ (es : List MemoryRangeWithNode) (w : World) (layout : entriesIn (w .state) ≡ es) (k : TablesFit es w) where
-  tabled-writer : (a : Writer) → TablesFit es (givesWriter a w .world)
+module _ (es : List MemoryRangeWithNode) (w : Buffers) (layout : entriesIn (w .state) ≡ es) (k : TablesFit es w) where
+  tabled-writer : (a : Writer) → TablesFit es (givesWriter a w .buffers)
   tabled-writer (Visibility vtl share list) = visibility-tabled es w k vtl share list
   tabled-writer (Protection vtl flags list) = protection-tabled es w k vtl flags list
   tabled-writer (Default vtl flags) = default-tabled es w k vtl flags
@@ -256,10 +256,10 @@ module _ (es : List MemoryRangeWithNode) (w : World) (layout : entriesIn (w .sta
       let x = unlock-tables es (w .state) (w .tables) (k .tables) vtl list in record { tables = x .tables; pending = pending-same es (w .state) (w .tables) _ (x .same) (k .pending) }
   tabled-writer Enable = enable-tabled es w k
 
-  tabled-step : (c : Call) → TablesFit es (gives c w .world)
+  tabled-step : (c : Call) → TablesFit es (gives c w .buffers)
   tabled-step (Write a) = tabled-writer a
   tabled-step (Read q) = k
   tabled-step (Answer g) = answer-tabled es w k g
 
-pub tables-kept : (es : List MemoryRangeWithNode) → KeepsWith (Stands es) (InWorld (TablesFit es))
+pub tables-kept : (es : List MemoryRangeWithNode) → KeepsWith (Stands es) (InBuffers (TablesFit es))
 tables-kept es c w o k t = tabled-step es w (k .layout) t c

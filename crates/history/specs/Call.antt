@@ -3,7 +3,7 @@ use mathlib.Core.List.{List, []}
 use Prim.Native.Nat.{ℕ}
 use Rattle.page_list.specs.Pages.{pagesOf}
 use Rattle.protector_state.specs.declared.Reply.{Reply}
-use Rattle.call_refusals.specs.World.{World, world, Outcome}
+use Rattle.call_refusals.specs.Buffers.{Buffers, buffers, Outcome}
 use Rattle.protector.specs.Calls.{visibilityOf}
 use Rattle.protection_entries.specs.Calls.{protectionOf, defaultOf}
 use Rattle.overlay_entries.specs.Calls.{registerOf, unregisterOf, isOverlayIn}
@@ -62,23 +62,23 @@ Result (Answer g) = Reply
 -- ---- what a call gives: all that is lent as it is then, and what it answers
 
 pub record Effect (A : Type 0) : Type 0 where
-  pub world : World
+  pub buffers : Buffers
   pub answer : A
 
-abbrev pub effect : {A : Type 0} → World → A → Effect A
-effect w r = record { world = w; answer = r }
+abbrev pub effect : {A : Type 0} → Buffers → A → Effect A
+effect w r = record { buffers = w; answer = r }
 
 abbrev pub replied : Outcome → Effect Reply
-replied x = effect (x .world) (x .reply)
+replied x = effect (x .buffers) (x .reply)
 
 -- the calls on locks write the tables alone, the setter the state block alone
-abbrev pub keptIn : World → Kept → Effect Reply
-keptIn w k = effect (world (w .maps) (w .state) (w .pages) (k .tables)) (k .reply)
+abbrev pub keptIn : Buffers → Kept → Effect Reply
+keptIn w k = effect (buffers (w .maps) (w .state) (w .pages) (k .tables)) (k .reply)
 
-abbrev pub enabledBy : World → Enabled → Effect Reply
-enabledBy w k = effect (world (w .maps) (k .state) (w .pages) (w .tables)) (k .reply)
+abbrev pub enabledBy : Buffers → Enabled → Effect Reply
+enabledBy w k = effect (buffers (w .maps) (k .state) (w .pages) (w .tables)) (k .reply)
 
-abbrev pub givesWriter : Writer → World → Effect Reply
+abbrev pub givesWriter : Writer → Buffers → Effect Reply
 givesWriter (Visibility vtl share list) w = replied (visibilityOf w vtl share list)
 givesWriter (Protection vtl flags list) w = replied (protectionOf w vtl flags list)
 givesWriter (Default vtl flags) w = replied (defaultOf w vtl flags)
@@ -88,7 +88,7 @@ givesWriter (Lock vtl list) w = keptIn w (lockOf (w .state) (w .tables) vtl list
 givesWriter (Unlock vtl list) w = keptIn w (unlockOf (w .state) (w .tables) vtl list)
 givesWriter Enable w = enabledBy w (enableOf (w .state))
 
-abbrev pub shown : (q : Reader) → World → Shown q
+abbrev pub shown : (q : Reader) → Buffers → Shown q
 shown TellEnabled w = enabledIn (w .state)
 shown TellDefault w = defaultIn (w .state)
 shown (IsOverlay vtl page) w = isOverlayIn (w .state) (w .tables) vtl page
@@ -97,7 +97,7 @@ shown (Fault mapping view address writes failure) w = faultIn (w .state) (w .map
 shown (Lower vtl page) w = lowerIn (w .state) (w .maps) vtl page
 shown (Access page) w = accessIn (w .state) (w .maps) page
 
-abbrev pub gives : (c : Call) → World → Effect (Result c)
+abbrev pub gives : (c : Call) → Buffers → Effect (Result c)
 gives (Write a) w = givesWriter a w
 gives (Read q) w = effect w (shown q w)
 gives (Answer g) w = replied (answerOf g w)

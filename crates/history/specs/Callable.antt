@@ -5,21 +5,21 @@ use mathlib.Core.Bool.{false}
 use mathlib.Core.List.{List, []}
 use Prim.Native.Nat.{ℕ}
 use Rattle.permissions.specs.Flags.{fitIsolation}
-use Rattle.call_refusals.specs.World.{World, world}
+use Rattle.call_refusals.specs.Buffers.{Buffers, buffers}
 use Rattle.protector.specs.Calls.{buildOf}
 use Rattle.history.specs.Call.{Call, gives}
 use Rattle.history.specs.Made.{Made, Built}
 use Rattle.history.specs.History.{OtherLengths, OtherLockLengths, IsRefusal}
 
--- every call, of a world of any lengths; and a build that is refused, as for any isolation outside the domain
-pub record Callable (w : World) : Type 0 where
-  pub made : (c : Call) → Made c w (gives c w .world) (gives c w .answer)
-  pub built : (ram : List ℕ) (isolation tracked release : ℕ) → let X = buildOf w ram isolation tracked release in Built ram isolation tracked release w (X .world) (X .reply)
+-- every call, of buffers of any lengths; and a build that is refused, as for any isolation outside the domain
+pub record Callable (w : Buffers) : Type 0 where
+  pub made : (c : Call) → Made c w (gives c w .buffers) (gives c w .answer)
+  pub built : (ram : List ℕ) (isolation tracked release : ℕ) → let X = buildOf w ram isolation tracked release in Built ram isolation tracked release w (X .buffers) (X .reply)
   pub refused : (ram : List ℕ) (isolation tracked release : ℕ) → fitIsolation isolation ≡ false → IsRefusal (buildOf w ram isolation tracked release .reply)
 
 -- something of another length: no state block at all; or, beside the state block as it was left, no pages run, or no tables
-pub record AnyOtherLengths (u : World) : Type 0 where
-  pub no-block : OtherLengths u (world (u .maps) [] (u .pages) (u .tables))
-  pub no-pages : OtherLengths u (world (u .maps) (u .state) [] (u .tables))
-  pub no-lock-block : OtherLockLengths u (world (u .maps) [] (u .pages) (u .tables))
-  pub no-lock-tables : OtherLockLengths u (world (u .maps) (u .state) (u .pages) [])
+pub record AnyOtherLengths (u : Buffers) : Type 0 where
+  pub no-block : OtherLengths u (buffers (u .maps) [] (u .pages) (u .tables))
+  pub no-pages : OtherLengths u (buffers (u .maps) (u .state) [] (u .tables))
+  pub no-lock-block : OtherLockLengths u (buffers (u .maps) [] (u .pages) (u .tables))
+  pub no-lock-tables : OtherLockLengths u (buffers (u .maps) (u .state) (u .pages) [])

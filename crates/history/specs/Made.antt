@@ -8,7 +8,7 @@ use denote.Triple.Clauses.{AtExit}
 use denote.Ref.{RefT, now}
 use Rattle.mapping.specs.Maps.{Maps, Permissions, maps}
 use Rattle.protector_state.specs.declared.Reply.{Reply}
-use Rattle.call_refusals.specs.World.{World, world}
+use Rattle.call_refusals.specs.Buffers.{Buffers, buffers}
 use Rattle.protector_state.specs.declared.Value.{Value}
 use Rattle.queries.specs.Queries as queries
 use Rattle.visibility_claims.specs.Whole.{Succeeds, Fails}
@@ -70,60 +70,60 @@ stateOf a = now (a .1 .1 .1 .1 .1 .1 .0)
 abbrev pub pastSeven : {X : Type 0} → Seven X → X
 pastSeven a = a .1 .1 .1 .1 .1 .1 .1
 
-abbrev pub worldOf : {X : Type 0} → Nine X → World
-worldOf a = world (mapsOf a) (stateOf a) (now (pastSeven a .0)) (now (pastSeven a .1 .0))
+abbrev pub buffersOf : {X : Type 0} → Nine X → Buffers
+buffersOf a = buffers (mapsOf a) (stateOf a) (now (pastSeven a .0)) (now (pastSeven a .1 .0))
 
 abbrev pub past : {X : Type 0} → Nine X → X
 past a = pastSeven a .1 .1
 
 -- what is not lent may be anything: beside the seven; beside the state block; beside the state block and the tables; beside the state block and the shared map
-abbrev pub withSeven : {X : Type 0} (p t : List ℕ) → Seven X → World
-withSeven p t a = world (mapsOf a) (stateOf a) p t
+abbrev pub withSeven : {X : Type 0} (p t : List ℕ) → Seven X → Buffers
+withSeven p t a = buffers (mapsOf a) (stateOf a) p t
 
-abbrev pub withState : {X : Type 0} (m : Maps) (p t : List ℕ) → Run × X → World
-withState m p t a = world m (now (a .0)) p t
+abbrev pub withState : {X : Type 0} (m : Maps) (p t : List ℕ) → Run × X → Buffers
+withState m p t a = buffers m (now (a .0)) p t
 
-abbrev pub withTables : {X : Type 0} (m : Maps) (p : List ℕ) → Run × (Run × X) → World
-withTables m p a = world m (now (a .0)) p (now (a .1 .0))
+abbrev pub withTables : {X : Type 0} (m : Maps) (p : List ℕ) → Run × (Run × X) → Buffers
+withTables m p a = buffers m (now (a .0)) p (now (a .1 .0))
 
-abbrev pub withShared : {X : Type 0} (m : List ℕ) (q : Permissions) (p t : List ℕ) → Run × (Run × X) → World
-withShared m q p t a = world (record { private = m; shared = now (a .1 .0); permissions = q }) (now (a .0)) p t
+abbrev pub withShared : {X : Type 0} (m : List ℕ) (q : Permissions) (p t : List ℕ) → Run × (Run × X) → Buffers
+withShared m q p t a = buffers (record { private = m; shared = now (a .1 .0); permissions = q }) (now (a .0)) p t
 
 -- what is lent for reading alone stays: the tables; the marks and the tables; the marks and the pages run
-abbrev pub butTables : World → World → World
-butTables w v = world (v .maps) (v .state) (v .pages) (w .tables)
+abbrev pub butTables : Buffers → Buffers → Buffers
+butTables w v = buffers (v .maps) (v .state) (v .pages) (w .tables)
 
 abbrev pub withMarks : Maps → Maps → Maps
 withMarks m n = record { private = m .private; shared = m .shared; permissions = n .permissions }
 
-abbrev pub butMarksTables : World → World → World
-butMarksTables w v = world (withMarks (w .maps) (v .maps)) (v .state) (v .pages) (w .tables)
+abbrev pub butMarksTables : Buffers → Buffers → Buffers
+butMarksTables w v = buffers (withMarks (w .maps) (v .maps)) (v .state) (v .pages) (w .tables)
 
-abbrev pub butMarksPages : World → World → World
-butMarksPages w v = world (withMarks (w .maps) (v .maps)) (v .state) (w .pages) (v .tables)
+abbrev pub butMarksPages : Buffers → Buffers → Buffers
+butMarksPages w v = buffers (withMarks (w .maps) (v .maps)) (v .state) (w .pages) (v .tables)
 
 -- ---- a call that was lent u, left v and answered r
 
-pub data Made : (c : Call) → World → World → Result c → Type 0 where
+pub data Made : (c : Call) → Buffers → Buffers → Result c → Type 0 where
   visibility : (κs : Lfts 10) (a : Dens κs kVisibility.ps) (r : Reply) (e : AtExit (endedOf 10 kVisibility.ps kVisibility.r) κs) → rVisibility.Learnt κs a r e
-      → Made (Write (Visibility (past a .0) (past a .1 .0) (now (past a .1 .1 .0)))) (worldOf a) (butTables (worldOf a) (worldOf e)) r
+      → Made (Write (Visibility (past a .0) (past a .1 .0) (now (past a .1 .1 .0)))) (buffersOf a) (butTables (buffersOf a) (buffersOf e)) r
   done : (κs : Lfts 9) (a : Dens κs kDone.ps) (r : Reply) (e : AtExit (endedOf 9 kDone.ps kDone.r) κs) → rDone.Learnt κs a r e
-      → Made (Answer Succeeds) (worldOf a) (worldOf e) r
+      → Made (Answer Succeeds) (buffersOf a) (buffersOf e) r
   failed : (κs : Lfts 9) (a : Dens κs kFailed.ps) (r : Reply) (e : AtExit (endedOf 9 kFailed.ps kFailed.r) κs) → rFailed.Learnt κs a r e
-      → Made (Answer (Fails (past a .0) (past a .1 .0))) (worldOf a) (worldOf e) r
+      → Made (Answer (Fails (past a .0) (past a .1 .0))) (buffersOf a) (buffersOf e) r
   protection : (κs : Lfts 10) (a : Dens κs kProtection.ps) (r : Reply) (e : AtExit (endedOf 10 kProtection.ps kProtection.r) κs) → rProtection.Learnt κs a r e
-      → Made (Write (Protection (past a .0) (past a .1 .0) (now (past a .1 .1 .0)))) (worldOf a) (butMarksTables (worldOf a) (worldOf e)) r
+      → Made (Write (Protection (past a .0) (past a .1 .0) (now (past a .1 .1 .0)))) (buffersOf a) (butMarksTables (buffersOf a) (buffersOf e)) r
   default : (κs : Lfts 9) (a : Dens κs kDefault.ps) (r : Reply) (e : AtExit (endedOf 9 kDefault.ps kDefault.r) κs) → rDefault.Learnt κs a r e
-      → Made (Write (Default (past a .0) (past a .1 .0))) (worldOf a) (butMarksPages (worldOf a) (worldOf e)) r
+      → Made (Write (Default (past a .0) (past a .1 .0))) (buffersOf a) (butMarksPages (buffersOf a) (buffersOf e)) r
   register : (κs : Lfts 9) (a : Dens κs kRegister.ps) (r : Reply) (e : AtExit (endedOf 9 kRegister.ps kRegister.r) κs) → rRegister.Learnt κs a r e
-      → Made (Write (Register (past a .0) (past a .1 .0) (past a .1 .1 .0) (past a .1 .1 .1 .0) (past a .1 .1 .1 .1 .0))) (worldOf a) (butMarksPages (worldOf a) (worldOf e)) r
+      → Made (Write (Register (past a .0) (past a .1 .0) (past a .1 .1 .0) (past a .1 .1 .1 .0) (past a .1 .1 .1 .1 .0))) (buffersOf a) (butMarksPages (buffersOf a) (buffersOf e)) r
   unregister : (κs : Lfts 9) (a : Dens κs kUnregister.ps) (r : Reply) (e : AtExit (endedOf 9 kUnregister.ps kUnregister.r) κs) → rUnregister.Learnt κs a r e
-      → Made (Write (Unregister (past a .0) (past a .1 .0))) (worldOf a) (butMarksPages (worldOf a) (worldOf e)) r
+      → Made (Write (Unregister (past a .0) (past a .1 .0))) (buffersOf a) (butMarksPages (buffersOf a) (buffersOf e)) r
   -- the calls on locks are lent the state block and the tables alone, and the setter and the getters the state block
   lock : (m : Maps) (p : List ℕ) (κs : Lfts 3) (a : Dens κs kLock.ps) (r : Reply) (e : AtExit (endedOf 3 kLock.ps kLock.r) κs) → rLock.Learnt κs a r e
-      → Made (Write (Lock (a .1 .1 .0) (now (a .1 .1 .1 .0)))) (withTables m p a) (world m (now (a .0)) p (now (e .1 .0))) r
+      → Made (Write (Lock (a .1 .1 .0) (now (a .1 .1 .1 .0)))) (withTables m p a) (buffers m (now (a .0)) p (now (e .1 .0))) r
   unlock : (m : Maps) (p : List ℕ) (κs : Lfts 3) (a : Dens κs kUnlock.ps) (r : Reply) (e : AtExit (endedOf 3 kUnlock.ps kUnlock.r) κs) → rUnlock.Learnt κs a r e
-      → Made (Write (Unlock (a .1 .1 .0) (now (a .1 .1 .1 .0)))) (withTables m p a) (world m (now (a .0)) p (now (e .1 .0))) r
+      → Made (Write (Unlock (a .1 .1 .0) (now (a .1 .1 .1 .0)))) (withTables m p a) (buffers m (now (a .0)) p (now (e .1 .0))) r
   enable : (m : Maps) (p t : List ℕ) (κs : Lfts 1) (a : Dens κs kEnable.ps) (r : Reply) (e : AtExit (endedOf 1 kEnable.ps kEnable.r) κs) → rEnable.Learnt κs a r e
       → Made (Write Enable) (withState m p t a) (withState m p t e) r
   tellEnabled : (m : Maps) (p t : List ℕ) (κs : Lfts 1) (a : Dens κs kTellEnabled.ps) (r : Value) (e : AtExit (endedOf 1 kTellEnabled.ps kTellEnabled.r) κs) → rTellEnabled.Learnt κs a r e
@@ -145,9 +145,9 @@ pub data Made : (c : Call) → World → World → Result c → Type 0 where
 
 -- ---- a build, of a layout and settings, that was lent u, left v and replied r
 
-pub data Built : (ram : List ℕ) (isolation tracked release : ℕ) → World → World → Reply → Type 0 where
+pub data Built : (ram : List ℕ) (isolation tracked release : ℕ) → Buffers → Buffers → Reply → Type 0 where
   build : (κs : Lfts 10) (a : Dens κs kBuild.ps) (r : Reply) (e : AtExit (endedOf 10 kBuild.ps kBuild.r) κs) → rBuild.Learnt κs a r e
-      → Built (now (a .0)) (a .1 .0) (a .1 .1 .0) (a .1 .1 .1 .0) (worldOf (a .1 .1 .1 .1)) (worldOf (e .1 .1 .1 .1)) r
+      → Built (now (a .0)) (a .1 .0) (a .1 .1 .0) (a .1 .1 .1 .0) (buffersOf (a .1 .1 .1 .1)) (buffersOf (e .1 .1 .1 .1)) r
 
 -- ---- no entry asks anything of its arguments: each has its contract whatever it is lent
 

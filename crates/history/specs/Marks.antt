@@ -13,7 +13,7 @@ use Rattle.mapping.specs.Maps.{Maps}
 use lib.ListN.{length}
 use Rattle.protector_state.specs.State.{stateLen, ramOf, entriesIn}
 use Rattle.protector_state.specs.Reply.{finished}
-use Rattle.call_refusals.specs.World.{World, fits, statusIn}
+use Rattle.call_refusals.specs.Buffers.{Buffers, fits, statusIn}
 use Rattle.history.specs.Observed.{Observed, isWaiting, Private, Shared, tookAs, ReturnState, Never, Returned, Validated, Zeroed}
 
 -- a page's mark in a map
@@ -56,7 +56,7 @@ pub record Holds (es : List MemoryRangeWithNode) (i : IsolationType) (m : Maps) 
 abbrev pub readOff : Maps → Observed
 readOff m = record { op = finished 0 0 0 0; table = []; halted = false; listed = []; last = λ z. tookAs (bitAt 8 (m .shared) z); age = λ z. Never }
 
-pub record Settled (w : World) : Type 0 where
+pub record Settled (w : Buffers) : Type 0 where
   pub layout : refusalOf (ramOf (w .state)) ≡ 0
   pub idle : statusIn (w .state) ≡ 0
   pub long : length (w .state) ≡ stateLen

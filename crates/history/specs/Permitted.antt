@@ -13,7 +13,7 @@ use Rattle.change_steps.specs.declared.Stage.{Stage}
 use Rattle.change_steps.specs.declared.Stage.the-variants as stage
 use Rattle.protector_state.specs.State.{phaseIn, requestOf}
 use Rattle.protector_state.specs.Changing.{stageIn, isChanging}
-use Rattle.call_refusals.specs.World.{World, statusOf}
+use Rattle.call_refusals.specs.Buffers.{Buffers, statusOf}
 use Rattle.history.specs.Marks.{Has}
 
 pub record Inside (es : List MemoryRangeWithNode) (m : Permissions) : Type 0 where
@@ -41,6 +41,6 @@ isPages stage.TlbWait = false
 abbrev pub isListing : List ℕ → Bool
 isListing s = cond (isChanging s) (isPages (stageIn s)) (eqb (statusOf (phaseIn s)) refusal.busy)
 
-pub record Permitted (es : List MemoryRangeWithNode) (w : World) : Type 0 where
+pub record Permitted (es : List MemoryRangeWithNode) (w : Buffers) : Type 0 where
   pub inside : Inside es (w .maps .permissions)
   pub listed : isListing (w .state) ≡ true → OnRam es (requestOf (w .state) .n) (w .pages)

@@ -9,7 +9,7 @@ use Rattle.abi.specs.Places as place
 use Rattle.permissions.specs.Flags.{vtlOf, boolOf}
 use Rattle.protector_state.specs.declared.Reply.{Reply}
 use Rattle.protector_state.specs.State.{settingsOf}
-use Rattle.call_refusals.specs.World.{World}
+use Rattle.call_refusals.specs.Buffers.{Buffers}
 use Rattle.protection_entries.specs.Calls.{stored, allListed}
 use Rattle.visibility_claims.specs.Whole.{BackendAnswer}
 use Rattle.visibility_claims.specs.Runs.{whole}
@@ -24,24 +24,24 @@ use Rattle.history.specs.Answered.{given}
 use Rattle.history.specs.Ends.{Trace, start, answer, other, traceOf}
 
 -- the answers that were taken, in order
-unfoldable pub givenIn : {w v : World} {a o : Observed} → Trace w a v o → List BackendAnswer
+unfoldable pub givenIn : {w v : Buffers} {a o : Observed} → Trace w a v o → List BackendAnswer
 givenIn start = []
 givenIn (answer h g b) = givenIn h ++ cond b (g ∷ []) []
 givenIn (other h) = givenIn h
 
 -- the operations asked for: by the call itself, then by each taken answer
-unfoldable pub askedIn : {w v : World} {a o : Observed} → Trace w a v o → List Reply
+unfoldable pub askedIn : {w v : Buffers} {a o : Observed} → Trace w a v o → List Reply
 askedIn {w} {v} {a} start = asksIn (a .op)
 askedIn (answer {u} {v} {o} {p} h g b) = askedIn h ++ cond b (asksIn (p .op)) []
 askedIn (other h) = askedIn h
 
-abbrev pub toldIn : {w v : World} {a o : Observed} → Trace w a v o → Told
+abbrev pub toldIn : {w v : Buffers} {a o : Observed} → Trace w a v o → Told
 toldIn {w} {v} {a} {o} h = record { asked = askedIn h; last = given v (o .op) }
 
--- ---- a call of the world u, once the answers gs were taken: the operations that it asked for, in turn, what was given last, and what it leaves, are those of the
+-- ---- a call of the buffers u, once the answers gs were taken: the operations that it asked for, in turn, what was given last, and what it leaves, are those of the
 -- whole call as 01 writes it
 
-abbrev pub WholeOf : Writer → World → List BackendAnswer → Told → Type 0
+abbrev pub WholeOf : Writer → Buffers → List BackendAnswer → Told → Type 0
 WholeOf (Visibility vtl share list) u gs x =
     Match (u .tables) (drop place.afterRequest (u .state)) (pagesFor u (vtlOf vtl) (boolOf share) list) (settingsOf (u .state) .isolation)
     (whole (wholeOf u (vtlOf vtl) (boolOf share) list gs)) x
@@ -54,31 +54,31 @@ WholeOf (Lock vtl list) u gs x = ⊥
 WholeOf (Unlock vtl list) u gs x = ⊥
 WholeOf Enable u gs x = ⊥
 
--- a call d of the world u that asked for something, and the calls from there on
-abbrev pub IsWhole : Writer → World → {w v : World} {a o : Observed} → Trace w a v o → Type 0
+-- a call d of the buffers u that asked for something, and the calls from there on
+abbrev pub IsWhole : Writer → Buffers → {w v : Buffers} {a o : Observed} → Trace w a v o → Type 0
 IsWhole d u h = WholeOf d u (givenIn h) (toldIn h)
 
 -- ---- the request of a list of calls that is under way where the list stops, or that ended with no call but answers since: the calls before it, its own, and those
 -- after it
 
-pub data Begun (w : World) (a : Observed) (x : World) (p : Observed) : Type 0 where
+pub data Begun (w : Buffers) (a : Observed) (x : Buffers) (p : Observed) : Type 0 where
   nothing : Begun w a x p
-  since : {u v : World} {o : Observed} → History w a u o → (d : Writer) (r : Reply) → Made (Write d) u v r → History v (seesWriter d r (v .pages) o) x p → Begun w a x p
+  since : {u v : Buffers} {o : Observed} → History w a u o → (d : Writer) (r : Reply) → Made (Write d) u v r → History v (seesWriter d r (v .pages) o) x p → Begun w a x p
 
-abbrev pub thenCall : {w u v : World} {a o : Observed} → Begun w a u o → (c : Call) (r : Result c) → Made c u v r → Begun w a v (sees c r (v .pages) o)
+abbrev pub thenCall : {w u v : Buffers} {a o : Observed} → Begun w a u o → (c : Call) (r : Result c) → Made c u v r → Begun w a v (sees c r (v .pages) o)
 thenCall nothing c r m = nothing
 thenCall (since g d s n h) c r m = since g d s n (call h c r m)
 
-abbrev pub thenCallWithOtherLengths : {w u x y : World} {a o : Observed} → Begun w a u o → (c : Call) (r : Result c) → Made c x y r → OtherCallLengths c u x → Begun w a u (sees c r (y .pages) o)
+abbrev pub thenCallWithOtherLengths : {w u x y : Buffers} {a o : Observed} → Begun w a u o → (c : Call) (r : Result c) → Made c x y r → OtherCallLengths c u x → Begun w a u (sees c r (y .pages) o)
 thenCallWithOtherLengths nothing c r m s = nothing
 thenCallWithOtherLengths (since g d s n h) c r m t = since g d s n (callWithOtherLengths h c r m t)
 
-abbrev pub thenBuild : {w u x y : World} {a o : Observed} → Begun w a u o → (ram : List ℕ) (isolation tracked release : ℕ) (r : Reply) → Built ram isolation tracked release x y r
+abbrev pub thenBuild : {w u x y : Buffers} {a o : Observed} → Begun w a u o → (ram : List ℕ) (isolation tracked release : ℕ) (r : Reply) → Built ram isolation tracked release x y r
     → IsRefusal r → Begun w a u o
 thenBuild nothing ram isolation tracked release r m f = nothing
 thenBuild (since g d s n h) ram isolation tracked release r m f = since g d s n (refusedBuild h ram isolation tracked release r m f)
 
-unfoldable pub begunIn : {w v : World} {a o : Observed} → History w a v o → Begun w a v o
+unfoldable pub begunIn : {w v : Buffers} {a o : Observed} → History w a v o → Begun w a v o
 begunIn none = nothing
 begunIn (call {u} {v} {o} h (Write d) r m) = cond (asks r) (since h d r m none) (cond (isWaiting o) (thenCall (begunIn h) (Write d) r m) nothing)
 begunIn (call {u} {v} {o} h (Read q) r m) = cond (isWaiting o) (thenCall (begunIn h) (Read q) r m) nothing
@@ -89,18 +89,18 @@ begunIn (callWithOtherLengths h (Answer g) r m s) = thenCallWithOtherLengths (be
 begunIn (refusedBuild {u} {x} {y} {o} h ram isolation tracked release r m f) = cond (isWaiting o) (thenBuild (begunIn h) ram isolation tracked release r m f) nothing
 
 -- it is the whole call under the answers taken so far; where there is none, nothing is under way
-abbrev pub AskedAt : {w x : World} {a p : Observed} → Begun w a x p → Type 0
+abbrev pub AskedAt : {w x : Buffers} {a p : Observed} → Begun w a x p → Type 0
 AskedAt {w} {x} {a} {p} nothing = isWaiting p ≡ false
 AskedAt (since {u} g d r m h) = IsWhole d u (traceOf h)
 
 -- wherever the list is stopped
-unfoldable pub Asked : {w v : World} {a o : Observed} → History w a v o → Type 0
+unfoldable pub Asked : {w v : Buffers} {a o : Observed} → History w a v o → Type 0
 Asked none = Unit {0}
 Asked (call h c r m) = Asked h × AskedAt (begunIn (call h c r m))
 Asked (callWithOtherLengths h c r m s) = Asked h × AskedAt (begunIn (callWithOtherLengths h c r m s))
 Asked (refusedBuild h ram isolation tracked release r m f) = Asked h × AskedAt (begunIn (refusedBuild h ram isolation tracked release r m f))
 
 -- the calls before it, its own and those since are those of the list, l
-abbrev pub Parts : List Event → {w x : World} {a p : Observed} → Begun w a x p → Type 0
+abbrev pub Parts : List Event → {w x : Buffers} {a p : Observed} → Begun w a x p → Type 0
 Parts l nothing = Unit {0}
 Parts l (since g d r m h) = l ≡ eventsIn g ++ (Called (Write d) ∷ eventsIn h)

@@ -2,13 +2,13 @@
 -- the tables and the settings are such as 01's limits allow, and no permission is of a page outside RAM.
 use Prim.Native.Nat.{ℕ}
 use Rattle.protector_state.specs.State.{entriesIn}
-use Rattle.call_refusals.specs.World.{World}
+use Rattle.call_refusals.specs.Buffers.{Buffers}
 use Rattle.history.specs.Marks.{Settled}
 use Rattle.history.specs.Tables.{Tables}
 use Rattle.history.specs.Settings.{SettingsFit}
 use Rattle.history.specs.Permitted.{Inside}
 
-pub record Rests (isolation tracked release : ℕ) (w : World) : Type 0 where
+pub record Rests (isolation tracked release : ℕ) (w : Buffers) : Type 0 where
   pub settled : Settled w
   pub tables : Tables (entriesIn (w .state)) (w .tables)
   pub settings : SettingsFit isolation tracked release (w .state)

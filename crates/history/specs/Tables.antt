@@ -20,7 +20,7 @@ use Rattle.change_steps.specs.declared.Stage.{Stage}
 use Rattle.change_steps.specs.declared.Stage.the-variants as stage
 use Rattle.change_steps.specs.declared.Change.{Change}
 use Rattle.protector_state.specs.Changing.{stageIn, changeIn}
-use Rattle.call_refusals.specs.World.{World, tablesLen, overlaysOf, locksOf}
+use Rattle.call_refusals.specs.Buffers.{Buffers, tablesLen, overlaysOf, locksOf}
 
 -- ---- overlay entries, of the layout es
 
@@ -94,8 +94,8 @@ entryFor q = entry (q .at) (q .previous) (q .flags) 1 (q .source)
 abbrev pub PendingIn : List MemoryRangeWithNode → List ℕ → List ℕ → Type 0
 PendingIn es s t = Pending es (stageIn s) (entryFor (changeIn s)) (overlaysOf t (changeIn s .vtl))
 
--- ---- all of it, of a world
+-- ---- all of it, of buffers
 
-pub record TablesFit (es : List MemoryRangeWithNode) (w : World) : Type 0 where
+pub record TablesFit (es : List MemoryRangeWithNode) (w : Buffers) : Type 0 where
   pub tables : Tables es (w .tables)
   pub pending : PendingIn es (w .state) (w .tables)

@@ -13,7 +13,7 @@ use Rattle.page_list.specs.Pages.{pagesOf}
 use Rattle.lock_table.specs.Locks.{lockCode, lockWords, unlockCode, unlockWords}
 use Rattle.protector_state.specs.declared.Reply.{Reply}
 use Rattle.protector_state.specs.Reply.{finished}
-use Rattle.call_refusals.specs.World.{tablesLen, locksOf}
+use Rattle.call_refusals.specs.Buffers.{tablesLen, locksOf}
 use Rattle.call_refusals.proofs.Laws.{is-ready}
 use Rattle.lock_entries.specs.Calls.{kept, ended, lockRefusal, withLocks, lockTaken, lockOf, unlockTaken, unlockOf}
 

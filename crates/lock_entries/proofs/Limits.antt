@@ -13,7 +13,7 @@ use Rattle.permissions.specs.declared.GuestVtl.the-variants.{Vtl0, Vtl1}
 use Rattle.permissions.specs.Flags.{vtlOf}
 use Rattle.page_list.specs.Pages.{pagesOf}
 use Rattle.lock_table.specs.Locks.{total, Fit, roomFor, ends, joined, tableOf}
-use Rattle.call_refusals.specs.World.{tablesLen, locksOf}
+use Rattle.call_refusals.specs.Buffers.{tablesLen, locksOf}
 use Rattle.lock_entries.specs.Calls.{ended, lockRefusal, lockOf}
 use Rattle.lock_entries.specs.Lists.{Lists, lists, listsAt, withLists, Holds, Makes}
 use Rattle.lock_entries.proofs.Lists.{lock-room, lock-full}

@@ -15,7 +15,7 @@ use Rattle.lock_table.specs.Locks as locks
 use Rattle.lock_table.proofs.Lists.{table-length, table-held, table-lock, table-lock-code}
 use Rattle.lock_table.proofs.Unlocked.{none-unlocked, table-unlock, table-unlock-code}
 use Rattle.lock_table.proofs.Fits.{lock-fits, unlock-fits}
-use Rattle.call_refusals.specs.World.{locksOf}
+use Rattle.call_refusals.specs.Buffers.{locksOf}
 use Rattle.lock_entries.specs.Calls.{Kept, ended, lockRefusal, withLocks, lockTaken, lockOf, unlockTaken, unlockOf}
 use Rattle.lock_entries.specs.Lists.{Lists, lists, listsAt, withLists, Holds, Makes}
 use Rattle.lock_entries.proofs.Parts.{same-locks, length-with, locks-with, other-locks0, other-locks1, overlays-with}

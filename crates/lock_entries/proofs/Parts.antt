@@ -8,7 +8,7 @@ use lib.Seq.{drop-drop, take-at, drop-at, take-append-le, drop-append-le, length
 use Rattle.permissions.specs.declared.GuestVtl.{GuestVtl}
 use Rattle.permissions.specs.declared.GuestVtl.the-variants.{Vtl0, Vtl1}
 use Rattle.permissions.specs.Flags.{vtlNumber}
-use Rattle.call_refusals.specs.World.{tablesLen, overlaysOf, locksOf}
+use Rattle.call_refusals.specs.Buffers.{tablesLen, overlaysOf, locksOf}
 use Rattle.lock_entries.specs.Calls.{withLocks}
 
 abbrev start : GuestVtl → ℕ

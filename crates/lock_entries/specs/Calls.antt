@@ -14,7 +14,7 @@ use Rattle.page_list.specs.Pages.{pagesOf, isLong, isRagged}
 use Rattle.lock_table.specs.Locks.{lockCode, lockWords, unlockCode, unlockWords}
 use Rattle.protector_state.specs.declared.Reply.{Reply}
 use Rattle.protector_state.specs.Reply.{finished}
-use Rattle.call_refusals.specs.World.{tablesLen, locksOf}
+use Rattle.call_refusals.specs.Buffers.{tablesLen, locksOf}
 use Rattle.call_refusals.specs.Refusals.{ready}
 
 -- what a call gives: the tables, and the reply

@@ -7,7 +7,7 @@ use Rattle.permissions.specs.declared.GuestVtl.{GuestVtl}
 use Rattle.permissions.specs.declared.GuestVtl.the-variants.{Vtl0, Vtl1}
 use Rattle.lock_table.specs.Locks.{Fit, tableOf}
 use Rattle.protector_state.specs.Reply.{finished}
-use Rattle.call_refusals.specs.World.{tablesLen, overlaysOf, locksOf}
+use Rattle.call_refusals.specs.Buffers.{tablesLen, overlaysOf, locksOf}
 use Rattle.lock_entries.specs.Calls.{Kept}
 
 pub record Lists : Type 0 where

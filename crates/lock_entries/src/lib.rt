@@ -3,7 +3,7 @@ ghost use mathlib.Core.Path.{_≡_};
 ghost use lib.ListN.{length};
 ghost use Rattle.page_list.specs.Pages.{pagesOf};
 ghost use Rattle.lock_table.specs.Locks.{lockCode, lockWords, unlockCode, unlockWords};
-ghost use Rattle.call_refusals.specs.World.{tablesLen, locksOf};
+ghost use Rattle.call_refusals.specs.Buffers.{tablesLen, locksOf};
 ghost use Rattle.lock_entries.specs.Calls.{kept, lockRefusal, withLocks, lockOf, unlockOf};
 use abi::TABLES_WORDS;
 use abi::refusal;

@@ -12,7 +12,7 @@ use Rattle.overlay_table.proofs.Lists.{first, table-length, table-overlay, tabl
 use Rattle.change_steps.specs.Changes.{startNew, startOld}
 use Rattle.protector_state.specs.State.{settingsOf}
 use Rattle.protector_state.specs.Reply.{finished}
-use Rattle.call_refusals.specs.World.{World, Outcome, tablesLen, overlaysOf, fits}
+use Rattle.call_refusals.specs.Buffers.{Buffers, Outcome, tablesLen, overlaysOf, fits}
 use Rattle.protector.specs.Calls.{refusedBy, carriedChange}
 pub use Rattle.protector.proofs.Tables.{overlays-written, locks-kept, vtl1-kept, vtl0-kept}
 use Rattle.overlay_refusals.specs.Refusals.{unregisterRefusal, registerRefusal}
@@ -21,7 +21,7 @@ use Rattle.overlay_refusals.proofs.Laws as laws
 
 -- ---- where the words of the VTL are the table of a list: the calls on the list
 
-module _ (w : World) (vtl p : ℕ) (es : List OverlayPage) (few : length es ≤ 128) (len : length (w .tables) ≡ tablesLen) (is : overlaysOf (w .tables) (vtlOf vtl) ≡ tableOf es) where
+module _ (w : Buffers) (vtl p : ℕ) (es : List OverlayPage) (few : length es ≤ 128) (len : length (w .tables) ≡ tablesLen) (is : overlaysOf (w .tables) (vtlOf vtl) ≡ tableOf es) where
   pub known-in : isOverlay (overlaysOf (w .tables) (vtlOf vtl)) p ≡ knows es p
   known-in = ap (λ (o : List ℕ). isOverlay o p) is ∙ table-overlay es few p
 
@@ -37,25 +37,25 @@ module _ (w : World) (vtl p : ℕ) (es : List OverlayPage) (few : length es ≤ 
 
   -- a known page is counted once more, and nothing is asked
   pub register-known : (source checked new : ℕ) → registerRefusal (w .state) (fits w) (w .maps .shared) (w .tables) (currentIn w (vtlOf vtl) p source) vtl p source checked new ≡ 0 → knows es p ≡ true
-      → (overlaysOf (registerOf w vtl p source checked new .world .tables) (vtlOf vtl) ≡ tableOf (changed (withCount (entryOf es p .«ref_count» + 1)) es p))
-      × (registerOf w vtl p source checked new .world .maps ≡ w .maps) × (registerOf w vtl p source checked new .world .state ≡ w .state) × (registerOf w vtl p source checked new .reply ≡ finished 0 0 0 0)
+      → (overlaysOf (registerOf w vtl p source checked new .buffers .tables) (vtlOf vtl) ≡ tableOf (changed (withCount (entryOf es p .«ref_count» + 1)) es p))
+      × (registerOf w vtl p source checked new .buffers .maps ≡ w .maps) × (registerOf w vtl p source checked new .buffers .state ≡ w .state) × (registerOf w vtl p source checked new .reply ≡ finished 0 0 0 0)
   unfolding registerOf registerTaken
   register-known source checked new z k =
       let x : Outcome = counting w (vtlOf vtl) p (entryIn (w .tables) (vtlOf vtl) p .«ref_count» + 1) in
       let d : registerOf w vtl p source checked new ≡ x
       = ap (λ (b : Bool). cond b (registerTaken w (vtlOf vtl) p source new) (refusedBy w (registerRefusal (w .state) (fits w) (w .maps .shared) (w .tables) (currentIn w (vtlOf vtl) p source) vtl p source checked new))) (eq-eqb _ 0 z)
       ∙ ap (λ (b : Bool). cond b x (carriedChange w (w .pages) (startNew (settingsOf (w .state) .tracked) (vtlOf vtl) p source (bitsOf (currentIn w (vtlOf vtl) p source)) new))) (known-in ∙ k) in (
-        ap (λ (y : Outcome). overlaysOf (y .world .tables) (vtlOf vtl)) d ∙ recounted-in k (entryIn (w .tables) (vtlOf vtl) p .«ref_count» + 1)
+        ap (λ (y : Outcome). overlaysOf (y .buffers .tables) (vtlOf vtl)) d ∙ recounted-in k (entryIn (w .tables) (vtlOf vtl) p .«ref_count» + 1)
             ∙ ap (λ (y : OverlayPage). tableOf (changed (withCount (y .«ref_count» + 1)) es p)) (entry-in k),
-        ap (λ (y : Outcome). y .world .maps) d,
-        ap (λ (y : Outcome). y .world .state) d,
+        ap (λ (y : Outcome). y .buffers .maps) d,
+        ap (λ (y : Outcome). y .buffers .state) d,
         ap (λ (y : Outcome). y .reply) d,
       )
 
   -- a count above 1 is lowered, and nothing is asked
   pub unregister-lowers : unregisterRefusal (w .state) (fits w) (w .tables) vtl p ≡ 0 → knows es p ≡ true → 1 < entryOf es p .«ref_count»
-      → (overlaysOf (unregisterOf w vtl p .world .tables) (vtlOf vtl) ≡ tableOf (changed (withCount (entryOf es p .«ref_count» - 1)) es p))
-      × (unregisterOf w vtl p .world .maps ≡ w .maps) × (unregisterOf w vtl p .world .state ≡ w .state) × (unregisterOf w vtl p .reply ≡ finished 0 0 0 0)
+      → (overlaysOf (unregisterOf w vtl p .buffers .tables) (vtlOf vtl) ≡ tableOf (changed (withCount (entryOf es p .«ref_count» - 1)) es p))
+      × (unregisterOf w vtl p .buffers .maps ≡ w .maps) × (unregisterOf w vtl p .buffers .state ≡ w .state) × (unregisterOf w vtl p .reply ≡ finished 0 0 0 0)
   unfolding unregisterOf unregisterTaken
   unregister-lowers z k h =
       let e : OverlayPage = entryIn (w .tables) (vtlOf vtl) p in
@@ -64,9 +64,9 @@ module _ (w : World) (vtl p : ℕ) (es : List OverlayPage) (few : length es ≤ 
       = ap (λ (b : Bool). cond b (unregisterTaken w (vtlOf vtl) p) (refusedBy w (unregisterRefusal (w .state) (fits w) (w .tables) vtl p))) (eq-eqb _ 0 z)
       ∙ ap (λ (b : Bool). cond b x (carriedChange w (w .pages) (startOld (settingsOf (w .state) .tracked) (vtlOf vtl) p (e .«previous_permissions») (e .«gpn_source»))))
       (lt-ltb 1 (e .«ref_count») (subst (λ (y : OverlayPage). 1 < y .«ref_count») (sym (entry-in k)) h)) in (
-        ap (λ (y : Outcome). overlaysOf (y .world .tables) (vtlOf vtl)) d ∙ recounted-in k (e .«ref_count» - 1)
+        ap (λ (y : Outcome). overlaysOf (y .buffers .tables) (vtlOf vtl)) d ∙ recounted-in k (e .«ref_count» - 1)
             ∙ ap (λ (y : OverlayPage). tableOf (changed (withCount (y .«ref_count» - 1)) es p)) (entry-in k),
-        ap (λ (y : Outcome). y .world .maps) d,
-        ap (λ (y : Outcome). y .world .state) d,
+        ap (λ (y : Outcome). y .buffers .maps) d,
+        ap (λ (y : Outcome). y .buffers .state) d,
         ap (λ (y : Outcome). y .reply) d,
       )

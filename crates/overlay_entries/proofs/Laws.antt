@@ -27,7 +27,7 @@ use Rattle.protector_state.specs.declared.Reply.{Reply}
 use Rattle.protector_state.specs.State.{stateLen, settingsOf, entriesIn}
 use Rattle.protector_state.specs.Reply.{finished, flatOf}
 use Rattle.protector_state.specs.Changing.{withChange}
-use Rattle.call_refusals.specs.World.{World, outcome, tablesLen, overlaysOf, locksOf}
+use Rattle.call_refusals.specs.Buffers.{Buffers, outcome, tablesLen, overlaysOf, locksOf}
 use Rattle.protector.specs.Writes.{withOverlays, permittedRun, entered}
 use Rattle.protector.specs.Calls.{carriedChange}
 use Rattle.protector_state.specs.declared.Value.{Value}
@@ -57,7 +57,7 @@ module _ (s t : List ℕ) (vtl p n : ℕ) (e : n ≡ callRefusal s (eqb (length 
 abbrev pub withPerms : Maps → Permissions → Maps
 withPerms m p = record { private = m .private; shared = m .shared; permissions = p }
 
-pub carried : (w : World) (set : Settings) (x y : ChangeStep) (m : Permissions) (s t : List ℕ) (r : Reply) → set ≡ settingsOf (w .state) → x ≡ y
+pub carried : (w : Buffers) (set : Settings) (x y : ChangeStep) (m : Permissions) (s t : List ℕ) (r : Reply) → set ≡ settingsOf (w .state) → x ≡ y
     → m ≡ permittedRun (x .written) (flagsOf (x .change .flags)) (w .maps .permissions) → s ≡ withChange (x .stage) (x .change) (w .state)
     → t ≡ entered (x .entry) (x .change) (w .tables) → r ≡ flatOf (set .isolation) (x .answer)
     → outcome (withPerms (w .maps) m) s (w .pages) t r ≡ carriedChange w (w .pages) y
@@ -85,7 +85,7 @@ module _ (s : List ℕ) (fit : Bool) (t : List ℕ) (vtl p n : ℕ) (e : n ≡ u
   unfolding unregisterRefusal
   unregister-fits = call-passed s fit vtl _ (sym e ∙ z) .2
 
-module _ (w : World) (v : GuestVtl) (p : ℕ) (e : OverlayPage) (q : e ≡ entryIn (w .tables) v p) where
+module _ (w : Buffers) (v : GuestVtl) (p : ℕ) (e : OverlayPage) (q : e ≡ entryIn (w .tables) v p) where
   pub unregister-counted : (t : List ℕ) (r : Reply) → 1 < e .«ref_count» → t ≡ recounted (w .tables) v p (e .«ref_count» - 1) → r ≡ finished 0 0 0 0
       → outcome (w .maps) (w .state) (w .pages) t r ≡ unregisterTaken w v p
   unfolding unregisterTaken
@@ -120,7 +120,7 @@ module _ (t : List ℕ) (v : GuestVtl) (p place : ℕ) (at : place ≡ placeOf (
 
 -- ---- register_overlay_page
 
-pub register-asks : (w : World) (fit : Bool) (v : GuestVtl) (vtl p source checked new n : ℕ) (current : HvMapGpaFlags) → v ≡ vtlOf vtl → current ≡ currentIn w v p source
+pub register-asks : (w : Buffers) (fit : Bool) (v : GuestVtl) (vtl p source checked new n : ℕ) (current : HvMapGpaFlags) → v ≡ vtlOf vtl → current ≡ currentIn w v p source
     → n ≡ registerRefusal (w .state) fit (w .maps .shared) (w .tables) current vtl p source checked new
     → n ≡ registerRefusal (w .state) fit (w .maps .shared) (w .tables) (currentIn w (vtlOf vtl) p source) vtl p source checked new
 register-asks w fit v vtl p source checked new n current a b e =
@@ -153,7 +153,7 @@ new-fits tracked v p source current new x e h = subst (λ (k : ChangeStep). k .w
     go true = one-fits (isVtl0 v && (tracked && eqb source 0)) p h
     go false = one-fits false p h
 
-module _ (w : World) (v : GuestVtl) (p source new place : ℕ) (at : place ≡ placeOf (overlaysOf (w .tables) v) p) where
+module _ (w : Buffers) (v : GuestVtl) (p source new place : ℕ) (at : place ≡ placeOf (overlaysOf (w .tables) v) p) where
   whether : not (eqb place 0) ≡ isOverlay (overlaysOf (w .tables) v) p
   whether = ap (λ (k : ℕ). not (eqb k 0)) at
 

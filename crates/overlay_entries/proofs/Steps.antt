@@ -28,7 +28,7 @@ use Rattle.change_steps.specs.declared.Entry.the-variants.{Keep, Add, Remove}
 use Rattle.change_steps.specs.Changes.{ask, wait, protect, finish, overlayOf, doneOf, startNew, startOld}
 use Rattle.protector_state.specs.State.{settingsOf, entriesIn}
 use Rattle.protector_state.specs.Reply.{askedOf, flatOf}
-use Rattle.call_refusals.specs.World.{World, Outcome, tablesLen, overlaysOf, locksOf, isLocked, fits}
+use Rattle.call_refusals.specs.Buffers.{Buffers, Outcome, tablesLen, overlaysOf, locksOf, isLocked, fits}
 use Rattle.protector.specs.Writes.{withoutPage, entered}
 use Rattle.protector.specs.Calls.{refusedBy, carriedChange}
 use Rattle.overlay_refusals.specs.Refusals.{unregisterRefusal, within, knownRefusal, guestRefusal, dmaRefusal, pageRefusal, registerRefusal}
@@ -111,7 +111,7 @@ few-entries es h z = go (ltb (length es) 128) refl (sym (table-add-code es h) �
     go true e d = ltb-true (length es) 128 e
     go false e d = absurd (omega (arith, d))
 
-module _ (w : World) (vtl p source checked new : ℕ) (z : registerRefusal (w .state) (fits w) (w .maps .shared) (w .tables) (currentIn w (vtlOf vtl) p source) vtl p source checked new ≡ 0)
+module _ (w : Buffers) (vtl p source checked new : ℕ) (z : registerRefusal (w .state) (fits w) (w .maps .shared) (w .tables) (currentIn w (vtlOf vtl) p source) vtl p source checked new ≡ 0)
     (es : List OverlayPage) (few : length es ≤ 128) (len : length (w .tables) ≡ tablesLen) (is : overlaysOf (w .tables) (vtlOf vtl) ≡ tableOf es) (k : knows es p ≡ false) where
   abbrev v : GuestVtl
   v = vtlOf vtl
@@ -135,33 +135,33 @@ module _ (w : World) (vtl p source checked new : ℕ) (z : registerRefusal (w .s
 
   -- without new flags it is the last entry at once: current flags as previous and own, counted once
   pub register-enters : ltb new 16 ≡ false
-      → (overlaysOf (registerOf w vtl p source checked new .world .tables) v ≡ tableOf (es ++ (entry p (bitsOf (currentIn w v p source)) (bitsOf (currentIn w v p source)) 1 source ∷ [])))
+      → (overlaysOf (registerOf w vtl p source checked new .buffers .tables) v ≡ tableOf (es ++ (entry p (bitsOf (currentIn w v p source)) (bitsOf (currentIn w v p source)) 1 source ∷ [])))
       × (registerOf w vtl p source checked new .reply ≡ askedOf (settingsOf (w .state) .isolation) Wait)
   unfolding carriedChange flatOf wait ask
   register-enters h =
       let c : ℕ = bitsOf (currentIn w v p source) in
       let d : registerOf w vtl p source checked new ≡ carriedChange w (w .pages) (wait (overlayOf v p c c source) Add)
       = taken ∙ ap (carriedChange w (w .pages)) (without-flags (settingsOf (w .state) .tracked) v p source c new [] (run 0 0) h .0) in (
-        ap (λ (y : Outcome). overlaysOf (y .world .tables) v) d ∙ entered-last (wait (overlayOf v p c c source) Add .change) (w .tables) es len is room,
+        ap (λ (y : Outcome). overlaysOf (y .buffers .tables) v) d ∙ entered-last (wait (overlayOf v p c c source) Add .change) (w .tables) es len is room,
         ap (λ (y : Outcome). y .reply) d,
       )
 
   -- with new flags they are asked for first, and no entry is written
   pub register-protects : ltb new 16 ≡ true
-      → (registerOf w vtl p source checked new .world .tables ≡ w .tables) × (registerOf w vtl p source checked new .reply ≡ askedOf (settingsOf (w .state) .isolation) (Protect v (flagsOf new) (run p 1)))
+      → (registerOf w vtl p source checked new .buffers .tables ≡ w .tables) × (registerOf w vtl p source checked new .reply ≡ askedOf (settingsOf (w .state) .isolation) (Protect v (flagsOf new) (run p 1)))
   unfolding carriedChange flatOf protect entered
   register-protects h =
       let c : ℕ = bitsOf (currentIn w v p source) in
       let tracked : Bool = settingsOf (w .state) .tracked in
       let d : registerOf w vtl p source checked new ≡ carriedChange w (w .pages) (protect tracked at.ProtectNew (overlayOf v p new c source) p (run p 1))
       = taken ∙ ap (carriedChange w (w .pages)) (with-flags tracked v p source c new [] (run 0 0) h .0) in
-      (ap (λ (y : Outcome). y .world .tables) d, ap (λ (y : Outcome). y .reply) d)
+      (ap (λ (y : Outcome). y .buffers .tables) d, ap (λ (y : Outcome). y .reply) d)
 
 -- ---- an unregistration of a count that isn't above 1 asks for the previous permissions, and leaves the entry until they are given
 
-module _ (w : World) (vtl p : ℕ) (z : unregisterRefusal (w .state) (fits w) (w .tables) vtl p ≡ 0) (es : List OverlayPage) (few : length es ≤ 128) (len : length (w .tables) ≡ tablesLen)
+module _ (w : Buffers) (vtl p : ℕ) (z : unregisterRefusal (w .state) (fits w) (w .tables) vtl p ≡ 0) (es : List OverlayPage) (few : length es ≤ 128) (len : length (w .tables) ≡ tablesLen)
     (is : overlaysOf (w .tables) (vtlOf vtl) ≡ tableOf es) (k : knows es p ≡ true) (one : entryOf es p .«ref_count» ≤ 1) where
-  pub unregister-restores : (unregisterOf w vtl p .world .tables ≡ w .tables)
+  pub unregister-restores : (unregisterOf w vtl p .buffers .tables ≡ w .tables)
       × (unregisterOf w vtl p .reply ≡ askedOf (settingsOf (w .state) .isolation) (Protect (vtlOf vtl) (flagsOf (entryOf es p .«previous_permissions»)) (run p 1)))
   unfolding unregisterOf unregisterTaken carriedChange flatOf startOld protect entered
   unregister-restores =
@@ -171,6 +171,6 @@ module _ (w : World) (vtl p : ℕ) (z : unregisterRefusal (w .state) (fits w) (w
       let d : unregisterOf w vtl p ≡ x
       = ap (λ (b : Bool). cond b (unregisterTaken w (vtlOf vtl) p) (refusedBy w (unregisterRefusal (w .state) (fits w) (w .tables) vtl p))) (eq-eqb _ 0 z)
       ∙ ap (λ (b : Bool). cond b (counting w (vtlOf vtl) p (e .«ref_count» - 1)) x) (le-ltb 1 (e .«ref_count») (subst (λ (y : OverlayPage). y .«ref_count» ≤ 1) (sym same) one)) in (
-        ap (λ (y : Outcome). y .world .tables) d,
+        ap (λ (y : Outcome). y .buffers .tables) d,
         ap (λ (y : Outcome). y .reply) d ∙ ap (λ (y : OverlayPage). askedOf (settingsOf (w .state) .isolation) (Protect (vtlOf vtl) (flagsOf (y .«previous_permissions»)) (run p 1))) same,
       )

@@ -14,7 +14,7 @@ use Rattle.overlay_table.specs.Overlays.{isOverlay, placeOf, entryAt, countWord
 use Rattle.change_steps.specs.Changes.{startNew, startOld}
 use Rattle.protector_state.specs.State.{settingsOf}
 use Rattle.protector_state.specs.Reply.{finished}
-use Rattle.call_refusals.specs.World.{World, Outcome, outcome, tablesLen, overlaysOf, fits}
+use Rattle.call_refusals.specs.Buffers.{Buffers, Outcome, outcome, tablesLen, overlaysOf, fits}
 use Rattle.protector.specs.Writes.{withOverlays}
 use Rattle.protector.specs.Calls.{decided, carriedChange}
 use Rattle.protector_state.specs.declared.Value.{Value}
@@ -40,30 +40,30 @@ abbrev pub recounted : List ℕ → GuestVtl → ℕ → ℕ → List ℕ
 recounted t v p n = withOverlays t v (countWords (overlaysOf t v) (placeOf (overlaysOf t v) p) n)
 
 -- a count changed, with no operation
-abbrev pub counting : World → GuestVtl → ℕ → ℕ → Outcome
+abbrev pub counting : Buffers → GuestVtl → ℕ → ℕ → Outcome
 counting w v p n = outcome (w .maps) (w .state) (w .pages) (recounted (w .tables) v p n) (finished 0 0 0 0)
 
 -- ---- unregister_overlay_page: a count above 1 is lowered, else the previous permissions are asked for
 
-unfoldable pub unregisterTaken : World → GuestVtl → ℕ → Outcome
+unfoldable pub unregisterTaken : Buffers → GuestVtl → ℕ → Outcome
 unregisterTaken w v p =
     cond (ltb 1 (entryIn (w .tables) v p .«ref_count»)) (counting w v p (entryIn (w .tables) v p .«ref_count» - 1))
     (carriedChange w (w .pages) (startOld (settingsOf (w .state) .tracked) v p (entryIn (w .tables) v p .«previous_permissions») (entryIn (w .tables) v p .«gpn_source»)))
 
-unfoldable pub unregisterOf : World → ℕ → ℕ → Outcome
+unfoldable pub unregisterOf : Buffers → ℕ → ℕ → Outcome
 unregisterOf w vtl p = decided w (unregisterRefusal (w .state) (fits w) (w .tables) vtl p) (unregisterTaken w (vtlOf vtl) p)
 
 -- ---- register_overlay_page: a known page is counted once more; a new one is entered, after its new flags are asked for where they are given
 
-abbrev pub currentIn : World → GuestVtl → ℕ → ℕ → HvMapGpaFlags
+abbrev pub currentIn : Buffers → GuestVtl → ℕ → ℕ → HvMapGpaFlags
 currentIn w v p source = currentOf (w .state) (w .maps .permissions) v p source
 
-unfoldable pub registerTaken : World → GuestVtl → ℕ → ℕ → ℕ → Outcome
+unfoldable pub registerTaken : Buffers → GuestVtl → ℕ → ℕ → ℕ → Outcome
 registerTaken w v p source new =
     cond (isOverlay (overlaysOf (w .tables) v) p) (counting w v p (entryIn (w .tables) v p .«ref_count» + 1))
     (carriedChange w (w .pages) (startNew (settingsOf (w .state) .tracked) v p source (bitsOf (currentIn w v p source)) new))
 
-unfoldable pub registerOf : World → ℕ → ℕ → ℕ → ℕ → ℕ → Outcome
+unfoldable pub registerOf : Buffers → ℕ → ℕ → ℕ → ℕ → ℕ → Outcome
 registerOf w vtl p source checked new =
     decided w (registerRefusal (w .state) (fits w) (w .maps .shared) (w .tables) (currentIn w (vtlOf vtl) p source) vtl p source checked new)
     (registerTaken w (vtlOf vtl) p source new)

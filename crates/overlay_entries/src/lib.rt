@@ -3,7 +3,7 @@ ghost use mathlib.Core.Path.{_≡_};
 ghost use lib.ListN.{length};
 ghost use Rattle.mapping.specs.Maps.{maps};
 ghost use Rattle.overlay_table.specs.Overlays.{entryAt, countWords};
-ghost use Rattle.call_refusals.specs.World.{world, outcome, tablesLen, overlaysOf};
+ghost use Rattle.call_refusals.specs.Buffers.{buffers, outcome, tablesLen, overlaysOf};
 ghost use Rattle.protector.specs.Writes.{withOverlays};
 ghost use Rattle.overlay_entries.specs.Calls.{isOverlayIn, unregisterOf, registerOf};
 use abi::table;
@@ -77,7 +77,7 @@ pub extern "C" fn protector_unregister_overlay_page(
     gpn: u64,
 ) -> Reply
     ensures { λ r. ⌜ outcome (maps (now (private .entry)) (now (shared .entry)) (now (read .exit)) (now (write .exit)) (now (kernel .exit)) (now (user .exit))) (now (state .exit)) (now (pages .entry)) (now (tables .exit)) r
-        ≡ unregisterOf (world (maps (now (private .entry)) (now (shared .entry)) (now (read .entry)) (now (write .entry)) (now (kernel .entry)) (now (user .entry))) (now (state .entry)) (now (pages .entry)) (now (tables .entry))) vtl gpn ⌝ }
+        ≡ unregisterOf (buffers (maps (now (private .entry)) (now (shared .entry)) (now (read .entry)) (now (write .entry)) (now (kernel .entry)) (now (user .entry))) (now (state .entry)) (now (pages .entry)) (now (tables .entry))) vtl gpn ⌝ }
 {
     let lengths = Lengths {
         maps: MapLengths {
@@ -127,7 +127,7 @@ pub extern "C" fn protector_register_overlay_page(
     new: u64,
 ) -> Reply
     ensures { λ r. ⌜ outcome (maps (now (private .entry)) (now (shared .entry)) (now (read .exit)) (now (write .exit)) (now (kernel .exit)) (now (user .exit))) (now (state .exit)) (now (pages .entry)) (now (tables .exit)) r
-        ≡ registerOf (world (maps (now (private .entry)) (now (shared .entry)) (now (read .entry)) (now (write .entry)) (now (kernel .entry)) (now (user .entry))) (now (state .entry)) (now (pages .entry)) (now (tables .entry))) vtl gpn source checked new ⌝ }
+        ≡ registerOf (buffers (maps (now (private .entry)) (now (shared .entry)) (now (read .entry)) (now (write .entry)) (now (kernel .entry)) (now (user .entry))) (now (state .entry)) (now (pages .entry)) (now (tables .entry))) vtl gpn source checked new ⌝ }
 {
     let v = permissions::vtl_of(vtl);
     let current = overlay_refusals::current_flags(read, write, kernel, user, state, v, gpn, source);

@@ -18,7 +18,7 @@ use Rattle.overlay_table.specs.Overlays.{used, isOverlay, placeOf, entryAt, add
 use Rattle.access.specs.Query.{lowerFlags}
 use Rattle.protector_state.specs.State.{stateLen, settingsOf, ramOf, entriesIn}
 use Rattle.lock_table.specs.Locks.{heldIn}
-use Rattle.call_refusals.specs.World.{overlaysOf, locksOf, statusIn, isLocked}
+use Rattle.call_refusals.specs.Buffers.{overlaysOf, locksOf, statusIn, isLocked}
 use Rattle.call_refusals.proofs.Laws.{is-ready, goes-on, swaps}
 use Rattle.overlay_refusals.specs.declared.Looked.{Looked}
 use Rattle.overlay_refusals.specs.Refusals.{looked, callRefusal, flagsRefusal, within, neededOf, knownRefusal, guestRefusal, dmaRefusal, pageRefusal, currentOf}

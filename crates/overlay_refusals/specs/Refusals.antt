@@ -20,7 +20,7 @@ use Rattle.overlay_table.specs.declared.OverlayPage.{OverlayPage}
 use Rattle.overlay_refusals.specs.declared.Looked.{Looked}
 use Rattle.overlay_table.specs.Overlays.{isOverlay, placeOf, entryAt, addCode}
 use Rattle.protector_state.specs.State.{settingsOf, entriesIn}
-use Rattle.call_refusals.specs.World.{overlaysOf, locksOf, isLocked}
+use Rattle.call_refusals.specs.Buffers.{overlaysOf, locksOf, isLocked}
 use Rattle.call_refusals.specs.Refusals.{ready}
 
 -- what the tests of a call find: a refusal, and a place

@@ -7,7 +7,7 @@ ghost use Rattle.mapping.specs.Maps.{perms};
 ghost use Rattle.permissions.specs.Flags.{vtlOf};
 ghost use Rattle.overlay_table.specs.Overlays.{placeOf, addCode};
 ghost use Rattle.protector_state.specs.State.{stateLen, entriesIn};
-ghost use Rattle.call_refusals.specs.World.{tablesLen, overlaysOf, locksOf, fitsIn};
+ghost use Rattle.call_refusals.specs.Buffers.{tablesLen, overlaysOf, locksOf, fitsIn};
 ghost use Rattle.overlay_refusals.specs.Refusals.{looked, callRefusal, unregisterRefusal, flagsRefusal, holds, within, neededOf, knownRefusal, guestRefusal, dmaRefusal, pageRefusal, registerRefusal, currentOf};
 use abi::NO_FLAGS;
 use abi::TABLES_WORDS;

@@ -1,4 +1,4 @@
--- Laws of a world lent and of calls run to their end: what a step leaves is what was to be done before it. Assumes nothing.
+-- Laws of buffers lent and of calls run to their end: what a step leaves is what was to be done before it. Assumes nothing.
 use mathlib.Core.Bool.{cond}
 use mathlib.Core.List.{List, map}
 use mathlib.Core.Path.{_≡_, refl, sym, ap, ap₂, _∙_}
@@ -13,15 +13,15 @@ use Rattle.laws.specs.Bools.{took, took-not}
 use Rattle.abi.specs.Operations as operation
 use Rattle.abi.specs.Places as place
 use Rattle.protector_state.specs.declared.Reply.{Reply}
-use Rattle.call_refusals.specs.World as lent
+use Rattle.call_refusals.specs.Buffers as lent
 use Rattle.protector.specs.Calls.{answerDone, answerFailed}
-use Rattle.registrar_state.specs.World as chunks
+use Rattle.registrar_state.specs.Buffers as chunks
 use Rattle.recording.specs.Digest.{digestOf}
 use Rattle.recording.specs.Lists.{partOf}
-use Rattle.playback.specs.declared.world.World.{World}
-use Rattle.playback.specs.declared.world.Call.{Call}
+use Rattle.playback.specs.declared.buffers.Buffers.{Buffers}
+use Rattle.playback.specs.declared.buffers.Call.{Call}
 use Rattle.playback.specs.declared.registry.Registry.{Registry}
-use Rattle.playback.specs.World.{bytesIn, lentOf, after, withAsked, codeOf}
+use Rattle.playback.specs.Buffers.{bytesIn, lentOf, after, withAsked, codeOf}
 use Rattle.playback.specs.Answers.{fieldsOf, askedOf, noted, answered, finishedFrom}
 use Rattle.playback.specs.Left.{marksOf, permissionsOf, mapsOf}
 use Rattle.playback.specs.Registry as registry
@@ -61,7 +61,7 @@ module _ (h : ℕ) (pages : List ℕ) (r : Reply) (isolation all : ℕ) (e : all
   unfolding askedOf
   asked-none k = is-not (r .operation) operation.modify _ _ all k e
 
-module _ (w : World) (m : ℕ) (e : m ≡ marksOf w) where
+module _ (w : Buffers) (m : ℕ) (e : m ≡ marksOf w) where
   pub maps-tracked : (x : ℕ) → getD (w .state) place.tracked 0 ≡ 1 → x ≡ permissionsOf m w → x ≡ mapsOf w
   unfolding mapsOf
   maps-tracked x h p = is (getD (w .state) place.tracked 0) 1 _ _ x h (p ∙ ap (λ (d : ℕ). permissionsOf d w) e)
@@ -72,14 +72,14 @@ module _ (w : World) (m : ℕ) (e : m ≡ marksOf w) where
 
 -- ---- an answer
 
-module _ (w : World) (c : Call) (at n h : ℕ) (r : World) (e : n ≡ bytesIn w) (f : h ≡ askedOf (w .asked) (w .pages) (w .reply) (getD (w .state) place.isolation 0)) where
-  there : (o : lent.World → lent.Outcome) → r ≡ after n (withAsked w h) (o (lentOf n w)) → r ≡ after (bytesIn w) (noted w) (o (lentOf (bytesIn w) w))
+module _ (w : Buffers) (c : Call) (at n h : ℕ) (r : Buffers) (e : n ≡ bytesIn w) (f : h ≡ askedOf (w .asked) (w .pages) (w .reply) (getD (w .state) place.isolation 0)) where
+  there : (o : lent.Buffers → lent.Outcome) → r ≡ after n (withAsked w h) (o (lentOf n w)) → r ≡ after (bytesIn w) (noted w) (o (lentOf (bytesIn w) w))
   there o p = p ∙ ap₂ (λ (k d : ℕ). after k (withAsked w d) (o (lentOf k w))) e f
 
   pub answered-failed : at ≡ c .place → r ≡ after n (withAsked w h) (answerFailed (lentOf n w) (codeOf (c .code)) (c .processed)) → r ≡ answered w c at
   unfolding answered
   answered-failed k p =
-      there (λ (x : lent.World). answerFailed x (codeOf (c .code)) (c .processed)) p
+      there (λ (x : lent.Buffers). answerFailed x (codeOf (c .code)) (c .processed)) p
       ∙ ap (after (bytesIn w) (noted w)) (is at (c .place) _ _ (answerFailed (lentOf (bytesIn w) w) (codeOf (c .code)) (c .processed)) k refl)
 
   pub answered-done : (at ≡ c .place → ⊥) → r ≡ after n (withAsked w h) (answerDone (lentOf n w)) → r ≡ answered w c at
@@ -88,7 +88,7 @@ module _ (w : World) (c : Call) (at n h : ℕ) (r : World) (e : n ≡ bytesIn w)
 
 -- ---- run to its end, in at most m answers
 
-module _ (m at : ℕ) (w : World) (c : Call) where
+module _ (m at : ℕ) (w : Buffers) (c : Call) where
   pub finished-end : m ≤ at → w ≡ finishedFrom (m - at) at w c
   unfolding finishedFrom
   finished-end h = let d : m - at ≡ 0 = omega arith in rw d
@@ -97,11 +97,11 @@ module _ (m at : ℕ) (w : World) (c : Call) where
   unfolding finishedFrom
   finished-stop h k = let d : m - at ≡ suc (m - (at + 1)) = omega arith in rw d (is (w .reply .operation) 0 _ _ w k refl)
 
-  pub finished-next : (v : World) → at < m → (w .reply .operation ≡ 0 → ⊥) → v ≡ answered w c (at + 1) → finishedFrom (m - (at + 1)) (at + 1) v c ≡ finishedFrom (m - at) at w c
+  pub finished-next : (v : Buffers) → at < m → (w .reply .operation ≡ 0 → ⊥) → v ≡ answered w c (at + 1) → finishedFrom (m - (at + 1)) (at + 1) v c ≡ finishedFrom (m - at) at w c
   unfolding finishedFrom
   finished-next v h k p =
       let d : m - at ≡ suc (m - (at + 1)) = omega arith in
-      rw d (is-not (w .reply .operation) 0 _ _ (finishedFrom (m - (at + 1)) (at + 1) v c) k (ap (λ (x : World). finishedFrom (m - (at + 1)) (at + 1) x c) p))
+      rw d (is-not (w .reply .operation) 0 _ _ (finishedFrom (m - (at + 1)) (at + 1) v c) k (ap (λ (x : Buffers). finishedFrom (m - (at + 1)) (at + 1) x c) p))
 
 -- ---- the same of a registry
 

@@ -7,13 +7,13 @@ use lib.ListN.{getD}
 use Rattle.abi.specs.Operations as operation
 use Rattle.abi.specs.Places as place
 use Rattle.protector_state.specs.declared.Reply.{Reply}
-use Rattle.call_refusals.specs.World as lent
+use Rattle.call_refusals.specs.Buffers as lent
 use Rattle.protector.specs.Calls.{answerDone, answerFailed}
 use Rattle.recording.specs.Digest.{digestWord, digestOf}
 use Rattle.recording.specs.Lists.{partOf}
-use Rattle.playback.specs.declared.world.World.{World}
-use Rattle.playback.specs.declared.world.Call.{Call}
-use Rattle.playback.specs.World.{answers, cca, bytesIn, lentOf, after, withAsked, codeOf}
+use Rattle.playback.specs.declared.buffers.Buffers.{Buffers}
+use Rattle.playback.specs.declared.buffers.Call.{Call}
+use Rattle.playback.specs.Buffers.{answers, cca, bytesIn, lentOf, after, withAsked, codeOf}
 
 -- the original hands CCA's backend no flags
 abbrev pub flagsOf : Reply → ℕ → ℕ
@@ -29,20 +29,20 @@ askedOf h pages r isolation =
     cond (eqb (r .operation) operation.modify) (digestOf (fieldsOf h r isolation) (partOf pages (r .pages))) (fieldsOf h r isolation)
 
 -- the operation asked for in the digest
-abbrev pub noted : World → World
-noted world = withAsked world (askedOf (world .asked) (world .pages) (world .reply) (getD (world .state) place.isolation 0))
+abbrev pub noted : Buffers → Buffers
+noted buffers = withAsked buffers (askedOf (buffers .asked) (buffers .pages) (buffers .reply) (getD (buffers .state) place.isolation 0))
 
 -- the operation asked for as the call's place says: done, or failed where it is the one
-abbrev pub answerIn : lent.World → Call → ℕ → lent.Outcome
-answerIn world c at = cond (eqb at (c .place)) (answerFailed world (codeOf (c .code)) (c .processed)) (answerDone world)
+abbrev pub answerIn : lent.Buffers → Call → ℕ → lent.Outcome
+answerIn buffers c at = cond (eqb at (c .place)) (answerFailed buffers (codeOf (c .code)) (c .processed)) (answerDone buffers)
 
-unfoldable pub answered : World → Call → ℕ → World
-answered world c at = after (bytesIn world) (noted world) (answerIn (lentOf (bytesIn world) world) c at)
+unfoldable pub answered : Buffers → Call → ℕ → Buffers
+answered buffers c at = after (bytesIn buffers) (noted buffers) (answerIn (lentOf (bytesIn buffers) buffers) c at)
 
 -- so many answers at most, those before counted
-unfoldable pub finishedFrom : ℕ → ℕ → World → Call → World
-finishedFrom zero at world c = world
-finishedFrom (suc n) at world c = cond (eqb (world .reply .operation) 0) world (finishedFrom n (at + 1) (answered world c (at + 1)) c)
+unfoldable pub finishedFrom : ℕ → ℕ → Buffers → Call → Buffers
+finishedFrom zero at buffers c = buffers
+finishedFrom (suc n) at buffers c = cond (eqb (buffers .reply .operation) 0) buffers (finishedFrom n (at + 1) (answered buffers c (at + 1)) c)
 
-abbrev pub finishedOf : World → Call → World
-finishedOf world c = finishedFrom answers 0 world c
+abbrev pub finishedOf : Buffers → Call → Buffers
+finishedOf buffers c = finishedFrom answers 0 buffers c

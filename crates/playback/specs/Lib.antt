@@ -2,4 +2,4 @@ pub mod Answers
 pub mod Calls
 pub mod Left
 pub mod Registry
-pub mod World
+pub mod Buffers

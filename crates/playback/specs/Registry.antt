@@ -4,26 +4,26 @@ use mathlib.Core.List.{List}
 use Prim.Native.Nat.{ℕ, zero, suc, _+_}
 use lib.Dec.{eqb}
 use Rattle.registrar_state.specs.declared.Reply.{Reply}
-use Rattle.registrar_state.specs.World as lent
+use Rattle.registrar_state.specs.Buffers as lent
 use Rattle.recording.specs.Digest.{start, digestWord, digestOf}
 use Rattle.recording.specs.Kinds as kind
-use Rattle.playback.specs.declared.world.Call.{Call}
+use Rattle.playback.specs.declared.buffers.Call.{Call}
 use Rattle.playback.specs.declared.registry.Registry.{Registry}
-use Rattle.playback.specs.World.{answers}
+use Rattle.playback.specs.Buffers.{answers}
 
 -- layouts end at chunk 512: the words of a bitmap
 abbrev pub bitmapWords : ℕ
 bitmapWords = 8
 
-abbrev pub lentOf : Registry → lent.World
-lentOf w = lent.world (w .state) (w .registered) (w .failed)
+abbrev pub lentOf : Registry → lent.Buffers
+lentOf w = lent.buffers (w .state) (w .registered) (w .failed)
 
 -- what was lent as it is after a call, the reply, and a digest
 abbrev pub after : lent.Outcome → ℕ → Registry
-after o h = record { state = o .world .state; registered = o .world .registered; failed = o .world .failed; reply = o .reply; asked = h }
+after o h = record { state = o .buffers .state; registered = o .buffers .registered; failed = o .buffers .failed; reply = o .reply; asked = h }
 
 -- kinds 16 to 18
-unfoldable pub startIn : lent.World → Call → List ℕ → lent.Outcome
+unfoldable pub startIn : lent.Buffers → Call → List ℕ → lent.Outcome
 startIn w c ram =
     cond (eqb (c .kind) kind.registrarBuild) (lent.buildOf w ram (c .a) (c .b)) (cond (eqb (c .kind) kind.register) (lent.registerOf w (c .a) (c .b)) (lent.allOf w (c .a) (c .b)))
 
@@ -31,7 +31,7 @@ startIn w c ram =
 abbrev pub noted : ℕ → Reply → ℕ
 noted h r = digestWord (digestWord h (r .start)) (r .end)
 
-abbrev pub answerIn : lent.World → Call → ℕ → lent.Outcome
+abbrev pub answerIn : lent.Buffers → Call → ℕ → lent.Outcome
 answerIn w c at = cond (eqb at (c .place)) (lent.failedOf w) (lent.doneOf w)
 
 unfoldable pub answered : Registry → Call → ℕ → Registry

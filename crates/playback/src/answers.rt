@@ -1,12 +1,12 @@
 // A call run to its end: each operation that it asks for goes into the digest and is answered.
 ghost use mathlib.Core.Path.{_≡_};
 ghost use Rattle.playback.specs.Answers.{flagsOf, fieldsOf, askedOf, answered, finishedOf};
+use crate::buffers;
+use crate::buffers::ANSWERS;
+use crate::buffers::Buffers;
+use crate::buffers::CCA;
+use crate::buffers::Call;
 use crate::entries;
-use crate::world;
-use crate::world::ANSWERS;
-use crate::world::CCA;
-use crate::world::Call;
-use crate::world::World;
 use abi::operation;
 use abi::place;
 use protector_state::Reply;
@@ -41,23 +41,23 @@ fn asked(h: u64, pages: &[u64], r: Reply, isolation: u64) -> u64
     all
 }
 
-fn answer(world: World, c: Call, at: u64) -> World
-    ensures { λ r. ⌜ r ≡ answered world c at ⌝ }
+fn answer(buffers: Buffers, c: Call, at: u64) -> Buffers
+    ensures { λ r. ⌜ r ≡ answered buffers c at ⌝ }
 {
-    let state = world.state;
-    let pages = world.pages;
-    let r = world.reply;
-    let n = world::bytes_if(state[place::TRACKED]);
-    let mut v = world;
-    v.asked = asked(world.asked, &pages, r, state[place::ISOLATION]);
+    let state = buffers.state;
+    let pages = buffers.pages;
+    let r = buffers.reply;
+    let n = buffers::bytes_if(state[place::TRACKED]);
+    let mut v = buffers;
+    v.asked = asked(buffers.asked, &pages, r, state[place::ISOLATION]);
     if at == c.place {
         return entries::failed(v, n, c);
     }
     entries::done(v, n)
 }
 
-// The world when the call asks for nothing more, or after so many answers.
-pub fn finish(first: World, c: Call) -> World
+// The buffers when the call asks for nothing more, or after so many answers.
+pub fn finish(first: Buffers, c: Call) -> Buffers
     ensures { λ r. ⌜ r ≡ finishedOf first c ⌝ }
 {
     let mut w = first;

@@ -6,106 +6,106 @@ ghost use Rattle.queries.specs.Queries.{queryOf};
 ghost use Rattle.lock_entries.specs.Calls.{lockOf, unlockOf};
 ghost use Rattle.setting_entries.specs.Calls.{enableOf};
 ghost use Rattle.overlay_entries.specs.Calls.{isOverlayIn};
-ghost use Rattle.playback.specs.World.{mapBytes, lentOf, after, replied, valued};
+ghost use Rattle.playback.specs.Buffers.{mapBytes, lentOf, after, replied, valued};
 ghost use Rattle.playback.specs.Calls.{buildOf, changeIn, changeOf, keptIn, enabledOf, queriedOf, outOf, settingOf, lookIn, lookOf, callOf};
+use crate::buffers;
+use crate::buffers::Buffers;
+use crate::buffers::Call;
 use crate::entries;
-use crate::world;
-use crate::world::Call;
-use crate::world::World;
 use abi::place;
 use protector_state::Value;
 use recording::digest;
 use recording::kind;
 
-fn replied(world: World, r: protector_state::Reply) -> World
-    ensures { λ x. ⌜ x ≡ replied world r ⌝ }
+fn replied(buffers: Buffers, r: protector_state::Reply) -> Buffers
+    ensures { λ x. ⌜ x ≡ replied buffers r ⌝ }
 {
-    let mut v = world;
+    let mut v = buffers;
     v.reply = r;
     v
 }
 
-fn valued(world: World, r: Value) -> World
-    ensures { λ x. ⌜ x ≡ valued world r ⌝ }
+fn valued(buffers: Buffers, r: Value) -> Buffers
+    ensures { λ x. ⌜ x ≡ valued buffers r ⌝ }
 {
-    replied(world, protector_state::finished(r.number, 0, r.value, 0))
+    replied(buffers, protector_state::finished(r.number, 0, r.value, 0))
 }
 
-fn change_in(world: World, n: usize, c: Call, list: &[u8]) -> World
+fn change_in(buffers: Buffers, n: usize, c: Call, list: &[u8]) -> Buffers
     requires { ⌜ n ≤ mapBytes ⌝ }
-    ensures { λ r. ⌜ r ≡ after n world (changeIn (lentOf n world) c (now (list .entry))) ⌝ }
+    ensures { λ r. ⌜ r ≡ after n buffers (changeIn (lentOf n buffers) c (now (list .entry))) ⌝ }
 {
     if c.kind == kind::CHANGE_HOST_VISIBILITY {
-        return entries::visibility(world, n, c, list);
+        return entries::visibility(buffers, n, c, list);
     }
     if c.kind == kind::CHANGE_VTL_PROTECTIONS {
-        return entries::protections(world, n, c, list);
+        return entries::protections(buffers, n, c, list);
     }
     if c.kind == kind::CHANGE_DEFAULT_VTL_PROTECTIONS {
-        return entries::default(world, n, c);
+        return entries::default(buffers, n, c);
     }
     if c.kind == kind::REGISTER_OVERLAY_PAGE {
-        return entries::register(world, n, c);
+        return entries::register(buffers, n, c);
     }
-    entries::unregister(world, n, c)
+    entries::unregister(buffers, n, c)
 }
 
-fn change(world: World, c: Call, list: &[u8]) -> World
-    ensures { λ r. ⌜ r ≡ changeOf world c (now (list .entry)) ⌝ }
+fn change(buffers: Buffers, c: Call, list: &[u8]) -> Buffers
+    ensures { λ r. ⌜ r ≡ changeOf buffers c (now (list .entry)) ⌝ }
 {
-    let state = world.state;
-    change_in(world, world::bytes_if(state[place::TRACKED]), c, list)
+    let state = buffers.state;
+    change_in(buffers, buffers::bytes_if(state[place::TRACKED]), c, list)
 }
 
-// The world after a build.
-pub fn build(world: World, c: Call, ram: &[u64]) -> World
-    ensures { λ r. ⌜ r ≡ buildOf world c (now (ram .entry)) ⌝ }
+// The buffers after a build.
+pub fn build(buffers: Buffers, c: Call, ram: &[u64]) -> Buffers
+    ensures { λ r. ⌜ r ≡ buildOf buffers c (now (ram .entry)) ⌝ }
 {
-    entries::build(world, world::bytes_if(c.b), c, ram)
+    entries::build(buffers, buffers::bytes_if(c.b), c, ram)
 }
 
-fn lock(world: World, c: Call, list: &[u8]) -> World
-    ensures { λ r. ⌜ r ≡ keptIn world (lockOf (world .state) (world .tables) (c .a) (now (list .entry))) ⌝ }
+fn lock(buffers: Buffers, c: Call, list: &[u8]) -> Buffers
+    ensures { λ r. ⌜ r ≡ keptIn buffers (lockOf (buffers .state) (buffers .tables) (c .a) (now (list .entry))) ⌝ }
 {
-    let state = world.state;
-    let mut tables = world.tables;
+    let state = buffers.state;
+    let mut tables = buffers.tables;
     let r = lock_entries::protector_lock_gpns(&state, &mut tables, c.a, list);
-    let mut v = world;
+    let mut v = buffers;
     v.tables = tables;
     v.reply = r;
     v
 }
 
-fn unlock(world: World, c: Call, list: &[u8]) -> World
-    ensures { λ r. ⌜ r ≡ keptIn world (unlockOf (world .state) (world .tables) (c .a) (now (list .entry))) ⌝ }
+fn unlock(buffers: Buffers, c: Call, list: &[u8]) -> Buffers
+    ensures { λ r. ⌜ r ≡ keptIn buffers (unlockOf (buffers .state) (buffers .tables) (c .a) (now (list .entry))) ⌝ }
 {
-    let state = world.state;
-    let mut tables = world.tables;
+    let state = buffers.state;
+    let mut tables = buffers.tables;
     let r = lock_entries::protector_unlock_gpns(&state, &mut tables, c.a, list);
-    let mut v = world;
+    let mut v = buffers;
     v.tables = tables;
     v.reply = r;
     v
 }
 
-fn enable(world: World) -> World
-    ensures { λ r. ⌜ r ≡ enabledOf world (enableOf (world .state)) ⌝ }
+fn enable(buffers: Buffers) -> Buffers
+    ensures { λ r. ⌜ r ≡ enabledOf buffers (enableOf (buffers .state)) ⌝ }
 {
-    let mut state = world.state;
+    let mut state = buffers.state;
     let r = setting_entries::protector_set_vtl1_protections_enabled(&mut state);
-    let mut v = world;
+    let mut v = buffers;
     v.state = state;
     v.reply = r;
     v
 }
 
-fn is_overlay(world: World, c: Call) -> World
-    ensures { λ r. ⌜ r ≡ valued world (isOverlayIn (world .state) (world .tables) (c .a) (c .b)) ⌝ }
+fn is_overlay(buffers: Buffers, c: Call) -> Buffers
+    ensures { λ r. ⌜ r ≡ valued buffers (isOverlayIn (buffers .state) (buffers .tables) (c .a) (c .b)) ⌝ }
 {
-    let state = world.state;
-    let tables = world.tables;
+    let state = buffers.state;
+    let tables = buffers.tables;
     valued(
-        world,
+        buffers,
         overlay_entries::protector_is_overlay_page(&state, &tables, c.a, c.b),
     )
 }
@@ -119,32 +119,32 @@ fn setting_in(state: &[u64], c: Call) -> Value
     setting_entries::protector_default_vtl0_protections(state)
 }
 
-fn setting(world: World, c: Call) -> World
-    ensures { λ r. ⌜ r ≡ valued world (settingOf (world .state) c) ⌝ }
+fn setting(buffers: Buffers, c: Call) -> Buffers
+    ensures { λ r. ⌜ r ≡ valued buffers (settingOf (buffers .state) c) ⌝ }
 {
-    let state = world.state;
-    valued(world, setting_in(&state, c))
+    let state = buffers.state;
+    valued(buffers, setting_in(&state, c))
 }
 
 // The output goes into the digest.
-fn query_in(world: World, list: &[u8], out: &mut [u8]) -> World
-    ensures { λ r. ⌜ r ≡ queriedOf world (queryOf (world .state) (world .shared) (now (list .entry)) (now (out .entry))) ⌝ }
+fn query_in(buffers: Buffers, list: &[u8], out: &mut [u8]) -> Buffers
+    ensures { λ r. ⌜ r ≡ queriedOf buffers (queryOf (buffers .state) (buffers .shared) (now (list .entry)) (now (out .entry))) ⌝ }
 {
-    let state = world.state;
-    let shared = world.shared;
+    let state = buffers.state;
+    let shared = buffers.shared;
     let r = underhill_mem::protector_query_host_visibility(&state, &shared, list, out);
-    let mut v = world;
-    v.asked = digest::bytes(world.asked, out);
+    let mut v = buffers;
+    v.asked = digest::bytes(buffers.asked, out);
     v.reply = r;
     v
 }
 
-fn query(world: World, c: Call, list: &[u8]) -> World
-    ensures { λ r. ⌜ r ≡ queriedOf world (queryOf (world .state) (world .shared) (now (list .entry)) (outOf c)) ⌝ }
+fn query(buffers: Buffers, c: Call, list: &[u8]) -> Buffers
+    ensures { λ r. ⌜ r ≡ queriedOf buffers (queryOf (buffers .state) (buffers .shared) (now (list .entry)) (outOf c)) ⌝ }
 {
-    let mut out = [world::UNWRITTEN; world::OUT_BYTES];
-    let n = numbers::min(c.a, world::OUT_BYTES as u64) as usize;
-    query_in(world, list, &mut out[..n])
+    let mut out = [buffers::UNWRITTEN; buffers::OUT_BYTES];
+    let n = numbers::min(c.a, buffers::OUT_BYTES as u64) as usize;
+    query_in(buffers, list, &mut out[..n])
 }
 
 fn look_in(
@@ -200,17 +200,17 @@ fn look_in(
     )
 }
 
-fn look(world: World, c: Call) -> World
-    ensures { λ r. ⌜ r ≡ lookOf world c ⌝ }
+fn look(buffers: Buffers, c: Call) -> Buffers
+    ensures { λ r. ⌜ r ≡ lookOf buffers c ⌝ }
 {
-    let private = world.private;
-    let shared = world.shared;
-    let read = world.read;
-    let write = world.write;
-    let kernel = world.kernel;
-    let user = world.user;
-    let state = world.state;
-    let n = world::bytes_if(state[place::TRACKED]);
+    let private = buffers.private;
+    let shared = buffers.shared;
+    let read = buffers.read;
+    let write = buffers.write;
+    let kernel = buffers.kernel;
+    let user = buffers.user;
+    let state = buffers.state;
+    let n = buffers::bytes_if(state[place::TRACKED]);
     let seen = look_in(
         &private,
         &shared,
@@ -221,33 +221,33 @@ fn look(world: World, c: Call) -> World
         &state,
         c,
     );
-    valued(world, seen)
+    valued(buffers, seen)
 }
 
-// The world after a call that is no build, before its operations are answered.
-pub fn call(world: World, c: Call, list: &[u8]) -> World
-    ensures { λ r. ⌜ r ≡ callOf world c (now (list .entry)) ⌝ }
+// The buffers after a call that is no build, before its operations are answered.
+pub fn call(buffers: Buffers, c: Call, list: &[u8]) -> Buffers
+    ensures { λ r. ⌜ r ≡ callOf buffers c (now (list .entry)) ⌝ }
 {
     if c.kind < kind::LOCK_GPNS {
-        return change(world, c, list);
+        return change(buffers, c, list);
     }
     if c.kind == kind::LOCK_GPNS {
-        return lock(world, c, list);
+        return lock(buffers, c, list);
     }
     if c.kind == kind::UNLOCK_GPNS {
-        return unlock(world, c, list);
+        return unlock(buffers, c, list);
     }
     if c.kind == kind::SET_VTL1_PROTECTIONS_ENABLED {
-        return enable(world);
+        return enable(buffers);
     }
     if c.kind < kind::IS_OVERLAY_PAGE {
-        return setting(world, c);
+        return setting(buffers, c);
     }
     if c.kind == kind::IS_OVERLAY_PAGE {
-        return is_overlay(world, c);
+        return is_overlay(buffers, c);
     }
     if c.kind == kind::QUERY_HOST_VISIBILITY {
-        return query(world, c, list);
+        return query(buffers, c, list);
     }
-    look(world, c)
+    look(buffers, c)
 }

@@ -1,13 +1,13 @@
-// The entries, lent a world by value. Of each permission map the first n bytes are lent: all where permissions are tracked, else none.
+// The entries, lent buffers by value. Of each permission map the first n bytes are lent: all where permissions are tracked, else none.
 ghost use mathlib.Core.Path.{_≡_};
 ghost use Prim.Native.Nat.{_≤_};
 ghost use Rattle.protector.specs.Calls.{buildOf, visibilityOf, answerDone, answerFailed};
 ghost use Rattle.protection_entries.specs.Calls.{defaultOf, protectionOf};
 ghost use Rattle.overlay_entries.specs.Calls.{unregisterOf, registerOf};
-ghost use Rattle.playback.specs.World.{mapBytes, lentOf, after, codeOf};
-use crate::world::CODES;
-use crate::world::Call;
-use crate::world::World;
+ghost use Rattle.playback.specs.Buffers.{mapBytes, lentOf, after, codeOf};
+use crate::buffers::Buffers;
+use crate::buffers::CODES;
+use crate::buffers::Call;
 
 fn code_of(code: u64) -> u16
     ensures { λ r. ⌜ r ≡ codeOf code ⌝ }
@@ -15,20 +15,20 @@ fn code_of(code: u64) -> u16
     (code % CODES) as u16
 }
 
-// The world after a build that is lent it.
-pub fn build(world: World, n: usize, c: Call, ram: &[u64]) -> World
+// The buffers after a build that is lent it.
+pub fn build(buffers: Buffers, n: usize, c: Call, ram: &[u64]) -> Buffers
     requires { ⌜ n ≤ mapBytes ⌝ }
-    ensures { λ r. ⌜ r ≡ after n world (buildOf (lentOf n world) (now (ram .entry)) (c .a) (c .b) (c .c)) ⌝ }
+    ensures { λ r. ⌜ r ≡ after n buffers (buildOf (lentOf n buffers) (now (ram .entry)) (c .a) (c .b) (c .c)) ⌝ }
 {
-    let mut private = world.private;
-    let mut shared = world.shared;
-    let mut read = world.read;
-    let mut write = world.write;
-    let mut kernel = world.kernel;
-    let mut user = world.user;
-    let mut state = world.state;
-    let mut pages = world.pages;
-    let mut tables = world.tables;
+    let mut private = buffers.private;
+    let mut shared = buffers.shared;
+    let mut read = buffers.read;
+    let mut write = buffers.write;
+    let mut kernel = buffers.kernel;
+    let mut user = buffers.user;
+    let mut state = buffers.state;
+    let mut pages = buffers.pages;
+    let mut tables = buffers.tables;
     let r = underhill_mem::protector_build(
         ram,
         c.a,
@@ -44,7 +44,7 @@ pub fn build(world: World, n: usize, c: Call, ram: &[u64]) -> World
         &mut pages,
         &mut tables,
     );
-    let mut v = world;
+    let mut v = buffers;
     v.private = private;
     v.shared = shared;
     v.read = read;
@@ -58,20 +58,20 @@ pub fn build(world: World, n: usize, c: Call, ram: &[u64]) -> World
     v
 }
 
-// The world after a visibility change.
-pub fn visibility(world: World, n: usize, c: Call, list: &[u8]) -> World
+// The buffers after a visibility change.
+pub fn visibility(buffers: Buffers, n: usize, c: Call, list: &[u8]) -> Buffers
     requires { ⌜ n ≤ mapBytes ⌝ }
-    ensures { λ r. ⌜ r ≡ after n world (visibilityOf (lentOf n world) (c .a) (c .b) (now (list .entry))) ⌝ }
+    ensures { λ r. ⌜ r ≡ after n buffers (visibilityOf (lentOf n buffers) (c .a) (c .b) (now (list .entry))) ⌝ }
 {
-    let mut private = world.private;
-    let mut shared = world.shared;
-    let mut read = world.read;
-    let mut write = world.write;
-    let mut kernel = world.kernel;
-    let mut user = world.user;
-    let mut state = world.state;
-    let mut pages = world.pages;
-    let tables = world.tables;
+    let mut private = buffers.private;
+    let mut shared = buffers.shared;
+    let mut read = buffers.read;
+    let mut write = buffers.write;
+    let mut kernel = buffers.kernel;
+    let mut user = buffers.user;
+    let mut state = buffers.state;
+    let mut pages = buffers.pages;
+    let tables = buffers.tables;
     let r = underhill_mem::protector_change_host_visibility(
         &mut private,
         &mut shared,
@@ -86,7 +86,7 @@ pub fn visibility(world: World, n: usize, c: Call, list: &[u8]) -> World
         c.b,
         list,
     );
-    let mut v = world;
+    let mut v = buffers;
     v.private = private;
     v.shared = shared;
     v.read = read;
@@ -99,20 +99,20 @@ pub fn visibility(world: World, n: usize, c: Call, list: &[u8]) -> World
     v
 }
 
-// The world after a protection change.
-pub fn protections(world: World, n: usize, c: Call, list: &[u8]) -> World
+// The buffers after a protection change.
+pub fn protections(buffers: Buffers, n: usize, c: Call, list: &[u8]) -> Buffers
     requires { ⌜ n ≤ mapBytes ⌝ }
-    ensures { λ r. ⌜ r ≡ after n world (protectionOf (lentOf n world) (c .a) (c .b) (now (list .entry))) ⌝ }
+    ensures { λ r. ⌜ r ≡ after n buffers (protectionOf (lentOf n buffers) (c .a) (c .b) (now (list .entry))) ⌝ }
 {
-    let private = world.private;
-    let shared = world.shared;
-    let mut read = world.read;
-    let mut write = world.write;
-    let mut kernel = world.kernel;
-    let mut user = world.user;
-    let mut state = world.state;
-    let mut pages = world.pages;
-    let tables = world.tables;
+    let private = buffers.private;
+    let shared = buffers.shared;
+    let mut read = buffers.read;
+    let mut write = buffers.write;
+    let mut kernel = buffers.kernel;
+    let mut user = buffers.user;
+    let mut state = buffers.state;
+    let mut pages = buffers.pages;
+    let tables = buffers.tables;
     let r = protection_entries::protector_change_vtl_protections(
         &private,
         &shared,
@@ -127,7 +127,7 @@ pub fn protections(world: World, n: usize, c: Call, list: &[u8]) -> World
         c.b,
         list,
     );
-    let mut v = world;
+    let mut v = buffers;
     v.read = read;
     v.write = write;
     v.kernel = kernel;
@@ -138,20 +138,20 @@ pub fn protections(world: World, n: usize, c: Call, list: &[u8]) -> World
     v
 }
 
-// The world after a default change.
-pub fn default(world: World, n: usize, c: Call) -> World
+// The buffers after a default change.
+pub fn default(buffers: Buffers, n: usize, c: Call) -> Buffers
     requires { ⌜ n ≤ mapBytes ⌝ }
-    ensures { λ r. ⌜ r ≡ after n world (defaultOf (lentOf n world) (c .a) (c .b)) ⌝ }
+    ensures { λ r. ⌜ r ≡ after n buffers (defaultOf (lentOf n buffers) (c .a) (c .b)) ⌝ }
 {
-    let private = world.private;
-    let shared = world.shared;
-    let mut read = world.read;
-    let mut write = world.write;
-    let mut kernel = world.kernel;
-    let mut user = world.user;
-    let mut state = world.state;
-    let pages = world.pages;
-    let mut tables = world.tables;
+    let private = buffers.private;
+    let shared = buffers.shared;
+    let mut read = buffers.read;
+    let mut write = buffers.write;
+    let mut kernel = buffers.kernel;
+    let mut user = buffers.user;
+    let mut state = buffers.state;
+    let pages = buffers.pages;
+    let mut tables = buffers.tables;
     let r = protection_entries::protector_change_default_vtl_protections(
         &private,
         &shared,
@@ -165,7 +165,7 @@ pub fn default(world: World, n: usize, c: Call) -> World
         c.a,
         c.b,
     );
-    let mut v = world;
+    let mut v = buffers;
     v.read = read;
     v.write = write;
     v.kernel = kernel;
@@ -176,20 +176,20 @@ pub fn default(world: World, n: usize, c: Call) -> World
     v
 }
 
-// The world after an overlay page is registered.
-pub fn register(world: World, n: usize, c: Call) -> World
+// The buffers after an overlay page is registered.
+pub fn register(buffers: Buffers, n: usize, c: Call) -> Buffers
     requires { ⌜ n ≤ mapBytes ⌝ }
-    ensures { λ r. ⌜ r ≡ after n world (registerOf (lentOf n world) (c .a) (c .b) (c .c) (c .d) (c .e)) ⌝ }
+    ensures { λ r. ⌜ r ≡ after n buffers (registerOf (lentOf n buffers) (c .a) (c .b) (c .c) (c .d) (c .e)) ⌝ }
 {
-    let private = world.private;
-    let shared = world.shared;
-    let mut read = world.read;
-    let mut write = world.write;
-    let mut kernel = world.kernel;
-    let mut user = world.user;
-    let mut state = world.state;
-    let pages = world.pages;
-    let mut tables = world.tables;
+    let private = buffers.private;
+    let shared = buffers.shared;
+    let mut read = buffers.read;
+    let mut write = buffers.write;
+    let mut kernel = buffers.kernel;
+    let mut user = buffers.user;
+    let mut state = buffers.state;
+    let pages = buffers.pages;
+    let mut tables = buffers.tables;
     let r = overlay_entries::protector_register_overlay_page(
         &private,
         &shared,
@@ -206,7 +206,7 @@ pub fn register(world: World, n: usize, c: Call) -> World
         c.d,
         c.e,
     );
-    let mut v = world;
+    let mut v = buffers;
     v.read = read;
     v.write = write;
     v.kernel = kernel;
@@ -217,20 +217,20 @@ pub fn register(world: World, n: usize, c: Call) -> World
     v
 }
 
-// The world after an overlay page is unregistered.
-pub fn unregister(world: World, n: usize, c: Call) -> World
+// The buffers after an overlay page is unregistered.
+pub fn unregister(buffers: Buffers, n: usize, c: Call) -> Buffers
     requires { ⌜ n ≤ mapBytes ⌝ }
-    ensures { λ r. ⌜ r ≡ after n world (unregisterOf (lentOf n world) (c .a) (c .b)) ⌝ }
+    ensures { λ r. ⌜ r ≡ after n buffers (unregisterOf (lentOf n buffers) (c .a) (c .b)) ⌝ }
 {
-    let private = world.private;
-    let shared = world.shared;
-    let mut read = world.read;
-    let mut write = world.write;
-    let mut kernel = world.kernel;
-    let mut user = world.user;
-    let mut state = world.state;
-    let pages = world.pages;
-    let mut tables = world.tables;
+    let private = buffers.private;
+    let shared = buffers.shared;
+    let mut read = buffers.read;
+    let mut write = buffers.write;
+    let mut kernel = buffers.kernel;
+    let mut user = buffers.user;
+    let mut state = buffers.state;
+    let pages = buffers.pages;
+    let mut tables = buffers.tables;
     let r = overlay_entries::protector_unregister_overlay_page(
         &private,
         &shared,
@@ -244,7 +244,7 @@ pub fn unregister(world: World, n: usize, c: Call) -> World
         c.a,
         c.b,
     );
-    let mut v = world;
+    let mut v = buffers;
     v.read = read;
     v.write = write;
     v.kernel = kernel;
@@ -255,20 +255,20 @@ pub fn unregister(world: World, n: usize, c: Call) -> World
     v
 }
 
-// The world after the answer that the operation asked for is done.
-pub fn done(world: World, n: usize) -> World
+// The buffers after the answer that the operation asked for is done.
+pub fn done(buffers: Buffers, n: usize) -> Buffers
     requires { ⌜ n ≤ mapBytes ⌝ }
-    ensures { λ r. ⌜ r ≡ after n world (answerDone (lentOf n world)) ⌝ }
+    ensures { λ r. ⌜ r ≡ after n buffers (answerDone (lentOf n buffers)) ⌝ }
 {
-    let mut private = world.private;
-    let mut shared = world.shared;
-    let mut read = world.read;
-    let mut write = world.write;
-    let mut kernel = world.kernel;
-    let mut user = world.user;
-    let mut state = world.state;
-    let mut pages = world.pages;
-    let mut tables = world.tables;
+    let mut private = buffers.private;
+    let mut shared = buffers.shared;
+    let mut read = buffers.read;
+    let mut write = buffers.write;
+    let mut kernel = buffers.kernel;
+    let mut user = buffers.user;
+    let mut state = buffers.state;
+    let mut pages = buffers.pages;
+    let mut tables = buffers.tables;
     let r = underhill_mem::protector_answer_done(
         &mut private,
         &mut shared,
@@ -280,7 +280,7 @@ pub fn done(world: World, n: usize) -> World
         &mut pages,
         &mut tables,
     );
-    let mut v = world;
+    let mut v = buffers;
     v.private = private;
     v.shared = shared;
     v.read = read;
@@ -294,20 +294,20 @@ pub fn done(world: World, n: usize) -> World
     v
 }
 
-// The world after the answer that it failed, with the code and the pages processed that the call names.
-pub fn failed(world: World, n: usize, c: Call) -> World
+// The buffers after the answer that it failed, with the code and the pages processed that the call names.
+pub fn failed(buffers: Buffers, n: usize, c: Call) -> Buffers
     requires { ⌜ n ≤ mapBytes ⌝ }
-    ensures { λ r. ⌜ r ≡ after n world (answerFailed (lentOf n world) (codeOf (c .code)) (c .processed)) ⌝ }
+    ensures { λ r. ⌜ r ≡ after n buffers (answerFailed (lentOf n buffers) (codeOf (c .code)) (c .processed)) ⌝ }
 {
-    let mut private = world.private;
-    let mut shared = world.shared;
-    let mut read = world.read;
-    let mut write = world.write;
-    let mut kernel = world.kernel;
-    let mut user = world.user;
-    let mut state = world.state;
-    let mut pages = world.pages;
-    let mut tables = world.tables;
+    let mut private = buffers.private;
+    let mut shared = buffers.shared;
+    let mut read = buffers.read;
+    let mut write = buffers.write;
+    let mut kernel = buffers.kernel;
+    let mut user = buffers.user;
+    let mut state = buffers.state;
+    let mut pages = buffers.pages;
+    let mut tables = buffers.tables;
     let r = underhill_mem::protector_answer_failed(
         &mut private,
         &mut shared,
@@ -321,7 +321,7 @@ pub fn failed(world: World, n: usize, c: Call) -> World
         code_of(c.code),
         c.processed,
     );
-    let mut v = world;
+    let mut v = buffers;
     v.private = private;
     v.shared = shared;
     v.read = read;

@@ -1,11 +1,11 @@
 // The registrar's calls, by a registry that is handed on by value.
 ghost use mathlib.Core.Path.{_≡_};
-ghost use Rattle.registrar_state.specs.World as lent;
+ghost use Rattle.registrar_state.specs.Buffers as lent;
 ghost use Rattle.recording.specs.Digest.{start};
-ghost use Rattle.playback.specs.World.{answers};
+ghost use Rattle.playback.specs.Buffers.{answers};
 ghost use Rattle.playback.specs.Registry.{lentOf, after, startIn, answered, finishedFrom, callOf, askedOf, leftOf};
-use crate::world::ANSWERS;
-use crate::world::Call;
+use crate::buffers::ANSWERS;
+use crate::buffers::Call;
 use abi::REGISTRAR_WORDS;
 use recording::digest;
 use recording::kind;

@@ -35,7 +35,7 @@ use Rattle.protector_state.specs.State.{stateLen, settingsOf, ramOf, entriesIn}
 use Rattle.protector_state.specs.Reply.{finished, flatOf}
 use Rattle.protector_state.specs.Changing.{withChange}
 use Rattle.call_refusals.proofs.Laws.{is-ready, fits-pages, fits-tables}
-use Rattle.call_refusals.specs.World.{World, Outcome, world, outcome, pagesLen, tablesLen, fits, overlaysOf, locksOf}
+use Rattle.call_refusals.specs.Buffers.{Buffers, Outcome, buffers, outcome, pagesLen, tablesLen, fits, overlaysOf, locksOf}
 use Rattle.protector.specs.Writes.{permittedRun, entered}
 use Rattle.protector.specs.Calls.{refusedBy, withPermissions, carriedChange}
 use Rattle.protection_entries.specs.Calls.{defaultRefusal, storedDefault, stored, barred, renewedTables, renewedIn, firstPiece, defaultStep, defaultStarted, defaultTaken, protectionRefusal, allListed, protectionStep, protectionTaken}
@@ -75,7 +75,7 @@ ram-within tracked v flags r h = go (eqb (r .count) 0)
 
 -- ---- a default change that isn't refused: its lengths
 
-module _ (w : World) (vtl flags n : ℕ) (e : n ≡ defaultRefusal (w .state) (fits w) vtl flags) (z : n ≡ 0) where
+module _ (w : Buffers) (vtl flags n : ℕ) (e : n ≡ defaultRefusal (w .state) (fits w) vtl flags) (z : n ≡ 0) where
   default-passed : (length (w .state) ≡ stateLen) × (fits w ≡ true) × (flags < flagsEnd)
   unfolding defaultRefusal
   default-passed =
@@ -94,7 +94,7 @@ module _ (w : World) (vtl flags n : ℕ) (e : n ≡ defaultRefusal (w .state) (f
 
 -- ---- a step that enters no overlay carried out
 
-pub carried-change : (w : World) (table : List ℕ) (x y : ChangeStep) (p : Permissions) (s : List ℕ) (r : Reply) → x ≡ y → y .entry ≡ Keep
+pub carried-change : (w : Buffers) (table : List ℕ) (x y : ChangeStep) (p : Permissions) (s : List ℕ) (r : Reply) → x ≡ y → y .entry ≡ Keep
     → p ≡ permittedRun (x .written) (flagsOf (x .change .flags)) (w .maps .permissions) → s ≡ withChange (x .stage) (x .change) (w .state)
     → r ≡ flatOf (settingsOf (w .state) .isolation) (x .answer)
     → outcome (record { private = w .maps .private; shared = w .maps .shared; permissions = p }) s table (w .tables) r ≡ carriedChange w table y
@@ -113,16 +113,16 @@ ram-keeps tracked v flags r = go (eqb (r .count) 0)
 
 -- ---- a default change, each way out, once the default is stored
 
-module _ (w : World) (v : GuestVtl) (flags : ℕ) where
+module _ (w : Buffers) (v : GuestVtl) (flags : ℕ) where
   pub default-started : (t : List ℕ) (x : ChangeStep) (p : Permissions) (s : List ℕ) (r : Reply) → t ≡ renewedTables (w .maps .private) (w .state) (w .tables) v flags
       → x ≡ defaultStep (w .maps .private) (w .state) t v flags → p ≡ permittedRun (x .written) (flagsOf (x .change .flags)) (w .maps .permissions)
       → s ≡ withChange (x .stage) (x .change) (w .state) → r ≡ flatOf (settingsOf (w .state) .isolation) (x .answer)
       → outcome (record { private = w .maps .private; shared = w .maps .shared; permissions = p }) s (w .pages) t r ≡ defaultStarted (renewedIn w v flags) v flags
   unfolding defaultStarted
   default-started t x p s r d e a b c =
-      carried-change (world (w .maps) (w .state) (w .pages) t) (w .pages) x (defaultStep (w .maps .private) (w .state) t v flags) p s r e
+      carried-change (buffers (w .maps) (w .state) (w .pages) t) (w .pages) x (defaultStep (w .maps .private) (w .state) t v flags) p s r e
       (ram-keeps (settingsOf (w .state) .tracked) v flags (firstPiece (w .maps .private) (w .state) t v)) a b c
-      ∙ ap (λ (u : List ℕ). carriedChange (world (w .maps) (w .state) (w .pages) u) (w .pages) (defaultStep (w .maps .private) (w .state) u v flags)) d
+      ∙ ap (λ (u : List ℕ). carriedChange (buffers (w .maps) (w .state) (w .pages) u) (w .pages) (defaultStep (w .maps .private) (w .state) u v flags)) d
 
   module _ (b : Bool) (e : b ≡ barred (w .maps .private) (w .state) (w .tables) v) where
     pub default-barred : (r : Reply) → b ≡ true → r ≡ finished 10 (codeOf 10) 0 0 → outcome (w .maps) (w .state) (w .pages) (w .tables) r ≡ defaultTaken w v flags
@@ -135,10 +135,10 @@ module _ (w : World) (v : GuestVtl) (flags : ℕ) where
     unfolding defaultTaken
     default-free o h q = q ∙ ap (λ (d : Bool). cond d (refusedBy w 10) (defaultStarted (renewedIn w v flags) v flags)) (sym h ∙ e)
 
-pub default-stored : (w : World) (v x : GuestVtl) (flags : ℕ) (s : List ℕ) (o : Outcome) → v ≡ x → s ≡ storedDefault (w .state) v flags
-    → o ≡ defaultTaken (world (w .maps) s (w .pages) (w .tables)) v flags → o ≡ defaultTaken (stored w x flags) x flags
+pub default-stored : (w : Buffers) (v x : GuestVtl) (flags : ℕ) (s : List ℕ) (o : Outcome) → v ≡ x → s ≡ storedDefault (w .state) v flags
+    → o ≡ defaultTaken (buffers (w .maps) s (w .pages) (w .tables)) v flags → o ≡ defaultTaken (stored w x flags) x flags
 default-stored w v x flags s o d e q =
-    q ∙ ap (λ (u : List ℕ). defaultTaken (world (w .maps) u (w .pages) (w .tables)) v flags) e ∙ ap (λ (y : GuestVtl). defaultTaken (stored w y flags) y flags) d
+    q ∙ ap (λ (u : List ℕ). defaultTaken (buffers (w .maps) u (w .pages) (w .tables)) v flags) e ∙ ap (λ (y : GuestVtl). defaultTaken (stored w y flags) y flags) d
 
 -- ---- whether a page of a list is shared
 
@@ -212,7 +212,7 @@ module _ (tracked : Bool) (v : GuestVtl) (flags n : ℕ) (t : List ℕ) where
 
 -- ---- a protection change that isn't refused
 
-module _ (w : World) (vtl flags : ℕ) (l : List ℕ) (n : ℕ) (e : n ≡ protectionRefusal (w .state) (fits w) (w .maps .shared) (w .tables) vtl flags l) (z : n ≡ 0) where
+module _ (w : Buffers) (vtl flags : ℕ) (l : List ℕ) (n : ℕ) (e : n ≡ protectionRefusal (w .state) (fits w) (w .maps .shared) (w .tables) vtl flags l) (z : n ≡ 0) where
   pub protection-passed : (length (w .state) ≡ stateLen) × (fits w ≡ true) × (length l ≤ 4096)
   unfolding protectionRefusal
   protection-passed =
@@ -222,7 +222,7 @@ module _ (w : World) (vtl flags : ℕ) (l : List ℕ) (n : ℕ) (e : n ≡ prote
   pub table-fits : length (w .pages) ≡ pagesLen
   table-fits = fits-pages w (protection-passed .1)
 
-pub protection-made : (w : World) (v x : GuestVtl) (flags : ℕ) (l : List ℕ) (count : ℕ) (table : List ℕ) (y : ChangeStep) (p : Permissions) (s : List ℕ) (r : Reply)
+pub protection-made : (w : Buffers) (v x : GuestVtl) (flags : ℕ) (l : List ℕ) (count : ℕ) (table : List ℕ) (y : ChangeStep) (p : Permissions) (s : List ℕ) (r : Reply)
     → v ≡ x → count ≡ length (pagesOf l) → table ≡ allListed l (w .pages) → y ≡ protectionStep (w .state) table v flags count
     → p ≡ permittedRun (y .written) (flagsOf (y .change .flags)) (w .maps .permissions) → s ≡ withChange (y .stage) (y .change) (w .state)
     → r ≡ flatOf (settingsOf (w .state) .isolation) (y .answer)

@@ -10,7 +10,7 @@ use Rattle.overlay_table.specs.Overlays.{used}
 use Rattle.default_change.specs.Pieces.{privateRam}
 use Rattle.default_change.specs.Renewed.{renewedAt, renewedFrom, renewed}
 use Rattle.protector_state.specs.State.{entriesIn}
-use Rattle.call_refusals.specs.World.{tablesLen, overlaysOf}
+use Rattle.call_refusals.specs.Buffers.{tablesLen, overlaysOf}
 use Rattle.protector.proofs.Tables.{overlays-long, overlays-written}
 use Rattle.protection_entries.specs.Calls.{renewedTables}
 

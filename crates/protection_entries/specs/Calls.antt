@@ -19,7 +19,7 @@ use Rattle.default_change.specs.Renewed.{renewed}
 use Rattle.change_steps.specs.declared.ChangeStep.{ChangeStep}
 use Rattle.change_steps.specs.Changes as changes
 use Rattle.protector_state.specs.State.{settingsOf, entriesIn}
-use Rattle.call_refusals.specs.World.{World, Outcome, world, overlaysOf, locksOf, fits}
+use Rattle.call_refusals.specs.Buffers.{Buffers, Outcome, buffers, overlaysOf, locksOf, fits}
 use Rattle.protector.specs.Writes.{withOverlays}
 use Rattle.protector.specs.Calls.{decided, refusedBy, carriedChange}
 use Rattle.call_refusals.specs.Refusals.{ready, pageRefusal, firstRefusal}
@@ -37,8 +37,8 @@ defaultRefusal state fit vtl flags =
 abbrev pub storedDefault : List ℕ → GuestVtl → ℕ → List ℕ
 storedDefault state v flags = set state (place.default0 + vtlNumber v) flags
 
-abbrev pub stored : World → GuestVtl → ℕ → World
-stored w v flags = world (w .maps) (storedDefault (w .state) v flags) (w .pages) (w .tables)
+abbrev pub stored : Buffers → GuestVtl → ℕ → Buffers
+stored w v flags = buffers (w .maps) (storedDefault (w .state) v flags) (w .pages) (w .tables)
 
 -- 10: a private RAM page without an overlay is locked, in the target VTL
 abbrev pub barred : List ℕ → List ℕ → List ℕ → GuestVtl → Bool
@@ -48,8 +48,8 @@ barred private state tables v = barring.barred private (overlaysOf tables v) (lo
 abbrev pub renewedTables : List ℕ → List ℕ → List ℕ → GuestVtl → ℕ → List ℕ
 renewedTables private state tables v flags = withOverlays tables v (renewed private (entriesIn state) flags (overlaysOf tables v))
 
-abbrev pub renewedIn : World → GuestVtl → ℕ → World
-renewedIn w v flags = world (w .maps) (w .state) (w .pages) (renewedTables (w .maps .private) (w .state) (w .tables) v flags)
+abbrev pub renewedIn : Buffers → GuestVtl → ℕ → Buffers
+renewedIn w v flags = buffers (w .maps) (w .state) (w .pages) (renewedTables (w .maps .private) (w .state) (w .tables) v flags)
 
 -- the first piece is looked for from page 0 on
 abbrev pub firstPiece : List ℕ → List ℕ → List ℕ → GuestVtl → PageRun
@@ -58,14 +58,14 @@ firstPiece private state tables v = nextPiece private (overlaysOf tables v) (ent
 abbrev pub defaultStep : List ℕ → List ℕ → List ℕ → GuestVtl → ℕ → ChangeStep
 defaultStep private state tables v flags = changes.startRam (settingsOf state .tracked) v flags (firstPiece private state tables v)
 
-unfoldable pub defaultStarted : World → GuestVtl → ℕ → Outcome
+unfoldable pub defaultStarted : Buffers → GuestVtl → ℕ → Outcome
 defaultStarted w v flags = carriedChange w (w .pages) (defaultStep (w .maps .private) (w .state) (w .tables) v flags)
 
 -- once the default is stored: a refusal by 10 leaves it
-unfoldable pub defaultTaken : World → GuestVtl → ℕ → Outcome
+unfoldable pub defaultTaken : Buffers → GuestVtl → ℕ → Outcome
 defaultTaken w v flags = cond (barred (w .maps .private) (w .state) (w .tables) v) (refusedBy w refusal.locked) (defaultStarted (renewedIn w v flags) v flags)
 
-unfoldable pub defaultOf : World → ℕ → ℕ → Outcome
+unfoldable pub defaultOf : Buffers → ℕ → ℕ → Outcome
 defaultOf w vtl flags = decided w (defaultRefusal (w .state) (fits w) vtl flags) (defaultTaken (stored w (vtlOf vtl) flags) (vtlOf vtl) flags)
 
 -- ---- a protection change: 4, 20, 19, 4, 5, 8; each page in turn, 7, 10 and 11 as of a page to be shared; then 12 where any page is shared
@@ -98,9 +98,9 @@ allListed l pages = tableOf (λ p. true) (pagesOf l) pages
 abbrev pub protectionStep : List ℕ → List ℕ → GuestVtl → ℕ → ℕ → ChangeStep
 protectionStep state pages v flags n = changes.startPages (settingsOf state .tracked) v flags n pages
 
-unfoldable pub protectionTaken : World → GuestVtl → ℕ → List ℕ → Outcome
+unfoldable pub protectionTaken : Buffers → GuestVtl → ℕ → List ℕ → Outcome
 protectionTaken w v flags l = carriedChange w (allListed l (w .pages)) (protectionStep (w .state) (allListed l (w .pages)) v flags (length (pagesOf l)))
 
-unfoldable pub protectionOf : World → ℕ → ℕ → List ℕ → Outcome
+unfoldable pub protectionOf : Buffers → ℕ → ℕ → List ℕ → Outcome
 protectionOf w vtl flags l =
     decided w (protectionRefusal (w .state) (fits w) (w .maps .shared) (w .tables) vtl flags l) (protectionTaken w (vtlOf vtl) flags l)

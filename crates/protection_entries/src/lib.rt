@@ -9,7 +9,7 @@ ghost use Rattle.mapping.specs.Maps.{maps, perms};
 ghost use Rattle.protector_state.specs.State.{stateLen, settingsOf};
 ghost use Rattle.protector_state.specs.Reply.{flatOf};
 ghost use Rattle.protector_state.specs.Changing.{withChange};
-ghost use Rattle.call_refusals.specs.World.{world, outcome, tablesLen, fitsIn};
+ghost use Rattle.call_refusals.specs.Buffers.{buffers, outcome, tablesLen, fitsIn};
 ghost use Rattle.protector.specs.Writes.{permittedRun};
 ghost use Rattle.protection_entries.specs.Calls.{defaultRefusal, storedDefault, barred, renewedTables, firstPiece, defaultStep, defaultOf, anyShared, pagesRefusal, protectionRefusal, protectionStep, protectionOf};
 use abi::place;
@@ -157,7 +157,7 @@ pub extern "C" fn protector_change_default_vtl_protections(
     flags: u64,
 ) -> Reply
     ensures { λ r. ⌜ outcome (maps (now (private .entry)) (now (shared .entry)) (now (read .exit)) (now (write .exit)) (now (kernel .exit)) (now (user .exit))) (now (state .exit)) (now (pages .entry)) (now (tables .exit)) r
-        ≡ defaultOf (world (maps (now (private .entry)) (now (shared .entry)) (now (read .entry)) (now (write .entry)) (now (kernel .entry)) (now (user .entry))) (now (state .entry)) (now (pages .entry)) (now (tables .entry))) vtl flags ⌝ }
+        ≡ defaultOf (buffers (maps (now (private .entry)) (now (shared .entry)) (now (read .entry)) (now (write .entry)) (now (kernel .entry)) (now (user .entry))) (now (state .entry)) (now (pages .entry)) (now (tables .entry))) vtl flags ⌝ }
 {
     let lengths = Lengths {
         maps: MapLengths {
@@ -276,7 +276,7 @@ pub extern "C" fn protector_change_vtl_protections(
     list: &[u8],
 ) -> Reply
     ensures { λ r. ⌜ outcome (maps (now (private .entry)) (now (shared .entry)) (now (read .exit)) (now (write .exit)) (now (kernel .exit)) (now (user .exit))) (now (state .exit)) (now (pages .exit)) (now (tables .entry)) r
-        ≡ protectionOf (world (maps (now (private .entry)) (now (shared .entry)) (now (read .entry)) (now (write .entry)) (now (kernel .entry)) (now (user .entry))) (now (state .entry)) (now (pages .entry)) (now (tables .entry))) vtl flags (now (list .entry)) ⌝ }
+        ≡ protectionOf (buffers (maps (now (private .entry)) (now (shared .entry)) (now (read .entry)) (now (write .entry)) (now (kernel .entry)) (now (user .entry))) (now (state .entry)) (now (pages .entry)) (now (tables .entry))) vtl flags (now (list .entry)) ⌝ }
 {
     let lengths = Lengths {
         maps: MapLengths {

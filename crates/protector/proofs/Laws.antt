@@ -27,13 +27,13 @@ use Rattle.protector_state.specs.declared.Reply.{Reply}
 use Rattle.protector_state.specs.Reply.{finished, flatOf}
 use Rattle.protector_state.specs.State.{phaseIn, requestOf, withRequest}
 use Rattle.request_pages.proofs.Runs.{put-none, end-none}
-use Rattle.call_refusals.specs.World.{World, Outcome, outcome}
+use Rattle.call_refusals.specs.Buffers.{Buffers, Outcome, outcome}
 use Rattle.protector.specs.Writes.{putPlaces, putPermissions, applied, isEmpty, isNothing}
 use Rattle.protector.specs.Calls.{decided, refusedBy}
 
 -- ---- a call refused, and one that isn't
 
-module _ (w : World) (n x : ℕ) (e : n ≡ x) (taken : Outcome) where
+module _ (w : Buffers) (n x : ℕ) (e : n ≡ x) (taken : Outcome) where
   pub call-refused : (r : Reply) → (n ≡ 0 → ⊥) → r ≡ finished n (codeOf n) 0 0 → outcome (w .maps) (w .state) (w .pages) (w .tables) r ≡ decided w x taken
   call-refused r h q = ap (outcome (w .maps) (w .state) (w .pages) (w .tables)) q ∙ refused n x e taken (refusedBy w) h
 

@@ -8,7 +8,7 @@ use lib.Seq.{length-take-le, take-at, drop-at, drop-drop, take-append-le, take-t
 use Rattle.permissions.specs.declared.GuestVtl.{GuestVtl}
 use Rattle.permissions.specs.declared.GuestVtl.the-variants.{Vtl0, Vtl1}
 use Rattle.permissions.specs.Flags.{vtlNumber}
-use Rattle.call_refusals.specs.World.{tablesLen, overlaysOf, locksOf}
+use Rattle.call_refusals.specs.Buffers.{tablesLen, overlaysOf, locksOf}
 use Rattle.protector.specs.Writes.{withOverlays}
 
 start-fits : (v : GuestVtl) → 641 * vtlNumber v ≤ 2819

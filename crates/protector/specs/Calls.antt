@@ -25,19 +25,19 @@ use Rattle.change_steps.specs.Changes as changes
 use Rattle.protector_state.specs.State.{phaseIn, requestOf, withRequest, settingsOf, entriesIn, builtState}
 use Rattle.protector_state.specs.Reply.{finished, flatOf}
 use Rattle.protector_state.specs.Changing.{stageIn, isChanging, changeIn, withChange}
-use Rattle.call_refusals.specs.World.{World, Outcome, outcome, overlaysOf, lengthsIn, fits}
+use Rattle.call_refusals.specs.Buffers.{Buffers, Outcome, outcome, overlaysOf, lengthsIn, fits}
 use Rattle.call_refusals.specs.Refusals.{buildFits, buildRefusal, visibilityRefusal, answerRefusal}
 use Rattle.protector.specs.Writes.{applied, permittedRun, entered}
 
 -- a call refused by the number n changes nothing; else it gives what it does
-abbrev pub refusedBy : World → ℕ → Outcome
-refusedBy w n = record { world = w; reply = finished n (codeOf n) 0 0 }
+abbrev pub refusedBy : Buffers → ℕ → Outcome
+refusedBy w n = record { buffers = w; reply = finished n (codeOf n) 0 0 }
 
-abbrev pub decided : World → ℕ → Outcome → Outcome
+abbrev pub decided : Buffers → ℕ → Outcome → Outcome
 decided w n taken = cond (eqb n 0) taken (refusedBy w n)
 
 -- a step carried out: its writes made, its phase and request kept
-unfoldable pub carriedOut : World → List ℕ → Step → Outcome
+unfoldable pub carriedOut : Buffers → List ℕ → Step → Outcome
 carriedOut w table s =
     outcome (applied table (s .writes) (w .maps)) (withRequest (s .phase) (s .request) (w .state)) table (w .tables)
     (flatOf (settingsOf (w .state) .isolation) (s .answer))
@@ -46,7 +46,7 @@ carriedOut w table s =
 abbrev pub withPermissions : Maps → PageRun → HvMapGpaFlags → Maps
 withPermissions m r f = record { private = m .private; shared = m .shared; permissions = permittedRun r f (m .permissions) }
 
-unfoldable pub carriedChange : World → List ℕ → ChangeStep → Outcome
+unfoldable pub carriedChange : Buffers → List ℕ → ChangeStep → Outcome
 carriedChange w table x =
     outcome (withPermissions (w .maps) (x .written) (flagsOf (x .change .flags))) (withChange (x .stage) (x .change) (w .state)) table
     (entered (x .entry) (x .change) (w .tables)) (flatOf (settingsOf (w .state) .isolation) (x .answer))
@@ -54,12 +54,12 @@ carriedChange w table x =
 -- ---- build
 
 -- every map, the state and the tables as a build leaves them, whatever they held
-unfoldable pub buildTaken : World → List ℕ → ℕ → ℕ → ℕ → Outcome
+unfoldable pub buildTaken : Buffers → List ℕ → ℕ → ℕ → ℕ → Outcome
 buildTaken w ram isolation tracked release =
     outcome (built (entriesOf ram) (w .maps)) (builtState ram isolation tracked release) (replicate (length (w .pages)) 0)
     (replicate (length (w .tables)) 0) (finished 0 0 0 0)
 
-unfoldable pub buildOf : World → List ℕ → ℕ → ℕ → ℕ → Outcome
+unfoldable pub buildOf : Buffers → List ℕ → ℕ → ℕ → ℕ → Outcome
 buildOf w ram isolation tracked release =
     decided w (buildRefusal ram isolation tracked release (buildFits (mapLen (entriesOf ram)) tracked (length (w .state)) (lengthsIn w))) (buildTaken w ram isolation tracked release)
 
@@ -70,23 +70,23 @@ abbrev pub checksPermissions : Settings → GuestVtl → Bool → Bool
 checksPermissions s v share = share && (isVtl0 v && s .enabled)
 
 -- where it stops (15): how many pages come before the first that isn't readable and writable
-abbrev pub stopOf : World → GuestVtl → Bool → List ℕ → ℕ
+abbrev pub stopOf : Buffers → GuestVtl → Bool → List ℕ → ℕ
 stopOf w v share l =
     stopAt (isReadableAndWritable (w .maps .permissions .read) (w .maps .permissions .write) (checksPermissions (settingsOf (w .state)) v share)) (pagesOf l)
 
 -- the pages before the stop that aren't yet as asked, and the table that has them with their places in the list
-abbrev pub askedFor : World → GuestVtl → Bool → List ℕ → List ℕ
+abbrev pub askedFor : Buffers → GuestVtl → Bool → List ℕ → List ℕ
 askedFor w v share l = pick (wanted (w .maps .shared) share) (take (stopOf w v share l) (pagesOf l))
 
-abbrev pub tableFor : World → GuestVtl → Bool → List ℕ → List ℕ
+abbrev pub tableFor : Buffers → GuestVtl → Bool → List ℕ → List ℕ
 tableFor w v share l = tableOf (wanted (w .maps .shared) share) (take (stopOf w v share l) (pagesOf l)) (w .pages)
 
-unfoldable pub visibilityTaken : World → GuestVtl → Bool → List ℕ → Outcome
+unfoldable pub visibilityTaken : Buffers → GuestVtl → Bool → List ℕ → Outcome
 visibilityTaken w v share l =
     carriedOut w (tableFor w v share l)
     (startOf (settingsOf (w .state)) v share (length (askedFor w v share l)) (stopOf w v share l) (ltb (stopOf w v share l) (length (pagesOf l))))
 
-unfoldable pub visibilityOf : World → ℕ → ℕ → List ℕ → Outcome
+unfoldable pub visibilityOf : Buffers → ℕ → ℕ → List ℕ → Outcome
 visibilityOf w vtl visibility l = decided w (visibilityRefusal (w .state) (fits w) (w .tables) vtl visibility l) (visibilityTaken w (vtlOf vtl) (boolOf visibility) l)
 
 -- ---- the answer
@@ -117,22 +117,22 @@ afterFailed s = changes.failedOf (stageIn s) (changeIn s)
 abbrev pub doneIn : List ℕ → List ℕ → Step
 doneIn s pages = doneOf (settingsOf s) (phaseIn s) (requestOf s) pages
 
-abbrev pub visibilityDone : World → Outcome
+abbrev pub visibilityDone : Buffers → Outcome
 visibilityDone w = carriedOut w (w .pages) (doneIn (w .state) (w .pages))
 
-abbrev pub visibilityFailed : World → ℕ → ℕ → Outcome
+abbrev pub visibilityFailed : Buffers → ℕ → ℕ → Outcome
 visibilityFailed w code processed =
     carriedOut w (w .pages) (failedOf (settingsOf (w .state)) (phaseIn (w .state)) (requestOf (w .state)) (w .pages) code processed)
 
-abbrev pub changeDone : World → Outcome
+abbrev pub changeDone : Buffers → Outcome
 changeDone w = carriedChange w (w .pages) (afterDone (w .maps .private) (w .state) (w .pages) (w .tables))
 
-abbrev pub changeFailed : World → Outcome
+abbrev pub changeFailed : Buffers → Outcome
 changeFailed w = carriedChange w (w .pages) (afterFailed (w .state))
 
-unfoldable pub answerDone : World → Outcome
+unfoldable pub answerDone : Buffers → Outcome
 answerDone w = decided w (answerRefusal (w .state) (fits w) false) (cond (isChanging (w .state)) (changeDone w) (visibilityDone w))
 
-unfoldable pub answerFailed : World → ℕ → ℕ → Outcome
+unfoldable pub answerFailed : Buffers → ℕ → ℕ → Outcome
 answerFailed w code processed =
     decided w (answerRefusal (w .state) (fits w) true) (cond (isChanging (w .state)) (changeFailed w) (visibilityFailed w code processed))

@@ -17,7 +17,7 @@ use Rattle.visibility_steps.specs.declared.Writes.{Writes}
 use Rattle.change_steps.specs.declared.Entry.{Entry}
 use Rattle.change_steps.specs.declared.Entry.the-variants.{Keep, Add, Remove}
 use Rattle.change_steps.specs.declared.Change.{Change}
-use Rattle.call_refusals.specs.World.{overlaysOf}
+use Rattle.call_refusals.specs.Buffers.{overlaysOf}
 
 -- ---- what a step of a visibility change writes: the marks and the permissions of places of the table
 

@@ -9,7 +9,7 @@ ghost use Rattle.visibility_steps.specs.Steps.{startOf};
 ghost use Rattle.visibility_steps.specs.Next.{runIn, permittedAt, flagsAt, nextStep};
 ghost use Rattle.protector_state.specs.State.{stateLen, withRequest, settingsOf};
 ghost use Rattle.protector_state.specs.Reply.{flatOf};
-ghost use Rattle.call_refusals.specs.World.{pagesLen};
+ghost use Rattle.call_refusals.specs.Buffers.{pagesLen};
 ghost use Rattle.protector.specs.Writes.{putPlaces, putPermissions, applied, isEmpty, isNothing};
 ghost use Rattle.protector.specs.Calls.{checksPermissions, doneIn};
 use abi::operation;

@@ -31,21 +31,21 @@ use Rattle.registrar_steps.specs.declared.Stop.{Stop}
 use Rattle.registrar_steps.specs.Steps.{idle, askedOf, asks, ends, ramFrom, passes, pieceOf, registerFrom, hasRam, stopAt, planAt, stopPlan, allFrom}
 use Rattle.registrar_steps.proofs.Laws.{register-stopped, ram-plan}
 use Rattle.registrar_state.specs.declared.Reply.{Reply}
-use Rattle.registrar_state.specs.World.{World, world, Outcome, outcome, requestOf, withRequest, offsetOf, granularityOf, entriesIn, chunkStateIn, builtState, simple, flatOf, decided, buildRefusal, callRefusal, chunksFit, registerRefusal, allRefusal, marked, carriedOut, registerPlan, isKnown, answerRefusal, restOf, hasRest, takenTo, donePlan, afterTaken}
+use Rattle.registrar_state.specs.Buffers.{Buffers, buffers, Outcome, outcome, requestOf, withRequest, offsetOf, granularityOf, entriesIn, chunkStateIn, builtState, simple, flatOf, decided, buildRefusal, callRefusal, chunksFit, registerRefusal, allRefusal, marked, carriedOut, registerPlan, isKnown, answerRefusal, restOf, hasRest, takenTo, donePlan, afterTaken}
 use Rattle.registrar_state.proofs.Laws.{build-fits, known-kept}
 
 -- ---- a call refused, and one carried out
 
-module _ (w : World) (n x : ℕ) (e : n ≡ x) where
+module _ (w : Buffers) (n x : ℕ) (e : n ≡ x) where
   pub call-refused : (taken : Outcome) (r : Reply) → (n ≡ 0 → ⊥) → r ≡ flatOf (Refused n) → outcome (w .state) (w .registered) (w .failed) r ≡ decided w x taken
   call-refused taken r h q =
-      ap (outcome (w .state) (w .registered) (w .failed)) q ∙ refused n x e taken (λ k. record { world = w; reply = flatOf (Refused k) }) h
+      ap (outcome (w .state) (w .registered) (w .failed)) q ∙ refused n x e taken (λ k. record { buffers = w; reply = flatOf (Refused k) }) h
 
   pub call-answered : (taken : Outcome) (o : Outcome) → n ≡ 0 → o ≡ taken → o ≡ decided w x taken
-  call-answered taken o h q = answered n x e taken o (λ k. record { world = w; reply = flatOf (Refused k) }) h q
+  call-answered taken o h q = answered n x e taken o (λ k. record { buffers = w; reply = flatOf (Refused k) }) h q
 
 -- the chunks that a request touches, found once
-module _ (w : World) (address len g f e : ℕ) (hg : g ≡ granularityOf (w .state)) (hf : f ≡ firstChunk g address) (he : e ≡ endChunk g address len) where
+module _ (w : Buffers) (address len g f e : ℕ) (hg : g ≡ granularityOf (w .state)) (hf : f ≡ firstChunk g address) (he : e ≡ endChunk g address len) where
   first-is : f ≡ firstChunk (granularityOf (w .state)) address
   first-is = hf ∙ ap (λ (k : ℕ). firstChunk k address) hg
 
@@ -64,7 +64,7 @@ module _ (w : World) (address len g f e : ℕ) (hg : g ≡ granularityOf (w .sta
   touched-plan = ap₂ (registerFrom (chunkStateIn w) (offsetOf (w .state)) 0) first-is end-is
 
 -- a request that finds its chunks registered
-pub call-known : (w : World) (n address len : ℕ) (r : Reply) → n ≡ registerRefusal w address len → n ≡ 0 → length (w .state) ≡ registrarLen
+pub call-known : (w : Buffers) (n address len : ℕ) (r : Reply) → n ≡ registerRefusal w address len → n ≡ 0 → length (w .state) ≡ registrarLen
     → isKnown (w .state) (w .registered) (firstChunk (granularityOf (w .state)) address) (endChunk (granularityOf (w .state)) address len) ≡ true → r ≡ flatOf (Done 0)
     → outcome (w .state) (w .registered) (w .failed) r ≡ decided w (registerRefusal w address len) (carriedOut w (registerPlan w address len))
 call-known w n address len r e z h k hr =
@@ -72,7 +72,7 @@ call-known w n address len r e z h k hr =
 
 -- ---- the state block of a call that is not refused has its length
 
-module _ (w : World) (n : ℕ) (z : n ≡ 0) where
+module _ (w : Buffers) (n : ℕ) (z : n ≡ 0) where
   pub register-long : (address len : ℕ) → n ≡ registerRefusal w address len → length (w .state) ≡ registrarLen
   unfolding registerRefusal
   register-long address len e = eqb-true _ _ (passed (eqb (length (w .state)) registrarLen) 3 _ (sym e ∙ z) .0)
@@ -88,7 +88,7 @@ module _ (w : World) (n : ℕ) (z : n ≡ 0) where
 -- ---- a build
 
 -- a layout that is taken has 96 words at most, and the state block its length
-pub build-lengths : (w : World) (ram : List ℕ) (o g n : ℕ) → n ≡ 0 → n ≡ buildRefusal w ram o g → (length (w .state) ≡ registrarLen) × (length ram ≤ ramLen)
+pub build-lengths : (w : Buffers) (ram : List ℕ) (o g n : ℕ) → n ≡ 0 → n ≡ buildRefusal w ram o g → (length (w .state) ≡ registrarLen) × (length ram ≤ ramLen)
 build-lengths w ram o g n z e =
     let t = build-fits w ram o g (sym e ∙ z) in
     let k = fit ram (t .layout) in
@@ -116,12 +116,12 @@ filled-all ram o g i h k =
 
 -- ---- a plan carried out
 
-pub plan-made : (w : World) (p q : Plan) (s m : List ℕ) (r : Reply) → q ≡ p → s ≡ withRequest (q .request) (w .state) → m ≡ marked (q .from) (q .to) (w .registered)
+pub plan-made : (w : Buffers) (p q : Plan) (s m : List ℕ) (r : Reply) → q ≡ p → s ≡ withRequest (q .request) (w .state) → m ≡ marked (q .from) (q .to) (w .registered)
     → r ≡ flatOf (q .answer) → outcome s m (w .failed) r ≡ carriedOut w p
 plan-made w p q s m r e hs hm hr = let here : outcome s m (w .failed) r ≡ carriedOut w q = cc in here ∙ ap (carriedOut w) e
 
 -- how `register` goes on between its two parts: what a plan stores and marks, and where it stops
-abbrev pub Stored : World → Plan → List ℕ → List ℕ → ℕ → Type 0
+abbrev pub Stored : Buffers → Plan → List ℕ → List ℕ → ℕ → Type 0
 Stored w p s m c = (s ≡ withRequest (p .request) (w .state)) × (m ≡ marked (p .from) (p .to) (w .registered)) × (c ≡ p .to)
 
 -- then what is answered, of the words that are stored: the operation asked for, else where the request stops
@@ -130,11 +130,11 @@ answerOf s n count until c =
     cond (eqb (getD s place.kind 0) kind.register) (simple 0 1 0 ((offsetOf s + getD s place.start 0) % 2 ^ 64) ((offsetOf s + getD s place.end 0) % 2 ^ 64) 0)
     (cond (ltb c (min until n)) (simple refusal.registrationFailed 0 count 0 0 (c * granularityOf s)) (simple 0 0 count 0 0 0))
 
-stored : (w : World) (p q : Plan) (s m : List ℕ) (c : ℕ) → q ≡ p → s ≡ withRequest (q .request) (w .state) → m ≡ marked (q .from) (q .to) (w .registered) → c ≡ q .to → Stored w p s m c
+stored : (w : Buffers) (p q : Plan) (s m : List ℕ) (c : ℕ) → q ≡ p → s ≡ withRequest (q .request) (w .state) → m ≡ marked (q .from) (q .to) (w .registered) → c ≡ q .to → Stored w p s m c
 stored w p q s m c e hs hm hc =
     (hs ∙ ap (λ (p : Plan). withRequest (p .request) (w .state)) e, hm ∙ ap (λ (p : Plan). marked (p .from) (p .to) (w .registered)) e, hc ∙ ap (λ (p : Plan). p .to) e)
 
-module _ (w : World) (n count from until : ℕ) (hn : n ≡ chunkCount (granularityOf (w .state)) (entriesIn (w .state))) where
+module _ (w : Buffers) (n count from until : ℕ) (hn : n ≡ chunkCount (granularityOf (w .state)) (entriesIn (w .state))) where
   abbrev planned : Plan
   planned = registerFrom (chunkStateIn w) (offsetOf (w .state)) count from until
 
@@ -176,7 +176,7 @@ module _ (s : List ℕ) (n count until c : ℕ) (r : Reply) where
 kept-at : (s : List ℕ) (i : ℕ) → getD (drop place.afterRequest s) i 0 ≡ getD s (place.afterRequest + i) 0
 kept-at s i = getD-drop place.afterRequest s i 0
 
-module _ (w : World) (n count from until : ℕ) (hn : n ≡ chunkCount (granularityOf (w .state)) (entriesIn (w .state))) where
+module _ (w : Buffers) (n count from until : ℕ) (hn : n ≡ chunkCount (granularityOf (w .state)) (entriesIn (w .state))) where
   abbrev plan : Plan
   plan = registerFrom (chunkStateIn w) (offsetOf (w .state)) count from until
 
@@ -224,7 +224,7 @@ module _ (w : World) (n count from until : ℕ) (hn : n ≡ chunkCount (granular
 none-marked : (a : ℕ) (m : List ℕ) → m ≡ marked a a m
 none-marked a m = none wordBits (between a a) true m (λ j k l d. between-false a a (j * wordBits + k) (λ x y. omega arith))
 
-module _ (w : World) (q : Request) (e : q ≡ requestOf (w .state)) where
+module _ (w : Buffers) (q : Request) (e : q ≡ requestOf (w .state)) where
   -- RAM of the chunk is left: it is asked for
   pub done-rest : (rest : MemoryRange) (s : List ℕ) (r : Reply) → requestOf (w .state) .kind ≡ kind.register → rest ≡ restOf (w .state) → rest .start < rest .end
       → s ≡ withRequest (pieceOf (q .count) (q .from) (q .to) (q .until) rest) (w .state)
@@ -250,13 +250,13 @@ module _ (w : World) (q : Request) (e : q ≡ requestOf (w .state)) where
     taken : requestOf (w .state) .to ≡ takenTo (w .state)
     taken = sym (rw no)
 
-    after-is : world (w .state) m (w .failed) ≡ afterTaken w
+    after-is : buffers (w .state) m (w .failed) ≡ afterTaken w
     after-is =
-        ap (λ (l : List ℕ). world (w .state) l (w .failed))
+        ap (λ (l : List ℕ). buffers (w .state) l (w .failed))
         (hm ∙ ap (λ (q : Request). marked (q .from) (q .to) (w .registered)) e ∙ ap (λ (t : ℕ). marked (requestOf (w .state) .from) t (w .registered)) taken)
 
-    abbrev after : World
-    after = world (w .state) m (w .failed)
+    abbrev after : Buffers
+    after = buffers (w .state) m (w .failed)
 
     pub done-register : requestOf (w .state) .kind ≡ kind.register
         → carriedOut after (registerFrom (chunkStateIn after) (offsetOf (w .state)) (q .count) (q .to) (q .until)) ≡ carriedOut (afterTaken w) (donePlan (afterTaken w))
@@ -264,7 +264,7 @@ module _ (w : World) (q : Request) (e : q ≡ requestOf (w .state)) where
         let here : donePlan after ≡ registerFrom (chunkStateIn after) (offsetOf (w .state)) (requestOf (w .state) .count) (requestOf (w .state) .to) (requestOf (w .state) .until) =
         rw (no, eq-eqb (requestOf (w .state) .kind) kind.register k) in
         ap (λ (q : Request). carriedOut after (registerFrom (chunkStateIn after) (offsetOf (w .state)) (q .count) (q .to) (q .until))) e ∙ ap (carriedOut after) (sym here)
-        ∙ ap (λ (u : World). carriedOut u (donePlan u)) after-is
+        ∙ ap (λ (u : Buffers). carriedOut u (donePlan u)) after-is
 
     pub done-all : (requestOf (w .state) .kind ≡ kind.register → ⊥)
         → carriedOut after (allFrom (chunkStateIn after) (offsetOf (w .state)) (q .count) (q .alignment) (q .ignore) (q .to) (spans (entriesIn (w .state))))
@@ -273,7 +273,7 @@ module _ (w : World) (q : Request) (e : q ≡ requestOf (w .state)) where
         let here : donePlan after ≡ allFrom (chunkStateIn after) (offsetOf (w .state)) (requestOf (w .state) .count) (requestOf (w .state) .alignment) (requestOf (w .state) .ignore) (requestOf (w .state) .to) (spans (entriesIn (w .state))) =
         rw (no, ne-eqb (requestOf (w .state) .kind) kind.register k) in
         ap (λ (q : Request). carriedOut after (allFrom (chunkStateIn after) (offsetOf (w .state)) (q .count) (q .alignment) (q .ignore) (q .to) (spans (entriesIn (w .state))))) e
-        ∙ ap (carriedOut after) (sym here) ∙ ap (λ (u : World). carriedOut u (donePlan u)) after-is
+        ∙ ap (carriedOut after) (sym here) ∙ ap (λ (u : Buffers). carriedOut u (donePlan u)) after-is
 
 module _ (s : List ℕ) where
   pub none-left : (rest : MemoryRange) → rest ≡ restOf s → rest .end ≤ rest .start → requestOf s .kind ≡ kind.register → hasRest s ≡ false
@@ -283,7 +283,7 @@ module _ (s : List ℕ) where
   not-register k = rw (ne-eqb (requestOf s .kind) kind.register k)
 
 -- an operation failed
-pub failed-made : (w : World) (q i : Request) (s f : List ℕ) (r : Reply) → q ≡ requestOf (w .state) → i ≡ idle → s ≡ withRequest i (w .state)
+pub failed-made : (w : Buffers) (q i : Request) (s f : List ℕ) (r : Reply) → q ≡ requestOf (w .state) → i ≡ idle → s ≡ withRequest i (w .state)
     → f ≡ marked (q .from) (q .to) (w .failed) → r ≡ flatOf (RegistrationFailed (q .start) (q .count))
     → outcome s (w .registered) f r
     ≡ outcome (withRequest idle (w .state)) (w .registered) (marked (requestOf (w .state) .from) (requestOf (w .state) .to) (w .failed)) (flatOf (RegistrationFailed (requestOf (w .state) .start) (requestOf (w .state) .count)))
@@ -293,7 +293,7 @@ failed-made w q i s f r hq hi hs hf hr =
     first ∙ ap₂ made hi hq
 
 -- a build
-pub build-made : (w : World) (ram : List ℕ) (o g : ℕ) (s m f : List ℕ) (r : Reply) → s ≡ builtState ram o g → m ≡ replicate (length (w .registered)) 0
+pub build-made : (w : Buffers) (ram : List ℕ) (o g : ℕ) (s m f : List ℕ) (r : Reply) → s ≡ builtState ram o g → m ≡ replicate (length (w .registered)) 0
     → f ≡ replicate (length (w .failed)) 0 → r ≡ flatOf (Done 0)
     → outcome s m f r ≡ outcome (builtState ram o g) (replicate (length (w .registered)) 0) (replicate (length (w .failed)) 0) (flatOf (Done 0))
 build-made w ram o g s m f r hs hm hf hr = cc

@@ -13,7 +13,7 @@ ghost use Rattle.layout.specs.Layout.{spans};
 ghost use Rattle.chunks.specs.Chunks.{chunkCount};
 ghost use Rattle.registrar_steps.specs.declared.Plan.{Plan};
 ghost use Rattle.registrar_steps.specs.Steps.{askedOf, pieceOf, registerFrom, allFrom};
-ghost use Rattle.registrar_state.specs.World.{World, world, outcome, withRequest, offsetOf, granularityOf, entriesIn, chunkStateIn, simple, flatOf, builtState, marked, carriedOut, buildOf, registerOf, allOf, failedOf, donePlan, afterTaken, doneOf};
+ghost use Rattle.registrar_state.specs.Buffers.{Buffers, buffers, outcome, withRequest, offsetOf, granularityOf, entriesIn, chunkStateIn, simple, flatOf, builtState, marked, carriedOut, buildOf, registerOf, allOf, failedOf, donePlan, afterTaken, doneOf};
 use abi::kind;
 use abi::registrar_place as place;
 use layout::MemoryRange;
@@ -60,7 +60,7 @@ pub extern "C" fn registrar_build(
     registered: &mut [u64],
     failed: &mut [u64],
 ) -> Reply
-    ensures { λ r. ⌜ outcome (now (state .exit)) (now (registered .exit)) (now (failed .exit)) r ≡ buildOf (world (now (state .entry)) (now (registered .entry)) (now (failed .entry))) (now (ram .entry)) offset granularity ⌝ }
+    ensures { λ r. ⌜ outcome (now (state .exit)) (now (registered .exit)) (now (failed .exit)) r ≡ buildOf (buffers (now (state .entry)) (now (registered .entry)) (now (failed .entry))) (now (ram .entry)) offset granularity ⌝ }
 {
     let number = registrar_state::build_refusal(
         ram,
@@ -91,7 +91,7 @@ fn register_from(
     until: u64,
 ) -> u64
     requires { ⌜ (length (now state) ≡ registrarLen) × (total ≡ chunkCount (granularityOf (now state)) (entriesIn (now state))) ⌝ }
-    ensures { λ c. ⌜ (let w : World = world (now (state .entry)) (now (registered .entry)) (now (failed .entry)) in let p : Plan = registerFrom (chunkStateIn w) (offsetOf (w .state)) count from until in (now (state .exit) ≡ withRequest (p .request) (w .state)) × (now (registered .exit) ≡ marked (p .from) (p .to) (w .registered)) × (c ≡ p .to)) ⌝ }
+    ensures { λ c. ⌜ (let w : Buffers = buffers (now (state .entry)) (now (registered .entry)) (now (failed .entry)) in let p : Plan = registerFrom (chunkStateIn w) (offsetOf (w .state)) count from until in (now (state .exit) ≡ withRequest (p .request) (w .state)) × (now (registered .exit) ≡ marked (p .from) (p .to) (w .registered)) × (c ≡ p .to)) ⌝ }
     ensures { λ c. ⌜ (c < min until total → c * granularityOf (now (state .entry)) < 2 ^ 64) ⌝ }
 {
     let at = registrar_state::register_stop(state, registered, failed, total, from, until);
@@ -135,7 +135,7 @@ pub extern "C" fn registrar_register(
     address: u64,
     len: u64,
 ) -> Reply
-    ensures { λ r. ⌜ outcome (now (state .exit)) (now (registered .exit)) (now (failed .exit)) r ≡ registerOf (world (now (state .entry)) (now (registered .entry)) (now (failed .entry))) address len ⌝ }
+    ensures { λ r. ⌜ outcome (now (state .exit)) (now (registered .exit)) (now (failed .exit)) r ≡ registerOf (buffers (now (state .entry)) (now (registered .entry)) (now (failed .entry))) address len ⌝ }
 {
     let granularity = registrar_state::granularity(state);
     let first = chunks::first_chunk(granularity, address);
@@ -163,7 +163,7 @@ fn register_all_from(
     chunk: u64,
 ) -> Reply
     requires { ⌜ length (now state) ≡ registrarLen ⌝ }
-    ensures { λ r. ⌜ outcome (now (state .exit)) (now (registered .exit)) (now (failed .entry)) r ≡ carriedOut (world (now (state .entry)) (now (registered .entry)) (now (failed .entry))) (allFrom (chunkStateIn (world (now (state .entry)) (now (registered .entry)) (now (failed .entry)))) (offsetOf (now (state .entry))) count alignment ignore chunk (spans (entriesIn (now (state .entry))))) ⌝ }
+    ensures { λ r. ⌜ outcome (now (state .exit)) (now (registered .exit)) (now (failed .entry)) r ≡ carriedOut (buffers (now (state .entry)) (now (registered .entry)) (now (failed .entry))) (allFrom (chunkStateIn (buffers (now (state .entry)) (now (registered .entry)) (now (failed .entry)))) (offsetOf (now (state .entry))) count alignment ignore chunk (spans (entriesIn (now (state .entry))))) ⌝ }
 {
     let plan = registrar_state::all_plan(
         state,
@@ -190,7 +190,7 @@ pub extern "C" fn registrar_register_all_aligned(
     alignment: u64,
     ignore_unaligned_ranges: u64,
 ) -> Reply
-    ensures { λ r. ⌜ outcome (now (state .exit)) (now (registered .exit)) (now (failed .exit)) r ≡ allOf (world (now (state .entry)) (now (registered .entry)) (now (failed .entry))) alignment «ignore_unaligned_ranges» ⌝ }
+    ensures { λ r. ⌜ outcome (now (state .exit)) (now (registered .exit)) (now (failed .exit)) r ≡ allOf (buffers (now (state .entry)) (now (registered .entry)) (now (failed .entry))) alignment «ignore_unaligned_ranges» ⌝ }
 {
     let ignore = ignore_unaligned_ranges;
     let total = registrar_state::chunk_count(state);
@@ -204,7 +204,7 @@ pub extern "C" fn registrar_register_all_aligned(
 // A Register of `register` is done: the chunk under way becomes registered, unless some of its RAM is left.
 fn register_done(state: &mut [u64], registered: &mut [u64], failed: &[u64], total: u64) -> Reply
     requires { ⌜ (length (now state) ≡ registrarLen) × (total ≡ chunkCount (granularityOf (now state)) (entriesIn (now state))) × (getD (now state) place.kind 0 ≡ kind.register) ⌝ }
-    ensures { λ r. ⌜ outcome (now (state .exit)) (now (registered .exit)) (now (failed .entry)) r ≡ carriedOut (afterTaken (world (now (state .entry)) (now (registered .entry)) (now (failed .entry)))) (donePlan (afterTaken (world (now (state .entry)) (now (registered .entry)) (now (failed .entry))))) ⌝ }
+    ensures { λ r. ⌜ outcome (now (state .exit)) (now (registered .exit)) (now (failed .entry)) r ≡ carriedOut (afterTaken (buffers (now (state .entry)) (now (registered .entry)) (now (failed .entry)))) (donePlan (afterTaken (buffers (now (state .entry)) (now (registered .entry)) (now (failed .entry))))) ⌝ }
 {
     let request = registrar_state::load(state);
     let rest = registrar_state::rest_of(state, total);
@@ -234,7 +234,7 @@ fn register_done(state: &mut [u64], registered: &mut [u64], failed: &[u64], tota
 // A Register of `register_all_aligned` is done: the stretch under way becomes registered.
 fn register_all_done(state: &mut [u64], registered: &mut [u64], failed: &[u64]) -> Reply
     requires { ⌜ (length (now state) ≡ registrarLen) × (getD (now state) place.kind 0 ≡ kind.register → ⊥) ⌝ }
-    ensures { λ r. ⌜ outcome (now (state .exit)) (now (registered .exit)) (now (failed .entry)) r ≡ carriedOut (afterTaken (world (now (state .entry)) (now (registered .entry)) (now (failed .entry)))) (donePlan (afterTaken (world (now (state .entry)) (now (registered .entry)) (now (failed .entry))))) ⌝ }
+    ensures { λ r. ⌜ outcome (now (state .exit)) (now (registered .exit)) (now (failed .entry)) r ≡ carriedOut (afterTaken (buffers (now (state .entry)) (now (registered .entry)) (now (failed .entry)))) (donePlan (afterTaken (buffers (now (state .entry)) (now (registered .entry)) (now (failed .entry))))) ⌝ }
 {
     let request = registrar_state::load(state);
     let chunk = request.to;
@@ -258,7 +258,7 @@ pub extern "C" fn registrar_answer_done(
     registered: &mut [u64],
     failed: &mut [u64],
 ) -> Reply
-    ensures { λ r. ⌜ outcome (now (state .exit)) (now (registered .exit)) (now (failed .exit)) r ≡ doneOf (world (now (state .entry)) (now (registered .entry)) (now (failed .entry))) ⌝ }
+    ensures { λ r. ⌜ outcome (now (state .exit)) (now (registered .exit)) (now (failed .exit)) r ≡ doneOf (buffers (now (state .entry)) (now (registered .entry)) (now (failed .entry))) ⌝ }
 {
     let total = registrar_state::chunk_count(state);
     let number = registrar_state::answer_refusal(state, registered, failed, total);
@@ -278,7 +278,7 @@ pub extern "C" fn registrar_answer_failed(
     registered: &mut [u64],
     failed: &mut [u64],
 ) -> Reply
-    ensures { λ r. ⌜ outcome (now (state .exit)) (now (registered .exit)) (now (failed .exit)) r ≡ failedOf (world (now (state .entry)) (now (registered .entry)) (now (failed .entry))) ⌝ }
+    ensures { λ r. ⌜ outcome (now (state .exit)) (now (registered .exit)) (now (failed .exit)) r ≡ failedOf (buffers (now (state .entry)) (now (registered .entry)) (now (failed .entry))) ⌝ }
 {
     let total = registrar_state::chunk_count(state);
     let number = registrar_state::answer_refusal(state, registered, failed, total);

@@ -24,7 +24,7 @@ use Rattle.registrar_steps.specs.declared.Request.{Request}
 use Rattle.registrar_steps.specs.declared.Answer.the-variants.{Done, Register, Refused}
 use Rattle.registrar_steps.specs.declared.Plan.{Plan}
 use Rattle.registrar_steps.specs.Steps.{idle, isIdle}
-use Rattle.registrar_state.specs.World.{World, world, Outcome, outcome, requestOf, withRequest, offsetOf, granularityOf, ramOf, entriesIn, builtState, flatOf, decided, lengthsFit, buildRefusal, buildOf, marked, registerRefusal, allRefusal, carriedOut, registerPlan, allPlan, isKnown, registerOf, allOf, answerRefusal, failedOf, takenTo, donePlan, afterTaken, doneOf}
+use Rattle.registrar_state.specs.Buffers.{Buffers, buffers, Outcome, outcome, requestOf, withRequest, offsetOf, granularityOf, ramOf, entriesIn, builtState, flatOf, decided, lengthsFit, buildRefusal, buildOf, marked, registerRefusal, allRefusal, carriedOut, registerPlan, allPlan, isKnown, registerOf, allOf, answerRefusal, failedOf, takenTo, donePlan, afterTaken, doneOf}
 use Rattle.registrar_state.proofs.Laws.{BuildFits, build-fits, known-kept}
 use Rattle.registrar_claims.specs.Runs.{Call, Build, RegisterRange, RegisterAll, AnswerDone, AnswerFailed, give, after}
 use Rattle.registrar_claims.specs.Whole.{Words}
@@ -35,7 +35,7 @@ use Rattle.registrar_claims.proofs.Plain.{Pages, first-plain, end-plain
 use Rattle.registrar_claims.proofs.Requests.{Fits, idle-fits, fits-at, register-asks, all-asks, done-asks}
 
 -- what every call keeps
-pub record Sound (w : World) : Type 0 where
+pub record Sound (w : Buffers) : Type 0 where
   pub in-order : ordered 0 (entriesIn (w .state)) ≡ true
   pub words : Words (w .registered)
   pub request : Fits (lastEnd (entriesIn (w .state))) (requestOf (w .state))
@@ -92,7 +92,7 @@ zeros-words n j = ⊎-elim inside outside (lt-or-le j n)
     outside : n ≤ j → getD (replicate n 0) j 0 < 2 ^ 64
     outside l = rw (List·getD-eq-default {A = ℕ} (replicate n 0) 0 {n = j} (omega (arith, length-replicate {A = ℕ} n 0))) (omega arith)
 
-pub built-sound : (w : World) (ram : List ℕ) (o g : ℕ) → buildRefusal w ram o g ≡ 0 → Sound (buildOf w ram o g .world)
+pub built-sound : (w : Buffers) (ram : List ℕ) (o g : ℕ) → buildRefusal w ram o g ≡ 0 → Sound (buildOf w ram o g .buffers)
 unfolding buildOf
 built-sound w ram o g z =
     let t : BuildFits w ram o g = build-fits w ram o g z in
@@ -112,27 +112,27 @@ built-sound w ram o g z =
           ∙ t .lengths;
     })
 
-build-sound : (w : World) (ram : List ℕ) (o g : ℕ) → Sound w → Sound (buildOf w ram o g .world)
+build-sound : (w : Buffers) (ram : List ℕ) (o g : ℕ) → Sound w → Sound (buildOf w ram o g .buffers)
 unfolding buildOf
 build-sound w ram o g h = go (eqb (buildRefusal w ram o g) 0) refl (built-sound w ram o g)
   where
-    go : (t : Bool) → eqb (buildRefusal w ram o g) 0 ≡ t → (buildRefusal w ram o g ≡ 0 → Sound (decided w (buildRefusal w ram o g) (outcome (builtState ram o g) (replicate (length (w .registered)) 0) (replicate (length (w .failed)) 0) (flatOf (Done 0))) .world))
-        → Sound (decided w (buildRefusal w ram o g) (outcome (builtState ram o g) (replicate (length (w .registered)) 0) (replicate (length (w .failed)) 0) (flatOf (Done 0))) .world)
+    go : (t : Bool) → eqb (buildRefusal w ram o g) 0 ≡ t → (buildRefusal w ram o g ≡ 0 → Sound (decided w (buildRefusal w ram o g) (outcome (builtState ram o g) (replicate (length (w .registered)) 0) (replicate (length (w .failed)) 0) (flatOf (Done 0))) .buffers))
+        → Sound (decided w (buildRefusal w ram o g) (outcome (builtState ram o g) (replicate (length (w .registered)) 0) (replicate (length (w .failed)) 0) (flatOf (Done 0))) .buffers)
     go true e k = k (eqb-true _ _ e)
     go false e k = rw e h
 
 -- ---- the other calls
 
-decided-sound : (w : World) (n : ℕ) (o : Outcome) → Sound w → Sound (o .world) → Sound (decided w n o .world)
+decided-sound : (w : Buffers) (n : ℕ) (o : Outcome) → Sound w → Sound (o .buffers) → Sound (decided w n o .buffers)
 decided-sound w n o h k = go (eqb n 0)
   where
-    go : (t : Bool) → Sound (cond t o (record { world = w; reply = flatOf (Refused n) }) .world)
+    go : (t : Bool) → Sound (cond t o (record { buffers = w; reply = flatOf (Refused n) }) .buffers)
     go true = k
     go false = h
 
 -- another request in the state block, and bitmaps of the same lengths
-sound-with : (w : World) (q : Request) (r f : List ℕ) → Sound w → Fits (lastEnd (entriesIn (w .state))) q → Words r → length r ≡ length (w .registered)
-    → length f ≡ length (w .failed) → Sound (world (withRequest q (w .state)) r f)
+sound-with : (w : Buffers) (q : Request) (r f : List ℕ) → Sound w → Fits (lastEnd (entriesIn (w .state))) q → Words r → length r ≡ length (w .registered)
+    → length f ≡ length (w .failed) → Sound (buffers (withRequest q (w .state)) r f)
 sound-with w q r f h k words er ef =
     let t : List ℕ = withRequest q (w .state) in
     let es : entriesIn t ≡ entriesIn (w .state) = kept-entries (w .state) t refl in
@@ -148,7 +148,7 @@ sound-with w q r f h k words er ef =
     }
 
 -- more chunks registered
-sound-marked : (w : World) (a b : ℕ) → Sound w → Sound (world (w .state) (marked a b (w .registered)) (w .failed))
+sound-marked : (w : Buffers) (a b : ℕ) → Sound w → Sound (buffers (w .state) (marked a b (w .registered)) (w .failed))
 sound-marked w a b h =
     record {
       in-order = h .in-order;
@@ -163,12 +163,12 @@ sound-marked w a b h =
           ∙ h .lengths;
     }
 
-carried-sound : (w : World) (p : Plan) → Sound w → Fits (lastEnd (entriesIn (w .state))) (p .request) → Sound (carriedOut w p .world)
+carried-sound : (w : Buffers) (p : Plan) → Sound w → Fits (lastEnd (entriesIn (w .state))) (p .request) → Sound (carriedOut w p .buffers)
 carried-sound w p h f =
     sound-with w (p .request) (marked (p .from) (p .to) (w .registered)) (w .failed) h f (marked-words (p .from) (p .to) (w .registered) (h .words))
     (marked-length (p .from) (p .to) (w .registered)) refl
 
-pub call-sound : (w : World) (x : Call) → Sound w → Sound (give w x .world)
+pub call-sound : (w : Buffers) (x : Call) → Sound w → Sound (give w x .buffers)
 unfolding give registerOf allOf doneOf failedOf
 call-sound w (Build ram o g) h = build-sound w ram o g h
 call-sound w (RegisterRange a l) h =
@@ -178,7 +178,7 @@ call-sound w (RegisterRange a l) h =
 call-sound w (RegisterAll al ig) h =
     decided-sound w (allRefusal w al ig) (carriedOut w (allPlan w al ig)) h (carried-sound w (allPlan w al ig) h (all-asks w (h .in-order) 0 al ig 0))
 call-sound w AnswerDone h =
-    let v : World = afterTaken w in
+    let v : Buffers = afterTaken w in
     decided-sound w (answerRefusal w) (carriedOut v (donePlan v)) h
     (carried-sound v (donePlan v) (sound-marked w (requestOf (w .state) .from) (takenTo (w .state)) h) (done-asks v (h .in-order) (h .request)))
 call-sound w AnswerFailed h =
@@ -187,17 +187,17 @@ call-sound w AnswerFailed h =
     (sound-with w idle (w .registered) (marked (q .from) (q .to) (w .failed)) h (idle-fits _) (h .words) refl (marked-length (q .from) (q .to) (w .failed)))
 
 -- any list of calls and answers
-pub always-sound : (xs : List Call) (w : World) → Sound w → Sound (after w xs)
+pub always-sound : (xs : List Call) (w : Buffers) → Sound w → Sound (after w xs)
 unfolding after
 always-sound [] w h = h
-always-sound (x ∷ xs) w h = always-sound xs (give w x .world) (call-sound w x h)
+always-sound (x ∷ xs) w h = always-sound xs (give w x .buffers) (call-sound w x h)
 
-module _ (w : World) (ram : List ℕ) (o g : ℕ) (z : buildRefusal w ram o g ≡ 0) (xs : List Call) where
-  abbrev v : World
-  v = after (buildOf w ram o g .world) xs
+module _ (w : Buffers) (ram : List ℕ) (o g : ℕ) (z : buildRefusal w ram o g ≡ 0) (xs : List Call) where
+  abbrev v : Buffers
+  v = after (buildOf w ram o g .buffers) xs
 
   pub sound-from : Sound v
-  sound-from = always-sound xs (buildOf w ram o g .world) (built-sound w ram o g z)
+  sound-from = always-sound xs (buildOf w ram o g .buffers) (built-sound w ram o g z)
 
   -- THE CLAIMS of the whole call, of a registrar from its build on
   pub register-always-whole : RegisterWhole v

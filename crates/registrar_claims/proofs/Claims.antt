@@ -4,7 +4,7 @@ use mathlib.Core.Bool.{false}
 use mathlib.Core.List.{List}
 use Prim.Native.Nat.{ℕ}
 use borrow.Author.Tests.{eq-eqb}
-use Rattle.registrar_state.specs.World.{World, buildRefusal, buildOf}
+use Rattle.registrar_state.specs.Buffers.{Buffers, buildRefusal, buildOf}
 use Rattle.registrar_claims.specs.Runs.{underWay, after, awaitsAfter, builtWith, settingsAfter}
 use Rattle.registrar_claims.specs.Entries.{Unasked}
 use Rattle.registrar_claims.specs.Claims.{FromBuild}
@@ -14,7 +14,7 @@ use Rattle.registrar_claims.proofs.Built.{sound-from, register-always-w
 use Rattle.registrar_claims.proofs.Stands.{built-has, has-after, quiet-stays, awaits-after, stands}
 use Rattle.registrar_claims.proofs.Ends.{every-request-ends}
 
-built-idle : (w : World) (ram : List ℕ) (o g : ℕ) → buildRefusal w ram o g ≡ 0 → underWay (buildOf w ram o g .world) ≡ false
+built-idle : (w : Buffers) (ram : List ℕ) (o g : ℕ) → buildRefusal w ram o g ≡ 0 → underWay (buildOf w ram o g .buffers) ≡ false
 unfolding buildOf
 built-idle w ram o g z = rw (eq-eqb (buildRefusal w ram o g) 0 z)
 
@@ -22,9 +22,9 @@ unasked : Unasked
 unasked = record { build = λ κs a. tt; register = λ κs a. tt; register-all = λ κs a. tt; done = λ κs a. tt; failed = λ κs a. tt }
 
 -- THE CLAIM
-pub from-build : (w : World) (ram : List ℕ) (o g : ℕ) → buildRefusal w ram o g ≡ 0 → FromBuild w ram o g
+pub from-build : (w : Buffers) (ram : List ℕ) (o g : ℕ) → buildRefusal w ram o g ≡ 0 → FromBuild w ram o g
 from-build w ram o g z =
-    let u : World = buildOf w ram o g .world in
+    let u : Buffers = buildOf w ram o g .buffers in
     record {
       unasked = unasked;
       always =

@@ -24,7 +24,7 @@ use Rattle.registrar_steps.specs.declared.Answer.the-variants.{Done, Registrati
 use Rattle.registrar_steps.specs.declared.Look.{Look}
 use Rattle.registrar_steps.specs.declared.Look.the-variants.{Nothing, Edge, FailedBefore, Stretch}
 use Rattle.registrar_steps.specs.Steps.{ChunkState, idle, asks, ends, more, ramFrom, passes, pieceOf, registerFrom, stretchIn, lookAt, found, allFrom}
-use Rattle.registrar_state.specs.World.{World, Outcome, requestOf, offsetOf, granularityOf, entriesIn, chunkStateIn, decided, buildRefusal, buildOf, lengthsFit, callRefusal, chunksFit, registerRefusal, allRefusal, carriedOut, registerPlan, allPlan, registerOf, allOf, answerRefusal, failedOf, restOf, hasRest, donePlan, afterTaken, doneOf}
+use Rattle.registrar_state.specs.Buffers.{Buffers, Outcome, requestOf, offsetOf, granularityOf, entriesIn, chunkStateIn, decided, buildRefusal, buildOf, lengthsFit, callRefusal, chunksFit, registerRefusal, allRefusal, carriedOut, registerPlan, allPlan, registerOf, allOf, answerRefusal, failedOf, restOf, hasRest, donePlan, afterTaken, doneOf}
 use Rattle.registrar_claims.specs.Runs.{Call, Build, RegisterRange, RegisterAll, AnswerDone, AnswerFailed, give, isBuild, isTaken, underWay, leftOf, left, after, takenIn, isAnswer, onlyAnswers, answersIn}
 use Rattle.registrar_claims.specs.Ends.{RequestEnds}
 use Rattle.registrar_claims.proofs.Refusals.{answer-taken, refused-keeps}
@@ -157,7 +157,7 @@ less-past q r b k h =
     bounded false l = lex (2 ^ 65) (2 ^ 64 - q .to) (2 ^ 64 - r .to) (2 ^ 64 - q .end) (2 ^ 64 - r .end) (omega arith) (omega arith)
 
 -- something is asked where an answer is taken
-asked-kind : (w : World) → answerRefusal w ≡ 0 → requestOf (w .state) .kind ≡ kind.none → ⊥
+asked-kind : (w : Buffers) → answerRefusal w ≡ 0 → requestOf (w .state) .kind ≡ kind.none → ⊥
 unfolding answerRefusal
 asked-kind w h =
     let a = passed (eqb (length (w .state)) registrarLen) 3 _ h in
@@ -165,7 +165,7 @@ asked-kind w h =
     let d = when-passed (eqb (requestOf (w .state) .kind) kind.none) 20 _ (b .1) in
     eqb-false _ _ (d .0)
 
-plan-lowers : (w : World) → (requestOf (w .state) .kind ≡ kind.none → ⊥) → requestOf (w .state) .to < 2 ^ 64 → requestOf (w .state) .end < 2 ^ 64
+plan-lowers : (w : Buffers) → (requestOf (w .state) .kind ≡ kind.none → ⊥) → requestOf (w .state) .to < 2 ^ 64 → requestOf (w .state) .end < 2 ^ 64
     → leftOf (donePlan w .request) < left w
 plan-lowers w k bt be =
     let q : Request = requestOf (w .state) in
@@ -187,25 +187,25 @@ plan-lowers w k bt be =
     go false e false h g = g
 
 -- THE CLAIM: an answer that is not refused lowers the number
-pub failed-lowers : (w : World) → answerRefusal w ≡ 0 → left (failedOf w .world) < left w
+pub failed-lowers : (w : Buffers) → answerRefusal w ≡ 0 → left (failedOf w .buffers) < left w
 unfolding failedOf
 failed-lowers w h = rw (eq-eqb (answerRefusal w) 0 h) (rw (ne-eqb (requestOf (w .state) .kind) kind.none (asked-kind w h)) (omega arith))
 
-pub done-lowers : (w : World) → answerRefusal w ≡ 0 → requestOf (w .state) .to < 2 ^ 64 → requestOf (w .state) .end < 2 ^ 64 → left (doneOf w .world) < left w
+pub done-lowers : (w : Buffers) → answerRefusal w ≡ 0 → requestOf (w .state) .to < 2 ^ 64 → requestOf (w .state) .end < 2 ^ 64 → left (doneOf w .buffers) < left w
 unfolding doneOf
 done-lowers w h bt be = rw (eq-eqb (answerRefusal w) 0 h) (plan-lowers (afterTaken w) (asked-kind w h) bt be)
 
 -- ---- one call
 
-done-number : (w : World) → isTaken (doneOf w) ≡ true → answerRefusal w ≡ 0
+done-number : (w : Buffers) → isTaken (doneOf w) ≡ true → answerRefusal w ≡ 0
 unfolding doneOf
 done-number w h = taken-zero w (answerRefusal w) (carriedOut (afterTaken w) (donePlan (afterTaken w))) (answer-taken w) h
 
-failed-number : (w : World) → isTaken (failedOf w) ≡ true → answerRefusal w ≡ 0
+failed-number : (w : Buffers) → isTaken (failedOf w) ≡ true → answerRefusal w ≡ 0
 unfolding failedOf
 failed-number w h = taken-zero w (answerRefusal w) _ (answer-taken w) h
 
-answer-lowers : (w : World) (x : Call) → Sound w → isAnswer x ≡ true → isTaken (give w x) ≡ true → left (give w x .world) < left w
+answer-lowers : (w : Buffers) (x : Call) → Sound w → isAnswer x ≡ true → isTaken (give w x) ≡ true → left (give w x .buffers) < left w
 unfolding give
 answer-lowers w (Build ram o g) s i h = false≢true i
 answer-lowers w (RegisterRange a l) s i h = false≢true i
@@ -214,7 +214,7 @@ answer-lowers w AnswerDone s i h = done-lowers w (done-number w h) (s .request .
 answer-lowers w AnswerFailed s i h = failed-lowers w (failed-number w h)
 
 -- an answer is taken where something is asked for
-answer-answered : (w : World) (x : Call) → Sound w → isAnswer x ≡ true → isTaken (give w x) ≡ underWay w
+answer-answered : (w : Buffers) (x : Call) → Sound w → isAnswer x ≡ true → isTaken (give w x) ≡ underWay w
 unfolding give
 answer-answered w (Build ram o g) s i = false≢true i
 answer-answered w (RegisterRange a l) s i = false≢true i
@@ -231,14 +231,14 @@ answer-answered w AnswerFailed s i = go (underWay w) refl
     go false e = ap isTaken (failed-refused w s e)
 
 -- meanwhile register and register_all_aligned are refused
-busy-refused : (w : World) (rest : ℕ) (o : Outcome) → underWay w ≡ true → isTaken (decided w (callRefusal w rest) o) ≡ false
+busy-refused : (w : Buffers) (rest : ℕ) (o : Outcome) → underWay w ≡ true → isTaken (decided w (callRefusal w rest) o) ≡ false
 busy-refused w rest o k = rw (not-true (eqb (requestOf (w .state) .kind) kind.none) k) (go (eqb (length (w .state)) registrarLen))
   where
     go : (t : Bool) → isTaken (decided w (unless t refusal.wrongLength refusal.busy) o) ≡ false
     go true = refl
     go false = refl
 
-call-busy : (w : World) (x : Call) → underWay w ≡ true → isAnswer x ≡ false → isBuild x ≡ false → isTaken (give w x) ≡ false
+call-busy : (w : Buffers) (x : Call) → underWay w ≡ true → isAnswer x ≡ false → isBuild x ≡ false → isTaken (give w x) ≡ false
 unfolding give registerOf registerRefusal allOf allRefusal
 call-busy w (Build ram o g) k a b = false≢true (sym b)
 call-busy w (RegisterRange address len) k a b =
@@ -252,80 +252,80 @@ call-busy w AnswerFailed k a b = false≢true (sym a)
 -- ---- a list of calls
 
 -- all answers that are taken, together
-answers-lower : (xs : List Call) (w : World) → Sound w → onlyAnswers w xs ≡ true → takenIn w xs + left (after w xs) ≤ left w
+answers-lower : (xs : List Call) (w : Buffers) → Sound w → onlyAnswers w xs ≡ true → takenIn w xs + left (after w xs) ≤ left w
 unfolding takenIn after onlyAnswers
 answers-lower [] w s o = omega arith
 answers-lower (x ∷ xs) w s o =
     let a = both-true (isAnswer x || not (isTaken (give w x))) _ o in
-    go (isTaken (give w x)) refl (isAnswer x) refl (a .0) (answers-lower xs (give w x .world) (call-sound w x s) (a .1))
+    go (isTaken (give w x)) refl (isAnswer x) refl (a .0) (answers-lower xs (give w x .buffers) (call-sound w x s) (a .1))
   where
     go : (t : Bool) → isTaken (give w x) ≡ t → (b : Bool) → isAnswer x ≡ b → (b || not t) ≡ true
-        → takenIn (give w x .world) xs + left (after (give w x .world) xs) ≤ left (give w x .world)
-        → digit t + takenIn (give w x .world) xs + left (after (give w x .world) xs) ≤ left w
+        → takenIn (give w x .buffers) xs + left (after (give w x .buffers) xs) ≤ left (give w x .buffers)
+        → digit t + takenIn (give w x .buffers) xs + left (after (give w x .buffers) xs) ≤ left w
     go true e true i k more = omega (arith, answer-lowers w x s i e, more)
     go true e false i k more = false≢true k
     go false e b i k more = omega (arith, ap left (refused-keeps w x e), more)
 
 -- the number is 0 where nothing is under way, and nowhere else
-none-left : (w : World) → left w ≤ 0 → underWay w ≡ false
+none-left : (w : Buffers) → left w ≤ 0 → underWay w ≡ false
 none-left w = go (eqb (requestOf (w .state) .kind) kind.none)
   where
     go : (t : Bool) → cond t 0 (suc ((2 ^ 64 - requestOf (w .state) .to) * 2 ^ 65 + (2 ^ 64 - requestOf (w .state) .end))) ≤ 0 → not t ≡ false
     go true h = refl
     go false h = absurd (omega arith)
 
-some-left : (w : World) → underWay w ≡ true → 0 < left w
+some-left : (w : Buffers) → underWay w ≡ true → 0 < left w
 some-left w h = rw (not-true (eqb (requestOf (w .state) .kind) kind.none) h) (omega arith)
 
-idle-left : (w : World) → underWay w ≡ false → left w ≡ 0
+idle-left : (w : Buffers) → underWay w ≡ false → left w ≡ 0
 idle-left w h = rw (not-false (eqb (requestOf (w .state) .kind) kind.none) h)
 
 -- THE CLAIM: as many answers as the number says end the request, with any refused calls between them
-pub answers-end : (xs : List Call) (w : World) → Sound w → onlyAnswers w xs ≡ true → left w ≤ answersIn xs → underWay (after w xs) ≡ false
+pub answers-end : (xs : List Call) (w : Buffers) → Sound w → onlyAnswers w xs ≡ true → left w ≤ answersIn xs → underWay (after w xs) ≡ false
 unfolding after onlyAnswers answersIn
 answers-end [] w s o h = none-left w h
 answers-end (x ∷ xs) w s o h =
     let a = both-true (isAnswer x || not (isTaken (give w x))) _ o in
-    answers-end xs (give w x .world) (call-sound w x s) (a .1) (go (isTaken (give w x)) refl (isAnswer x) refl (a .0) h)
+    answers-end xs (give w x .buffers) (call-sound w x s) (a .1) (go (isTaken (give w x)) refl (isAnswer x) refl (a .0) h)
   where
     idle : isAnswer x ≡ true → isTaken (give w x) ≡ false → left w ≡ 0
     idle i e = idle-left w (sym (answer-answered w x s i) ∙ e)
 
-    go : (t : Bool) → isTaken (give w x) ≡ t → (b : Bool) → isAnswer x ≡ b → (b || not t) ≡ true → left w ≤ digit b + answersIn xs → left (give w x .world) ≤ answersIn xs
+    go : (t : Bool) → isTaken (give w x) ≡ t → (b : Bool) → isAnswer x ≡ b → (b || not t) ≡ true → left w ≤ digit b + answersIn xs → left (give w x .buffers) ≤ answersIn xs
     go true e true i k l = omega (arith, l, answer-lowers w x s i e)
     go true e false i k l = false≢true k
     go false e true i k l = omega (arith, idle i e, ap left (refused-keeps w x e))
     go false e false i k l = omega (arith, l, ap left (refused-keeps w x e))
 
 -- done, any number of times
-done-only : (n : ℕ) (w : World) → onlyAnswers w (replicate n AnswerDone) ≡ true
+done-only : (n : ℕ) (w : Buffers) → onlyAnswers w (replicate n AnswerDone) ≡ true
 unfolding onlyAnswers
 done-only zero w = refl
-done-only (suc n) w = done-only n (give w AnswerDone .world)
+done-only (suc n) w = done-only n (give w AnswerDone .buffers)
 
 done-answers : (n : ℕ) → answersIn (replicate n AnswerDone) ≡ n
 unfolding answersIn
 done-answers zero = refl
 done-answers (suc n) = omega (arith, done-answers n)
 
-failed-idle : (w : World) → answerRefusal w ≡ 0 → underWay (failedOf w .world) ≡ false
+failed-idle : (w : Buffers) → answerRefusal w ≡ 0 → underWay (failedOf w .buffers) ≡ false
 unfolding failedOf
 failed-idle w z = rw (eq-eqb (answerRefusal w) 0 z)
 
-failed-over : (w : World) → Sound w → underWay (after w (AnswerFailed ∷ [])) ≡ false
+failed-over : (w : Buffers) → Sound w → underWay (after w (AnswerFailed ∷ [])) ≡ false
 unfolding after give
 failed-over w s = go (underWay w) refl
   where
-    go : (t : Bool) → underWay w ≡ t → underWay (failedOf w .world) ≡ false
+    go : (t : Bool) → underWay w ≡ t → underWay (failedOf w .buffers) ≡ false
     go true e = failed-idle w (answer-passes w s e)
-    go false e = ap (λ (o : Outcome). underWay (o .world)) (failed-refused w s e) ∙ e
+    go false e = ap (λ (o : Outcome). underWay (o .buffers)) (failed-refused w s e) ∙ e
 
-requests-end : (v : World) → Sound v → RequestEnds v
+requests-end : (v : Buffers) → Sound v → RequestEnds v
 requests-end v s =
     record {
       falls =
           λ xs x.
-          let u : World = after v xs in
+          let u : Buffers = after v xs in
           let t : Sound u = always-sound xs v s in
           record { answered = answer-answered u x t; lowers = answer-lowers u x t; busy = call-busy u x; keeps = refused-keeps u x };
       few = λ xs o. answers-lower xs v s o;
@@ -337,5 +337,5 @@ requests-end v s =
     }
 
 -- THE CLAIM: whatever calls a registrar has had since its build
-pub every-request-ends : (w : World) (ram : List ℕ) (o g : ℕ) → buildRefusal w ram o g ≡ 0 → (xs : List Call) → RequestEnds (after (buildOf w ram o g .world) xs)
-every-request-ends w ram o g z xs = requests-end (after (buildOf w ram o g .world) xs) (sound-from w ram o g z xs)
+pub every-request-ends : (w : Buffers) (ram : List ℕ) (o g : ℕ) → buildRefusal w ram o g ≡ 0 → (xs : List Call) → RequestEnds (after (buildOf w ram o g .buffers) xs)
+every-request-ends w ram o g z xs = requests-end (after (buildOf w ram o g .buffers) xs) (sound-from w ram o g z xs)

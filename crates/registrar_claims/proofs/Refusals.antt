@@ -25,7 +25,7 @@ use Rattle.registrar_steps.specs.declared.Look.{Look}
 use Rattle.registrar_steps.specs.declared.Look.the-variants.{Nothing, Edge, FailedBefore, Stretch}
 use Rattle.registrar_steps.specs.declared.Plan.{Plan}
 use Rattle.registrar_steps.specs.Steps.{ChunkState, idle, asks, ends, ramFrom, passes, pieceOf, registerFrom, lookAt, found, allFrom}
-use Rattle.registrar_state.specs.World.{World, world, Outcome, requestOf, withRequest, offsetOf, granularityOf, entriesIn, chunkStateIn, flatOf, decided, lengthsFit, buildRefusal, buildOf, callRefusal, chunksFit, registerRefusal, allRefusal, marked, carriedOut, registerPlan, allPlan, registerOf, allOf, answerRefusal, failedOf, restOf, hasRest, takenTo, donePlan, afterTaken, doneOf}
+use Rattle.registrar_state.specs.Buffers.{Buffers, buffers, Outcome, requestOf, withRequest, offsetOf, granularityOf, entriesIn, chunkStateIn, flatOf, decided, lengthsFit, buildRefusal, buildOf, callRefusal, chunksFit, registerRefusal, allRefusal, marked, carriedOut, registerPlan, allPlan, registerOf, allOf, answerRefusal, failedOf, restOf, hasRest, takenTo, donePlan, afterTaken, doneOf}
 use Rattle.registrar_claims.specs.Runs.{Call, Build, RegisterRange, RegisterAll, AnswerDone, AnswerFailed, give, notRefused}
 use Rattle.registrar_claims.specs.Changes.{Kept, Stays}
 use Rattle.registrar_claims.specs.Claims.{RefusalsKeep, MarksStay}
@@ -70,7 +70,7 @@ all-plain s o n al ignore c (r ∷ rs) = go (lookAt (s .granularity) (s .registe
     go (FailedBefore x) h = refl
     go (Stretch a b x y) h = refl
 
-pub done-plain : (w : World) → plain (donePlan w .answer) ≡ true
+pub done-plain : (w : Buffers) → plain (donePlan w .answer) ≡ true
 unfolding plain
 done-plain w =
     let q : Request = requestOf (w .state) in
@@ -119,7 +119,7 @@ all-ending s o n al ignore c (r ∷ rs) = go (lookAt (s .granularity) (s .regist
     go (FailedBefore x) h = record { ends-22 = λ z. absurd (omega (arith, z)); ends-23 = λ z. refl; marks = λ q a b. absurd (omega arith) }
     go (Stretch a b x y) h = record { ends-22 = λ z. absurd (omega (arith, z)); ends-23 = λ z. absurd (omega (arith, z)); marks = λ q a b. absurd (omega arith) }
 
-done-ending : (w : World) → Ending (chunkStateIn w) (donePlan w)
+done-ending : (w : Buffers) → Ending (chunkStateIn w) (donePlan w)
 done-ending w =
     let q : Request = requestOf (w .state) in
     go (hasRest (w .state)) (eqb (q .kind) kind.register) _ _ (register-ending (chunkStateIn w) (offsetOf (w .state)) (q .count) (q .to) (q .until))
@@ -133,7 +133,7 @@ done-ending w =
 
 -- ---- a number that refuses a call is neither 22 nor 23
 
-pub build-taken : (w : World) (ram : List ℕ) (o g : ℕ) → notRefused (buildRefusal w ram o g) ≡ true → buildRefusal w ram o g ≡ 0
+pub build-taken : (w : Buffers) (ram : List ℕ) (o g : ℕ) → notRefused (buildRefusal w ram o g) ≡ true → buildRefusal w ram o g ≡ 0
 unfolding buildRefusal
 build-taken w ram o g =
     go (eqb (refusalOf ram) refusal.unfitLayout) (eqb (o % pageSize) 0) (ltb (o + lastEnd (entriesOf ram)) (2 ^ 64)) (eqb (refusalOf ram) 0) (eqb (length (w .state)) registrarLen) (leb pageSize g && isPower g)
@@ -154,7 +154,7 @@ build-taken w ram o g =
     go false true true true true true false h = false≢true h
     go false true true true true true true h = refl
 
-call-taken : (w : World) (rest : ℕ) → (notRefused rest ≡ true → rest ≡ 0) → notRefused (callRefusal w rest) ≡ true → callRefusal w rest ≡ 0
+call-taken : (w : Buffers) (rest : ℕ) → (notRefused rest ≡ true → rest ≡ 0) → notRefused (callRefusal w rest) ≡ true → callRefusal w rest ≡ 0
 call-taken w rest z =
     go (eqb (length (w .state)) registrarLen) (eqb (requestOf (w .state) .kind) kind.none) (lengthsFit (granularityOf (w .state)) (entriesIn (w .state)) (w .registered) (w .failed))
   where
@@ -164,7 +164,7 @@ call-taken w rest z =
     go true true false h = false≢true h
     go true true true h = z h
 
-pub register-taken : (w : World) (address len : ℕ) → notRefused (registerRefusal w address len) ≡ true → registerRefusal w address len ≡ 0
+pub register-taken : (w : Buffers) (address len : ℕ) → notRefused (registerRefusal w address len) ≡ true → registerRefusal w address len ≡ 0
 unfolding registerRefusal
 register-taken w address len = call-taken w (unless (chunksFit (w .state) (firstChunk (granularityOf (w .state)) address) (endChunk (granularityOf (w .state)) address len)) refusal.unfitChunk 0) (go (chunksFit (w .state) (firstChunk (granularityOf (w .state)) address) (endChunk (granularityOf (w .state)) address len)))
   where
@@ -172,7 +172,7 @@ register-taken w address len = call-taken w (unless (chunksFit (w .state) (first
     go false h = false≢true h
     go true h = refl
 
-pub all-taken : (w : World) (al ignore : ℕ) → notRefused (allRefusal w al ignore) ≡ true → allRefusal w al ignore ≡ 0
+pub all-taken : (w : Buffers) (al ignore : ℕ) → notRefused (allRefusal w al ignore) ≡ true → allRefusal w al ignore ≡ 0
 unfolding allRefusal
 all-taken w al ignore =
     call-taken w (unless (leb ignore 1) refusal.unfitNumber (unless (leb (granularityOf (w .state)) al && isPower al) refusal.unfitChunk 0)) (go (leb ignore 1) (leb (granularityOf (w .state)) al && isPower al))
@@ -182,7 +182,7 @@ all-taken w al ignore =
     go true false h = false≢true h
     go true true h = refl
 
-pub answer-taken : (w : World) → notRefused (answerRefusal w) ≡ true → answerRefusal w ≡ 0
+pub answer-taken : (w : Buffers) → notRefused (answerRefusal w) ≡ true → answerRefusal w ≡ 0
 unfolding answerRefusal
 answer-taken w =
     go (eqb (length (w .state)) registrarLen) (lengthsFit (granularityOf (w .state)) (entriesIn (w .state)) (w .registered) (w .failed)) (eqb (requestOf (w .state) .kind) kind.none)
@@ -195,18 +195,18 @@ answer-taken w =
 
 -- ---- what a call changes
 
-decided-keeps : (w : World) (r f : List ℕ) (n : ℕ) (o : Outcome) → (notRefused n ≡ true → n ≡ 0) → Kept w r f o → Kept w r f (decided w n o)
+decided-keeps : (w : Buffers) (r f : List ℕ) (n : ℕ) (o : Outcome) → (notRefused n ≡ true → n ≡ 0) → Kept w r f o → Kept w r f (decided w n o)
 decided-keeps w r f n o t k = go (eqb n 0)
   where
     none : (m : ℕ) → notRefused m ≡ true → (m ≡ 0 → ⊥) → n ≡ m → ⊥
     none m h z e = z (sym e ∙ t (ap notRefused e ∙ h))
 
-    go : (b : Bool) → Kept w r f (cond b o (record { world = w; reply = flatOf (Refused n) }))
+    go : (b : Bool) → Kept w r f (cond b o (record { buffers = w; reply = flatOf (Refused n) }))
     go true = k
     go false =
         record { refused = λ z. refl; unaligned = λ z. absurd (none refusal.unalignedMemory refl (λ e. omega (arith, e)) z); failed = λ z. absurd (none refusal.registrationFailed refl (λ e. omega (arith, e)) z) }
 
-plan-keeps : (w : World) (r : List ℕ) (p : Plan) → let v : World = world (w .state) r (w .failed) in
+plan-keeps : (w : Buffers) (r : List ℕ) (p : Plan) → let v : Buffers = buffers (w .state) r (w .failed) in
     plain (p .answer) ≡ true → Ending (chunkStateIn v) p → Kept w r (w .failed) (carriedOut v p)
 plan-keeps w r p l h =
     record {
@@ -224,7 +224,7 @@ plan-keeps w r p l h =
     }
 
 -- THE CLAIM, one law for all five entries: a refusal leaves every lent word as given, save what 22 and 23 name
-pub refusals-keep : (w : World) → RefusalsKeep w
+pub refusals-keep : (w : Buffers) → RefusalsKeep w
 unfolding give buildOf registerOf allOf doneOf failedOf
 refusals-keep w (Build ram o g) =
     decided-keeps w (w .registered) (w .failed) (buildRefusal w ram o g) _ (build-taken w ram o g)
@@ -239,7 +239,7 @@ refusals-keep w (RegisterAll al ignore) =
     decided-keeps w (w .registered) (w .failed) (allRefusal w al ignore) (carriedOut w (allPlan w al ignore)) (all-taken w al ignore)
     (plan-keeps w (w .registered) (allPlan w al ignore) (all-plain (chunkStateIn w) (offsetOf (w .state)) 0 al ignore 0 rs) (all-ending (chunkStateIn w) (offsetOf (w .state)) 0 al ignore 0 rs))
 refusals-keep w AnswerDone =
-    let v : World = afterTaken w in
+    let v : Buffers = afterTaken w in
     decided-keeps w (v .registered) (w .failed) (answerRefusal w) (carriedOut v (donePlan v)) (answer-taken w)
     (plan-keeps w (v .registered) (donePlan v) (done-plain v) (done-ending v))
 refusals-keep w AnswerFailed =
@@ -251,7 +251,7 @@ refusals-keep w AnswerFailed =
       failed = λ z. record { from = 0; to = 0; same-state = refl; same-registered = sym (marked-none 0 (w .registered)); passed = λ c a b. absurd (omega arith); same-failed = refl };
     })
 
-pub refused-keeps : (w : World) (x : Call) → notRefused (give w x .reply .number) ≡ false → give w x .world ≡ w
+pub refused-keeps : (w : Buffers) (x : Call) → notRefused (give w x .reply .number) ≡ false → give w x .buffers ≡ w
 refused-keeps w x = refusals-keep w x .refused
 
 -- ---- what is marked stays marked, until a build
@@ -263,14 +263,14 @@ marked-stays a b m c h = page-law wordBits (between a b) true m c (omega arith) 
     go true = refl
     go false = h
 
-decided-stays : (w : World) (c n : ℕ) (o : Outcome) → Stays w c o → Stays w c (decided w n o)
+decided-stays : (w : Buffers) (c n : ℕ) (o : Outcome) → Stays w c o → Stays w c (decided w n o)
 decided-stays w c n o h = go (eqb n 0)
   where
-    go : (t : Bool) → Stays w c (cond t o (record { world = w; reply = flatOf (Refused n) }))
+    go : (t : Bool) → Stays w c (cond t o (record { buffers = w; reply = flatOf (Refused n) }))
     go true = h
     go false = (λ e. e, λ e. e)
 
-pub marks-stay : (w : World) → MarksStay w
+pub marks-stay : (w : Buffers) → MarksStay w
 unfolding give registerOf allOf doneOf failedOf
 marks-stay w (Build ram o g) c b = false≢true (sym b)
 marks-stay w (RegisterRange a l) c b =
@@ -280,7 +280,7 @@ marks-stay w (RegisterAll al ignore) c b =
     let p : Plan = allPlan w al ignore in
     decided-stays w c (allRefusal w al ignore) (carriedOut w p) (λ e. marked-stays (p .from) (p .to) (w .registered) c e, λ e. e)
 marks-stay w AnswerDone c b =
-    let v : World = afterTaken w in
+    let v : Buffers = afterTaken w in
     let q : Request = requestOf (w .state) in
     let p : Plan = donePlan v in
     decided-stays w c (answerRefusal w) (carriedOut v p)

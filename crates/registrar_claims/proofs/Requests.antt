@@ -24,7 +24,7 @@ use Rattle.registrar_steps.specs.declared.Look.{Look}
 use Rattle.registrar_steps.specs.declared.Look.the-variants.{Nothing, Edge, FailedBefore, Stretch}
 use Rattle.registrar_steps.specs.declared.Plan.{Plan}
 use Rattle.registrar_steps.specs.Steps.{ChunkState, idle, asks, ends, ramFrom, passes, pieceOf, registerFrom, stretchIn, lookAt, found, allFrom}
-use Rattle.registrar_state.specs.World.{World, requestOf, offsetOf, entriesIn, chunkStateIn, restOf, hasRest, donePlan}
+use Rattle.registrar_state.specs.Buffers.{Buffers, requestOf, offsetOf, entriesIn, chunkStateIn, restOf, hasRest, donePlan}
 use Rattle.registrar_claims.proofs.Stretches.{part-end}
 
 -- a request of memory that ends at m
@@ -182,7 +182,7 @@ all-fits s o n al ignore c m (r ∷ rs) l h =
           inside = omega (arith, h .0, k .1);
         }
 
-module _ (w : World) (ord : ordered 0 (entriesIn (w .state)) ≡ true) where
+module _ (w : Buffers) (ord : ordered 0 (entriesIn (w .state)) ≡ true) where
   abbrev last : ℕ
   last = lastEnd (entriesIn (w .state))
 

@@ -16,7 +16,7 @@ use Rattle.layout.specs.Layout.{entriesOf, spans}
 use Rattle.layout.proofs.Laws.{fit}
 use Rattle.chunks.specs.Chunks.{chunkCount, mapWords, firstChunk, endChunk, isPower}
 use Rattle.registrar_steps.specs.declared.Answer.the-variants.{Refused}
-use Rattle.registrar_state.specs.World.{World, Outcome, requestOf, offsetOf, granularityOf, ramOf, entriesIn, chunkStateIn, flatOf, decided, buildRefusal, buildOf, callRefusal, chunksFit, registerRefusal, allRefusal, carriedOut, registerPlan, allPlan, registerOf, allOf, answerRefusal, failedOf, donePlan, afterTaken, doneOf}
+use Rattle.registrar_state.specs.Buffers.{Buffers, Outcome, requestOf, offsetOf, granularityOf, ramOf, entriesIn, chunkStateIn, flatOf, decided, buildRefusal, buildOf, callRefusal, chunksFit, registerRefusal, allRefusal, carriedOut, registerPlan, allPlan, registerOf, allOf, answerRefusal, failedOf, donePlan, afterTaken, doneOf}
 use Rattle.registrar_state.proofs.Laws.{build-fits}
 use Rattle.registrar_claims.specs.Runs.{Call, Build, RegisterRange, RegisterAll, AnswerDone, AnswerFailed, give, isBuild, notRefused, isTaken, underWay, after, awaitsAfter, Settings, builtWith, settingsBy, settingsAfter, quiet}
 use Rattle.registrar_claims.specs.Claims.{isWithin, Stands}
@@ -26,10 +26,10 @@ use Rattle.registrar_claims.proofs.Built.{Sound, kept-ram, kept-offset,
 
 -- ---- a call that is taken is refused by no number
 
-pub taken-zero : (w : World) (n : ℕ) (o : Outcome) → (notRefused n ≡ true → n ≡ 0) → isTaken (decided w n o) ≡ true → n ≡ 0
+pub taken-zero : (w : Buffers) (n : ℕ) (o : Outcome) → (notRefused n ≡ true → n ≡ 0) → isTaken (decided w n o) ≡ true → n ≡ 0
 taken-zero w n o z = go (eqb n 0) refl
   where
-    go : (t : Bool) → eqb n 0 ≡ t → isTaken (cond t o (record { world = w; reply = flatOf (Refused n) })) ≡ true → n ≡ 0
+    go : (t : Bool) → eqb n 0 ≡ t → isTaken (cond t o (record { buffers = w; reply = flatOf (Refused n) })) ≡ true → n ≡ 0
     go true e h = eqb-true _ _ e
     go false e h = z h
 
@@ -44,24 +44,24 @@ kept-has : (s t : List ℕ) (b : Settings) → drop place.afterRequest t ≡ dro
 kept-has s t b e h =
     record { same-offset = kept-offset s t e ∙ h .same-offset; same-granularity = kept-granularity s t e ∙ h .same-granularity; same-ram = kept-ram s t e ∙ h .same-ram }
 
-pub built-has : (w : World) (ram : List ℕ) (o g : ℕ) → buildRefusal w ram o g ≡ 0 → Has (buildOf w ram o g .world .state) (builtWith ram o g)
+pub built-has : (w : Buffers) (ram : List ℕ) (o g : ℕ) → buildRefusal w ram o g ≡ 0 → Has (buildOf w ram o g .buffers .state) (builtWith ram o g)
 unfolding buildOf
 built-has w ram o g z =
     rw (eq-eqb (buildRefusal w ram o g) 0 z)
     (record { same-offset = refl; same-granularity = refl; same-ram = ram-built ram o g (fit ram (build-fits w ram o g z .layout)) })
 
-decided-has : (w : World) (n : ℕ) (o : Outcome) (b : Settings) → Has (w .state) b → drop place.afterRequest (o .world .state) ≡ drop place.afterRequest (w .state) → Has (decided w n o .world .state) b
+decided-has : (w : Buffers) (n : ℕ) (o : Outcome) (b : Settings) → Has (w .state) b → drop place.afterRequest (o .buffers .state) ≡ drop place.afterRequest (w .state) → Has (decided w n o .buffers .state) b
 decided-has w n o b h e = go (eqb n 0)
   where
-    go : (t : Bool) → Has (cond t o (record { world = w; reply = flatOf (Refused n) }) .world .state) b
-    go true = kept-has (w .state) (o .world .state) b e h
+    go : (t : Bool) → Has (cond t o (record { buffers = w; reply = flatOf (Refused n) }) .buffers .state) b
+    go true = kept-has (w .state) (o .buffers .state) b e h
     go false = h
 
-build-number : (w : World) (ram : List ℕ) (o g : ℕ) → isTaken (buildOf w ram o g) ≡ true → buildRefusal w ram o g ≡ 0
+build-number : (w : Buffers) (ram : List ℕ) (o g : ℕ) → isTaken (buildOf w ram o g) ≡ true → buildRefusal w ram o g ≡ 0
 unfolding buildOf
 build-number w ram o g t = taken-zero w (buildRefusal w ram o g) _ (build-taken w ram o g) t
 
-call-has : (w : World) (x : Call) (b : Settings) → Has (w .state) b → isTaken (give w x) ≡ true → Has (give w x .world .state) (settingsBy b x)
+call-has : (w : Buffers) (x : Call) (b : Settings) → Has (w .state) b → isTaken (give w x) ≡ true → Has (give w x .buffers .state) (settingsBy b x)
 unfolding give registerOf allOf doneOf failedOf
 call-has w (Build ram o g) b h t = built-has w ram o g (build-number w ram o g t)
 call-has w (RegisterRange a l) b h t = decided-has w (registerRefusal w a l) (carriedOut w (registerPlan w a l)) b h refl
@@ -69,14 +69,14 @@ call-has w (RegisterAll al ig) b h t = decided-has w (allRefusal w al ig) (carri
 call-has w AnswerDone b h t = decided-has w (answerRefusal w) (carriedOut (afterTaken w) (donePlan (afterTaken w))) b h refl
 call-has w AnswerFailed b h t = decided-has w (answerRefusal w) _ b h refl
 
-pub has-after : (xs : List Call) (w : World) (b : Settings) → Has (w .state) b → Has (after w xs .state) (settingsAfter w b xs)
+pub has-after : (xs : List Call) (w : Buffers) (b : Settings) → Has (w .state) b → Has (after w xs .state) (settingsAfter w b xs)
 unfolding after settingsAfter
 has-after [] w b h = h
-has-after (x ∷ xs) w b h = has-after xs (give w x .world) (cond (isTaken (give w x)) (settingsBy b x) b) (go (isTaken (give w x)) refl)
+has-after (x ∷ xs) w b h = has-after xs (give w x .buffers) (cond (isTaken (give w x)) (settingsBy b x) b) (go (isTaken (give w x)) refl)
   where
-    go : (t : Bool) → isTaken (give w x) ≡ t → Has (give w x .world .state) (cond t (settingsBy b x) b)
+    go : (t : Bool) → isTaken (give w x) ≡ t → Has (give w x .buffers .state) (cond t (settingsBy b x) b)
     go true e = call-has w x b h e
-    go false e = kept-has (w .state) (give w x .world .state) b (ap (λ (u : World). drop place.afterRequest (u .state)) (refused-keeps w x e)) h
+    go false e = kept-has (w .state) (give w x .buffers .state) b (ap (λ (u : Buffers). drop place.afterRequest (u .state)) (refused-keeps w x e)) h
 
 same-settings : (b : Settings) (x : Call) → isBuild x ≡ false → settingsBy b x ≡ b
 same-settings b (Build ram o g) h = false≢true (sym h)
@@ -85,12 +85,12 @@ same-settings b (RegisterAll al ig) h = refl
 same-settings b AnswerDone h = refl
 same-settings b AnswerFailed h = refl
 
-pub quiet-stays : (xs : List Call) (w : World) (b : Settings) → quiet xs ≡ true → settingsAfter w b xs ≡ b
+pub quiet-stays : (xs : List Call) (w : Buffers) (b : Settings) → quiet xs ≡ true → settingsAfter w b xs ≡ b
 unfolding quiet settingsAfter
 quiet-stays [] w b h = refl
 quiet-stays (x ∷ xs) w b h =
     let a = both-true (not (isBuild x)) (quiet xs) h in
-    quiet-stays xs (give w x .world) (cond (isTaken (give w x)) (settingsBy b x) b) (a .1) ∙ go (isTaken (give w x)) (same-settings b x (not-true _ (a .0)))
+    quiet-stays xs (give w x .buffers) (cond (isTaken (give w x)) (settingsBy b x) b) (a .1) ∙ go (isTaken (give w x)) (same-settings b x (not-true _ (a .0)))
   where
     go : (t : Bool) → settingsBy b x ≡ b → cond t (settingsBy b x) b ≡ b
     go true e = e
@@ -99,16 +99,16 @@ quiet-stays (x ∷ xs) w b h =
 -- ---- what it awaits
 
 abbrev Tells : Outcome → Type 0
-Tells o = eqb (o .reply .asked) 1 ≡ underWay (o .world)
+Tells o = eqb (o .reply .asked) 1 ≡ underWay (o .buffers)
 
-decided-tells : (w : World) (n : ℕ) (o : Outcome) → (notRefused n ≡ true → n ≡ 0) → Tells o → isTaken (decided w n o) ≡ true → Tells (decided w n o)
+decided-tells : (w : Buffers) (n : ℕ) (o : Outcome) → (notRefused n ≡ true → n ≡ 0) → Tells o → isTaken (decided w n o) ≡ true → Tells (decided w n o)
 decided-tells w n o z h = go (eqb n 0) refl
   where
-    go : (t : Bool) → eqb n 0 ≡ t → let d : Outcome = cond t o (record { world = w; reply = flatOf (Refused n) }) in isTaken d ≡ true → Tells d
+    go : (t : Bool) → eqb n 0 ≡ t → let d : Outcome = cond t o (record { buffers = w; reply = flatOf (Refused n) }) in isTaken d ≡ true → Tells d
     go true e k = h
     go false e k = absurd (eqb-false n 0 e (z k))
 
-call-tells : (w : World) (x : Call) → isTaken (give w x) ≡ true → Tells (give w x)
+call-tells : (w : Buffers) (x : Call) → isTaken (give w x) ≡ true → Tells (give w x)
 unfolding give buildOf registerOf allOf doneOf failedOf
 call-tells w (Build ram o g) = decided-tells w (buildRefusal w ram o g) _ (build-taken w ram o g) refl
 call-tells w (RegisterRange a l) =
@@ -120,19 +120,19 @@ call-tells w (RegisterAll al ig) =
 call-tells w AnswerDone = decided-tells w (answerRefusal w) (carriedOut (afterTaken w) (donePlan (afterTaken w))) (answer-taken w) (done-counts (afterTaken w) .2)
 call-tells w AnswerFailed = decided-tells w (answerRefusal w) _ (answer-taken w) refl
 
-pub awaits-after : (xs : List Call) (w : World) (b : Bool) → underWay w ≡ b → underWay (after w xs) ≡ awaitsAfter w b xs
+pub awaits-after : (xs : List Call) (w : Buffers) (b : Bool) → underWay w ≡ b → underWay (after w xs) ≡ awaitsAfter w b xs
 unfolding after awaitsAfter
 awaits-after [] w b h = h
 awaits-after (x ∷ xs) w b h =
-    awaits-after xs (give w x .world) (cond (isTaken (give w x)) (eqb (give w x .reply .asked) 1) b) (go (isTaken (give w x)) refl)
+    awaits-after xs (give w x .buffers) (cond (isTaken (give w x)) (eqb (give w x .reply .asked) 1) b) (go (isTaken (give w x)) refl)
   where
-    go : (t : Bool) → isTaken (give w x) ≡ t → underWay (give w x .world) ≡ cond t (eqb (give w x .reply .asked) 1) b
+    go : (t : Bool) → isTaken (give w x) ≡ t → underWay (give w x .buffers) ≡ cond t (eqb (give w x .reply .asked) 1) b
     go true e = sym (call-tells w x e)
     go false e = ap underWay (refused-keeps w x e) ∙ h
 
 -- ---- what it takes
 
-module _ (w : World) (s : Sound w) where
+module _ (w : Buffers) (s : Sound w) where
   pub answer-passes : underWay w ≡ true → answerRefusal w ≡ 0
   unfolding answerRefusal
   answer-passes h = rw (eq-eqb (length (w .state)) registrarLen (s .block), s .lengths, not-true (eqb (requestOf (w .state) .kind) kind.none) h)
@@ -149,11 +149,11 @@ module _ (w : World) (s : Sound w) where
   unfolding answerRefusal
   answer-none h = rw (eq-eqb (length (w .state)) registrarLen (s .block), s .lengths, not-false (eqb (requestOf (w .state) .kind) kind.none) h)
 
-  pub done-refused : underWay w ≡ false → doneOf w ≡ record { world = w; reply = flatOf (Refused refusal.nothingAsked) }
+  pub done-refused : underWay w ≡ false → doneOf w ≡ record { buffers = w; reply = flatOf (Refused refusal.nothingAsked) }
   unfolding doneOf
   done-refused h = rw (answer-none h)
 
-  pub failed-refused : underWay w ≡ false → failedOf w ≡ record { world = w; reply = flatOf (Refused refusal.nothingAsked) }
+  pub failed-refused : underWay w ≡ false → failedOf w ≡ record { buffers = w; reply = flatOf (Refused refusal.nothingAsked) }
   unfolding failedOf
   failed-refused h = rw (answer-none h)
 
@@ -175,7 +175,7 @@ module _ (w : World) (s : Sound w) where
       rw (eq-eqb (allRefusal w al ignore) 0 z) (plain-taken (allPlan w al ignore .answer) (all-plain (chunkStateIn w) (offsetOf (w .state)) 0 al ignore 0 (spans (entriesIn (w .state)))))
 
 -- THE CLAIM of what a registrar is and takes
-pub stands : (w : World) (b : Settings) (awaits : Bool) → Sound w → Has (w .state) b → underWay w ≡ awaits → Stands w b awaits
+pub stands : (w : Buffers) (b : Settings) (awaits : Bool) → Sound w → Has (w .state) b → underWay w ≡ awaits → Stands w b awaits
 stands w b awaits s h t =
     let words : mapWords (granularityOf (w .state)) (entriesIn (w .state)) ≡ mapWords (b .granularity) (entriesOf (b .ram)) =
     ap₂ (λ (g : ℕ) (ram : List ℕ). mapWords g (entriesOf ram)) (h .same-granularity) (h .same-ram) in

@@ -27,7 +27,7 @@ use Rattle.registrar_steps.specs.declared.Answer.the-variants.{Done, Registrati
 use Rattle.registrar_steps.specs.declared.Plan.{Plan}
 use Rattle.registrar_steps.specs.Steps.{ChunkState, chunkState, idle, askedOf, asks, ends, more, ramFrom, passes, pieceOf, registerFrom}
 use Rattle.registrar_state.specs.declared.Reply.{Reply}
-use Rattle.registrar_state.specs.World.{World, world, Outcome, outcome, requestOf, requestWords, granularityOf, entriesIn, flatOf, lengthsFit, chunksFit, registerRefusal, marked, carriedOut, registerOf, answerRefusal, failedOf, doneOf}
+use Rattle.registrar_state.specs.Buffers.{Buffers, buffers, Outcome, outcome, requestOf, requestWords, granularityOf, entriesIn, flatOf, lengthsFit, chunksFit, registerRefusal, marked, carriedOut, registerOf, answerRefusal, failedOf, doneOf}
 use Rattle.registrar_claims.specs.Runs.{Told, before, follow}
 use Rattle.registrar_claims.specs.Whole.{Status, Ok, FailedAt, Whole, ended, offered, asking, offer, wholeChunks, wholeRegister, Says, Words, Match}
 use Rattle.registrar_claims.proofs.Spans.{Ascend, spans-ascend, piece-some, pieces-rest}
@@ -122,8 +122,8 @@ module _ (tail f : List ℕ) (last : ℕ) where
   abbrev rs : List MemoryRange
   rs = spans es
 
-  abbrev at : Request → List ℕ → World
-  at q r = world (requestWords q ++ tail) r f
+  abbrev at : Request → List ℕ → Buffers
+  at q r = buffers (requestWords q ++ tail) r f
 
   -- what it gives where it goes on from chunk c, having asked k times
   abbrev from : Request → List ℕ → ℕ → ℕ → Outcome
@@ -145,20 +145,20 @@ module _ (tail f : List ℕ) (last : ℕ) where
     -- a piece and those after it
     module _ (c : ℕ) (r : List ℕ) (r-long : length r ≡ mapWords g es) (next : List Bool → Whole)
         (on : (k : ℕ) (q : Request) (bs : List Bool) → Match k (follow (from q (marked c (c + 1) r) k (c + 1)) bs) (next bs)) where
-      failed-now : (k : ℕ) (p : MemoryRange) → failedOf (asks-piece r k c p .world)
+      failed-now : (k : ℕ) (p : MemoryRange) → failedOf (asks-piece r k c p .buffers)
           ≡ outcome (requestWords idle ++ tail) r (marked c (c + 1) f) (flatOf (RegistrationFailed (p .start) ((k + 1) % 2 ^ 64)))
       unfolding failedOf
       failed-now k p =
           let q : Request = pieceOf (k % 2 ^ 64) c (c + 1) last p in
           rw (not-refused q r refl r-long, counted k)
 
-      done-last : (k : ℕ) (p : MemoryRange) → pieces (p .end) ((c + 1) * g) rs ≡ [] → doneOf (asks-piece r k c p .world) ≡ from idle (marked c (c + 1) r) (k + 1) (c + 1)
+      done-last : (k : ℕ) (p : MemoryRange) → pieces (p .end) ((c + 1) * g) rs ≡ [] → doneOf (asks-piece r k c p .buffers) ≡ from idle (marked c (c + 1) r) (k + 1) (c + 1)
       unfolding doneOf
       done-last k p h =
           let q : Request = pieceOf (k % 2 ^ 64) c (c + 1) last p in
           rw (not-refused q r refl r-long, h, counted k)
 
-      done-more : (k : ℕ) (p p′ : MemoryRange) (ps : List MemoryRange) → pieces (p .end) ((c + 1) * g) rs ≡ p′ ∷ ps → doneOf (asks-piece r k c p .world) ≡ asks-piece r (k + 1) c p′
+      done-more : (k : ℕ) (p p′ : MemoryRange) (ps : List MemoryRange) → pieces (p .end) ((c + 1) * g) rs ≡ p′ ∷ ps → doneOf (asks-piece r k c p .buffers) ≡ asks-piece r (k + 1) c p′
       unfolding doneOf
       done-more k p p′ ps h =
           let q : Request = pieceOf (k % 2 ^ 64) c (c + 1) last p in
@@ -169,14 +169,14 @@ module _ (tail f : List ℕ) (last : ℕ) where
       unfolding follow offer
       offer-match ps k p [] h = record { same-asked = refl; same-registered = refl; same-failed = refl; same-reply = refl }
       offer-match ps k p (false ∷ bs) h =
-          match-ask k o p _ (follow (failedOf (asks-piece r k c p .world)) bs) (ended r (marked c (c + 1) f) (FailedAt (p .start))) refl
+          match-ask k o p _ (follow (failedOf (asks-piece r k c p .buffers)) bs) (ended r (marked c (c + 1) f) (FailedAt (p .start))) refl
           (match-told (k + 1) _ _ _ (ap (λ (x : Outcome). follow x bs) (failed-now k p) ∙ follow-ended _ bs refl)
           (record { same-asked = refl; same-registered = refl; same-failed = refl; same-reply = ap (λ (n : ℕ). flatOf (RegistrationFailed (p .start) (n % 2 ^ 64))) (omega arith) }))
       offer-match [] k p (true ∷ bs) h =
-          match-ask k o p _ (follow (doneOf (asks-piece r k c p .world)) bs) (next bs) refl
+          match-ask k o p _ (follow (doneOf (asks-piece r k c p .buffers)) bs) (next bs) refl
           (match-told (k + 1) _ _ _ (ap (λ (x : Outcome). follow x bs) (done-last k p h)) (on (k + 1) idle bs))
       offer-match (p′ ∷ ps) k p (true ∷ bs) h =
-          match-ask k o p _ (follow (doneOf (asks-piece r k c p .world)) bs) (offer o c (p′ ∷ ps) bs r f next) refl
+          match-ask k o p _ (follow (doneOf (asks-piece r k c p .buffers)) bs) (offer o c (p′ ∷ ps) bs r f next) refl
           (match-told (k + 1) _ _ _ (ap (λ (x : Outcome). follow x bs) (done-more k p p′ ps h)) (offer-match ps (k + 1) p′ bs (pieces-rest (p .end) ((c + 1) * g) 0 rs p′ ps asc h)))
 
     -- ---- the chunks in turn
@@ -287,11 +287,11 @@ nothing-touched tail f r q first last bs h =
     ∙ follow-ended _ bs refl)
     (record { same-asked = refl; same-registered = refl; same-failed = refl; same-reply = refl })
 
-register-at : (tail f r : List ℕ) (q : Request) (address len : ℕ) (bs : List Bool) → let w : World = world (requestWords q ++ tail) r f in
+register-at : (tail f r : List ℕ) (q : Request) (address len : ℕ) (bs : List Bool) → let w : Buffers = buffers (requestWords q ++ tail) r f in
     registerRefusal w address len ≡ 0 → ordered 0 (entriesIn (w .state)) ≡ true → Words r → Match 0 (follow (registerOf w address len) bs) (wholeRegister w address len bs)
 unfolding registerOf registerRefusal wholeRegister wholeChunks
 register-at tail f r q address len bs z ord wr =
-    let w : World = world (requestWords q ++ tail) r f in
+    let w : Buffers = buffers (requestWords q ++ tail) r f in
     let g : ℕ = getD tail 1 0 in
     let first : ℕ = firstChunk g address in
     let last : ℕ = endChunk g address len in
@@ -315,17 +315,17 @@ register-at tail f r q address len bs z ord wr =
 
 -- THE CLAIM: after any answers the steps have asked for the ranges that the whole call asks for, in its order, and have left its bitmaps; what they reply
 -- is how it stands, with the count of its operations. Of a registrar as a build leaves it or as calls have left it: a layout in order, words of 64 bits
-pub register-is-whole : (w : World) (address len : ℕ) (bs : List Bool) → registerRefusal w address len ≡ 0 → ordered 0 (entriesIn (w .state)) ≡ true
+pub register-is-whole : (w : Buffers) (address len : ℕ) (bs : List Bool) → registerRefusal w address len ≡ 0 → ordered 0 (entriesIn (w .state)) ≡ true
     → Words (w .registered) → Match 0 (follow (registerOf w address len) bs) (wholeRegister w address len bs)
 register-is-whole w address len bs z ord h =
     let l : length (w .state) ≡ registrarLen = register-long w (registerRefusal w address len) z address len refl in
     let e : w .state ≡ requestWords (requestOf (w .state)) ++ drop place.afterRequest (w .state) = split-state (w .state) (omega arith) in
     go (w .state) e z ord
   where
-    go : (s : List ℕ) → s ≡ requestWords (requestOf s) ++ drop place.afterRequest s → registerRefusal (world s (w .registered) (w .failed)) address len ≡ 0 → ordered 0 (entriesIn s) ≡ true
-        → Match 0 (follow (registerOf (world s (w .registered) (w .failed)) address len) bs) (wholeRegister (world s (w .registered) (w .failed)) address len bs)
+    go : (s : List ℕ) → s ≡ requestWords (requestOf s) ++ drop place.afterRequest s → registerRefusal (buffers s (w .registered) (w .failed)) address len ≡ 0 → ordered 0 (entriesIn s) ≡ true
+        → Match 0 (follow (registerOf (buffers s (w .registered) (w .failed)) address len) bs) (wholeRegister (buffers s (w .registered) (w .failed)) address len bs)
     go s e z ord =
         subst
-        (λ (t : List ℕ). Match 0 (follow (registerOf (world t (w .registered) (w .failed)) address len) bs) (wholeRegister (world t (w .registered) (w .failed)) address len bs)) (sym e)
+        (λ (t : List ℕ). Match 0 (follow (registerOf (buffers t (w .registered) (w .failed)) address len) bs) (wholeRegister (buffers t (w .registered) (w .failed)) address len bs)) (sym e)
         (register-at (drop place.afterRequest s) (w .failed) (w .registered) (requestOf s) address len bs
-        (subst (λ (t : List ℕ). registerRefusal (world t (w .registered) (w .failed)) address len ≡ 0) e z) (subst (λ (t : List ℕ). ordered 0 (entriesIn t) ≡ true) e ord) h)
+        (subst (λ (t : List ℕ). registerRefusal (buffers t (w .registered) (w .failed)) address len ≡ 0) e z) (subst (λ (t : List ℕ). ordered 0 (entriesIn t) ≡ true) e ord) h)

@@ -28,7 +28,7 @@ use Rattle.registrar_steps.specs.declared.Look.{Look}
 use Rattle.registrar_steps.specs.declared.Look.the-variants.{Nothing, Edge, FailedBefore, Stretch}
 use Rattle.registrar_steps.specs.declared.Plan.{Plan}
 use Rattle.registrar_steps.specs.Steps.{chunkState, idle, askedOf, more, stretchIn, lookAt, unalignedAt, stretchOf, found, allFrom}
-use Rattle.registrar_state.specs.World.{World, world, Outcome, outcome, requestOf, requestWords, entriesIn, flatOf, lengthsFit, allRefusal, marked, carriedOut, allOf, answerRefusal, failedOf, doneOf}
+use Rattle.registrar_state.specs.Buffers.{Buffers, buffers, Outcome, outcome, requestOf, requestWords, entriesIn, flatOf, lengthsFit, allRefusal, marked, carriedOut, allOf, answerRefusal, failedOf, doneOf}
 use Rattle.registrar_claims.specs.Runs.{follow}
 use Rattle.registrar_claims.specs.Whole.{FailedAt, UnalignedAt, offerStretch, wholeSpan, wholeSpans, wholeAll, Whole, ended, Match}
 use Rattle.registrar_claims.proofs.Steps.{counted, marked-length, marked-none, follow-ended, match-ask, match-told}
@@ -205,8 +205,8 @@ module _ (tail f : List ℕ) (al ig : ℕ) where
   abbrev rs : List MemoryRange
   rs = spans es
 
-  abbrev at : Request → List ℕ → World
-  at q r = world (requestWords q ++ tail) r f
+  abbrev at : Request → List ℕ → Buffers
+  at q r = buffers (requestWords q ++ tail) r f
 
   -- what is planned from chunk c on over some of the spans, and what is given
   abbrev plan : List ℕ → ℕ → ℕ → List MemoryRange → Plan
@@ -229,11 +229,11 @@ module _ (tail f : List ℕ) (al ig : ℕ) where
 
     module _ (a b : ℕ) (r : List ℕ) (r-long : length r ≡ mapWords g es) (next : List Bool → List ℕ → Whole)
         (on : (k : ℕ) (q : Request) (bs : List Bool) → Match k (follow (from q (marked a b r) k b) bs) (next bs (marked a b r))) where
-      failed-now : (k : ℕ) → failedOf (asks-stretch r k a b .world) ≡ outcome (requestWords idle ++ tail) r (marked a b f) (flatOf (RegistrationFailed (a * g) ((k + 1) % 2 ^ 64)))
+      failed-now : (k : ℕ) → failedOf (asks-stretch r k a b .buffers) ≡ outcome (requestWords idle ++ tail) r (marked a b f) (flatOf (RegistrationFailed (a * g) ((k + 1) % 2 ^ 64)))
       unfolding failedOf
       failed-now k = rw (not-refused (stretch k a b) r refl r-long, counted k)
 
-      done-now : (k : ℕ) → doneOf (asks-stretch r k a b .world) ≡ from idle (marked a b r) (k + 1) b
+      done-now : (k : ℕ) → doneOf (asks-stretch r k a b .buffers) ≡ from idle (marked a b r) (k + 1) b
       unfolding doneOf
       done-now k = rw (not-refused (stretch k a b) r refl r-long, counted k)
 
@@ -241,11 +241,11 @@ module _ (tail f : List ℕ) (al ig : ℕ) where
       unfolding follow offerStretch
       stretch-match k [] = record { same-asked = refl; same-registered = refl; same-failed = refl; same-reply = refl }
       stretch-match k (false ∷ bs) =
-          match-ask k o (range (a * g) (b * g)) _ (follow (failedOf (asks-stretch r k a b .world)) bs) (ended r (marked a b f) (FailedAt (a * g))) refl
+          match-ask k o (range (a * g) (b * g)) _ (follow (failedOf (asks-stretch r k a b .buffers)) bs) (ended r (marked a b f) (FailedAt (a * g))) refl
           (match-told (k + 1) _ _ _ (ap (λ (x : Outcome). follow x bs) (failed-now k) ∙ follow-ended _ bs refl)
           (record { same-asked = refl; same-registered = refl; same-failed = refl; same-reply = ap (λ (n : ℕ). flatOf (RegistrationFailed (a * g) (n % 2 ^ 64))) (omega arith) }))
       stretch-match k (true ∷ bs) =
-          match-ask k o (range (a * g) (b * g)) _ (follow (doneOf (asks-stretch r k a b .world)) bs) (next bs (marked a b r)) refl
+          match-ask k o (range (a * g) (b * g)) _ (follow (doneOf (asks-stretch r k a b .buffers)) bs) (next bs (marked a b r)) refl
           (match-told (k + 1) _ _ _ (ap (λ (x : Outcome). follow x bs) (done-now k)) (on (k + 1) idle bs))
 
     -- the spans before these are passed over from chunk c on, whatever else becomes registered
@@ -401,11 +401,11 @@ module _ (tail f : List ℕ) (al ig : ℕ) where
 
 -- ---- from the call on
 
-all-at : (tail f r : List ℕ) (q : Request) (al ig : ℕ) (bs : List Bool) → let w : World = world (requestWords q ++ tail) r f in
+all-at : (tail f r : List ℕ) (q : Request) (al ig : ℕ) (bs : List Bool) → let w : Buffers = buffers (requestWords q ++ tail) r f in
     allRefusal w al ig ≡ 0 → ordered 0 (entriesIn (w .state)) ≡ true → Match 0 (follow (allOf w al ig) bs) (wholeAll w al ig bs)
 unfolding allOf allRefusal wholeAll Skips
 all-at tail f r q al ig bs z ord =
-    let w : World = world (requestWords q ++ tail) r f in
+    let w : Buffers = buffers (requestWords q ++ tail) r f in
     let g : ℕ = getD tail 1 0 in
     let a = passed (eqb (length (requestWords q ++ tail)) registrarLen) 3 _ z in
     let b = passed (eqb (q .kind) kind.none) 18 _ (a .1) in
@@ -417,15 +417,15 @@ all-at tail f r q al ig bs z ord =
     (spans-match tail f al ig (omega arith) fl (spans (entriesIn (w .state))) 0 0 0 q r bs (spans-ascend (entriesIn (w .state)) ord) (omega arith) (λ r′ x k c′ m. refl) rl)
 
 -- THE CLAIM, as of `register`: a layout in order
-pub all-is-whole : (w : World) (al ig : ℕ) (bs : List Bool) → allRefusal w al ig ≡ 0 → ordered 0 (entriesIn (w .state)) ≡ true
+pub all-is-whole : (w : Buffers) (al ig : ℕ) (bs : List Bool) → allRefusal w al ig ≡ 0 → ordered 0 (entriesIn (w .state)) ≡ true
     → Match 0 (follow (allOf w al ig) bs) (wholeAll w al ig bs)
 all-is-whole w al ig bs z ord =
     let l : length (w .state) ≡ registrarLen = all-long w (allRefusal w al ig) z al ig refl in
     go (w .state) (split-state (w .state) (omega arith)) z ord
   where
-    go : (s : List ℕ) → s ≡ requestWords (requestOf s) ++ drop place.afterRequest s → allRefusal (world s (w .registered) (w .failed)) al ig ≡ 0 → ordered 0 (entriesIn s) ≡ true
-        → Match 0 (follow (allOf (world s (w .registered) (w .failed)) al ig) bs) (wholeAll (world s (w .registered) (w .failed)) al ig bs)
+    go : (s : List ℕ) → s ≡ requestWords (requestOf s) ++ drop place.afterRequest s → allRefusal (buffers s (w .registered) (w .failed)) al ig ≡ 0 → ordered 0 (entriesIn s) ≡ true
+        → Match 0 (follow (allOf (buffers s (w .registered) (w .failed)) al ig) bs) (wholeAll (buffers s (w .registered) (w .failed)) al ig bs)
     go s e z ord =
-        subst (λ (t : List ℕ). Match 0 (follow (allOf (world t (w .registered) (w .failed)) al ig) bs) (wholeAll (world t (w .registered) (w .failed)) al ig bs)) (sym e)
-        (all-at (drop place.afterRequest s) (w .failed) (w .registered) (requestOf s) al ig bs (subst (λ (t : List ℕ). allRefusal (world t (w .registered) (w .failed)) al ig ≡ 0) e z)
+        subst (λ (t : List ℕ). Match 0 (follow (allOf (buffers t (w .registered) (w .failed)) al ig) bs) (wholeAll (buffers t (w .registered) (w .failed)) al ig bs)) (sym e)
+        (all-at (drop place.afterRequest s) (w .failed) (w .registered) (requestOf s) al ig bs (subst (λ (t : List ℕ). allRefusal (buffers t (w .registered) (w .failed)) al ig ≡ 0) e z)
         (subst (λ (t : List ℕ). ordered 0 (entriesIn t) ≡ true) e ord))

@@ -13,7 +13,7 @@ use Rattle.chunks.specs.Chunks.{up, chunkCount, mapWords, firstChunk, endChunk,
 use Rattle.registrar_steps.specs.declared.Request.{Request}
 use Rattle.registrar_steps.specs.declared.Answer.the-variants.{Done, Register, Refused}
 use Rattle.registrar_steps.specs.Steps.{askedOf}
-use Rattle.registrar_state.specs.World.{World, requestOf, offsetOf, granularityOf, ramOf, flatOf, buildOf, registerRefusal, allRefusal, registerOf, allOf, doneOf, failedOf}
+use Rattle.registrar_state.specs.Buffers.{Buffers, requestOf, offsetOf, granularityOf, ramOf, flatOf, buildOf, registerRefusal, allRefusal, registerOf, allOf, doneOf, failedOf}
 use Rattle.registrar_claims.specs.Runs.{Call, give, isBuild, isTaken, underWay, after, awaitsAfter, Settings, builtWith, settingsAfter, quiet, Told, follow}
 use Rattle.registrar_claims.specs.Changes.{withTaken, withFailed, Kept, Stays}
 use Rattle.registrar_claims.specs.Whole.{wholeRegister, wholeAll, Match}
@@ -33,7 +33,7 @@ abbrev pub isAligned : Settings → ℕ → ℕ → Bool
 isAligned settings alignment ignore = leb ignore 1 && (leb (settings .granularity) alignment && isPower alignment)
 
 -- a registrar v that was built so, and that awaits an answer or not
-pub record Stands (v : World) (b : Settings) (awaits : Bool) : Type 0 where
+pub record Stands (v : Buffers) (b : Settings) (awaits : Bool) : Type 0 where
   -- offset, granularity and layout are the build's
   pub same-offset : offsetOf (v .state) ≡ b .offset
   pub same-granularity : granularityOf (v .state) ≡ b .granularity
@@ -45,34 +45,34 @@ pub record Stands (v : World) (b : Settings) (awaits : Bool) : Type 0 where
   -- an answer that is awaited is taken, done or failed; any other is refused by 21
   pub told : underWay v ≡ awaits
   pub answer-taken : awaits ≡ true → (isTaken (doneOf v) ≡ true) × (isTaken (failedOf v) ≡ true)
-  pub answer-refused : awaits ≡ false → (doneOf v ≡ record { world = v; reply = flatOf (Refused refusal.nothingAsked) }) × (failedOf v ≡ record { world = v; reply = flatOf (Refused refusal.nothingAsked) })
+  pub answer-refused : awaits ≡ false → (doneOf v ≡ record { buffers = v; reply = flatOf (Refused refusal.nothingAsked) }) × (failedOf v ≡ record { buffers = v; reply = flatOf (Refused refusal.nothingAsked) })
   -- where none is awaited a request within the limits is taken
   pub register-taken : awaits ≡ false → (address len : ℕ) → isWithin b address len ≡ true → isTaken (registerOf v address len) ≡ true
   pub all-taken : awaits ≡ false → (al ignore : ℕ) → isAligned b al ignore ≡ true → isTaken (allOf v al ignore) ≡ true
 
 -- ---- a call that is taken is, under any answers, the whole call as 01 writes it
 
-abbrev pub RegisterWhole : World → Type 0
+abbrev pub RegisterWhole : Buffers → Type 0
 RegisterWhole lent = (address len : ℕ) (answers : List Bool) → registerRefusal lent address len ≡ 0 → Match 0 (follow (registerOf lent address len) answers) (wholeRegister lent address len answers)
 
-abbrev pub AllWhole : World → Type 0
+abbrev pub AllWhole : Buffers → Type 0
 AllWhole lent = (alignment ignore : ℕ) (answers : List Bool) → allRefusal lent alignment ignore ≡ 0 → Match 0 (follow (allOf lent alignment ignore) answers) (wholeAll lent alignment ignore answers)
 
 -- a request whose chunks are all registered is Ok, asks for nothing and changes no word
-abbrev pub RegisteredKept : World → Type 0
+abbrev pub RegisteredKept : Buffers → Type 0
 RegisteredKept lent =
     (address len : ℕ) → registerRefusal lent address len ≡ 0
     → ((chunk : ℕ) → firstChunk (granularityOf (lent .state)) address ≤ chunk → chunk < endChunk (granularityOf (lent .state)) address len → bitAt wordBits (lent .registered) chunk ≡ true)
-    → registerOf lent address len ≡ record { world = lent; reply = flatOf (Done 0) }
+    → registerOf lent address len ≡ record { buffers = lent; reply = flatOf (Done 0) }
 
 -- the chunks that a request touches, widened to pages or not, are those of its bytes
-abbrev pub ChunksPlain : World → Type 0
+abbrev pub ChunksPlain : Buffers → Type 0
 ChunksPlain lent =
     let granularity : ℕ = granularityOf (lent .state) in
     (address len : ℕ) → (firstChunk granularity address ≡ address / granularity) × (endChunk granularity address len ≡ up (address + len) granularity)
 
 -- what is asked for lies at offset + address, and no number wraps
-abbrev pub AskedPlain : World → Type 0
+abbrev pub AskedPlain : Buffers → Type 0
 AskedPlain lent =
     let offset : ℕ = offsetOf (lent .state) in
     let request : Request = requestOf (lent .state) in
@@ -81,10 +81,10 @@ AskedPlain lent =
 -- ---- of any words that are lent
 
 -- a refusal leaves every lent word as given, save what 22 and 23 name; what is marked stays marked until a build
-abbrev pub RefusalsKeep : World → Type 0
+abbrev pub RefusalsKeep : Buffers → Type 0
 RefusalsKeep lent = (call : Call) → Kept lent (withTaken lent call) (withFailed lent call) (give lent call)
 
-abbrev pub MarksStay : World → Type 0
+abbrev pub MarksStay : Buffers → Type 0
 MarksStay lent = (call : Call) (chunk : ℕ) → isBuild call ≡ false → Stays lent chunk (give lent call)
 
 -- a call that has ended, with Ok, 22 or 23, tells how many operations it asked for, in 64 bits
@@ -93,7 +93,7 @@ Counts told = told .last .reply .asked ≡ 0 → isTaken (told .last) ≡ true �
 
 -- ---- all of it
 
-pub record Claim (v : World) (b : Settings) (awaits : Bool) : Type 0 where
+pub record Claim (v : Buffers) (b : Settings) (awaits : Bool) : Type 0 where
   pub stands : Stands v b awaits
   pub register-whole : RegisterWhole v
   pub all-whole : AllWhole v
@@ -107,10 +107,10 @@ pub record Claim (v : World) (b : Settings) (awaits : Bool) : Type 0 where
   pub ends : RequestEnds v
 
 -- from a build that is taken on
-pub record FromBuild (w : World) (ram : List ℕ) (offset g : ℕ) : Type 0 where
+pub record FromBuild (w : Buffers) (ram : List ℕ) (offset g : ℕ) : Type 0 where
   -- no entry asks anything of its arguments
   pub unasked : Unasked
-  pub always : (xs : List Call) → let u : World = buildOf w ram offset g .world in
+  pub always : (xs : List Call) → let u : Buffers = buildOf w ram offset g .buffers in
       Claim (after u xs) (settingsAfter u (builtWith ram offset g) xs) (awaitsAfter u false xs)
   -- with no other build the settings stay this one's
-  pub stay : (xs : List Call) → quiet xs ≡ true → settingsAfter (buildOf w ram offset g .world) (builtWith ram offset g) xs ≡ builtWith ram offset g
+  pub stay : (xs : List Call) → quiet xs ≡ true → settingsAfter (buildOf w ram offset g .buffers) (builtWith ram offset g) xs ≡ builtWith ram offset g

@@ -4,19 +4,19 @@ use mathlib.Core.Bool.{true, false}
 use mathlib.Core.List.{List, [], _∷_}
 use Prim.Native.Nat.{ℕ, _+_, _≤_, _<_}
 use lib.ListN.{replicate}
-use Rattle.registrar_state.specs.World.{World}
+use Rattle.registrar_state.specs.Buffers.{Buffers}
 use Rattle.registrar_claims.specs.Runs.{Call, AnswerDone, AnswerFailed, give, isBuild, isTaken, underWay, left, after, takenIn, isAnswer, onlyAnswers, answersIn}
 
 -- one call of a registrar v
-pub record Falls (v : World) (x : Call) : Type 0 where
+pub record Falls (v : Buffers) (x : Call) : Type 0 where
   -- an answer is taken where something is asked for and nowhere else, and then it lowers the number
   pub answered : isAnswer x ≡ true → isTaken (give v x) ≡ underWay v
-  pub lowers : isAnswer x ≡ true → isTaken (give v x) ≡ true → left (give v x .world) < left v
+  pub lowers : isAnswer x ≡ true → isTaken (give v x) ≡ true → left (give v x .buffers) < left v
   -- meanwhile a request is refused, and what is refused changes nothing
   pub busy : underWay v ≡ true → isAnswer x ≡ false → isBuild x ≡ false → isTaken (give v x) ≡ false
-  pub keeps : isTaken (give v x) ≡ false → give v x .world ≡ v
+  pub keeps : isTaken (give v x) ≡ false → give v x .buffers ≡ v
 
-pub record RequestEnds (v : World) : Type 0 where
+pub record RequestEnds (v : Buffers) : Type 0 where
   -- in any list of calls from here on
   pub falls : (xs : List Call) (x : Call) → Falls (after v xs) x
   -- so, where only answers are taken, no more of them than the number says, and fewer while the request is still under way

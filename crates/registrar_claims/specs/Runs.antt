@@ -9,7 +9,7 @@ use Rattle.laws.specs.Bools.{digit}
 use Rattle.layout.specs.declared.MemoryRange.{MemoryRange}
 use Rattle.layout.specs.Layout.{range}
 use Rattle.registrar_steps.specs.declared.Request.{Request}
-use Rattle.registrar_state.specs.World.{World, Outcome, requestOf, buildOf, registerOf, allOf, failedOf, doneOf}
+use Rattle.registrar_state.specs.Buffers.{Buffers, Outcome, requestOf, buildOf, registerOf, allOf, failedOf, doneOf}
 
 -- what may be done to a registrar
 pub data Call : Type 0 where
@@ -19,7 +19,7 @@ pub data Call : Type 0 where
   AnswerDone : Call
   AnswerFailed : Call
 
-unfoldable pub give : World → Call → Outcome
+unfoldable pub give : Buffers → Call → Outcome
 give lent (Build ram offset granularity) = buildOf lent ram offset granularity
 give lent (RegisterRange address len) = registerOf lent address len
 give lent (RegisterAll alignment ignore) = allOf lent alignment ignore
@@ -41,25 +41,25 @@ abbrev pub isTaken : Outcome → Bool
 isTaken o = notRefused (o .reply .number)
 
 -- something is asked for
-abbrev pub underWay : World → Bool
+abbrev pub underWay : Buffers → Bool
 underWay lent = not (eqb (requestOf (lent .state) .kind) kind.none)
 
 -- the number that every taken answer lowers: 0 where nothing is asked
 abbrev pub leftOf : Request → ℕ
 leftOf request = cond (eqb (request .kind) kind.none) 0 (suc ((2 ^ 64 - request .to) * 2 ^ 65 + (2 ^ 64 - request .end)))
 
-abbrev pub left : World → ℕ
+abbrev pub left : Buffers → ℕ
 left lent = leftOf (requestOf (lent .state))
 
--- ---- a list of calls: the world after them, and how many of them are taken
+-- ---- a list of calls: the buffers after them, and how many of them are taken
 
-unfoldable pub after : World → List Call → World
+unfoldable pub after : Buffers → List Call → Buffers
 after lent [] = lent
-after lent (call ∷ calls) = after (give lent call .world) calls
+after lent (call ∷ calls) = after (give lent call .buffers) calls
 
-unfoldable pub takenIn : World → List Call → ℕ
+unfoldable pub takenIn : Buffers → List Call → ℕ
 takenIn lent [] = 0
-takenIn lent (call ∷ calls) = digit (isTaken (give lent call)) + takenIn (give lent call .world) calls
+takenIn lent (call ∷ calls) = digit (isTaken (give lent call)) + takenIn (give lent call .buffers) calls
 
 abbrev pub isAnswer : Call → Bool
 isAnswer (Build ram offset granularity) = false
@@ -69,9 +69,9 @@ isAnswer AnswerDone = true
 isAnswer AnswerFailed = true
 
 -- whether no other call than an answer is taken
-unfoldable pub onlyAnswers : World → List Call → Bool
+unfoldable pub onlyAnswers : Buffers → List Call → Bool
 onlyAnswers lent [] = true
-onlyAnswers lent (call ∷ calls) = (isAnswer call || not (isTaken (give lent call))) && onlyAnswers (give lent call .world) calls
+onlyAnswers lent (call ∷ calls) = (isAnswer call || not (isTaken (give lent call))) && onlyAnswers (give lent call .buffers) calls
 
 -- how many of the calls are answers
 unfoldable pub answersIn : List Call → ℕ
@@ -81,9 +81,9 @@ answersIn (call ∷ calls) = digit (isAnswer call) + answersIn calls
 -- ---- what is told of a list of calls from outside
 
 -- whether an answer is awaited, by the replies: a call that is taken tells it, a refused one leaves it as it was
-unfoldable pub awaitsAfter : World → Bool → List Call → Bool
+unfoldable pub awaitsAfter : Buffers → Bool → List Call → Bool
 awaitsAfter lent awaits [] = awaits
-awaitsAfter lent awaits (call ∷ calls) = awaitsAfter (give lent call .world) (cond (isTaken (give lent call)) (eqb (give lent call .reply .asked) 1) awaits) calls
+awaitsAfter lent awaits (call ∷ calls) = awaitsAfter (give lent call .buffers) (cond (isTaken (give lent call)) (eqb (give lent call .reply .asked) 1) awaits) calls
 
 -- what a registrar was built with: by the last build that was taken
 pub record Settings : Type 0 where
@@ -101,9 +101,9 @@ settingsBy settings (RegisterAll alignment ignore) = settings
 settingsBy settings AnswerDone = settings
 settingsBy settings AnswerFailed = settings
 
-unfoldable pub settingsAfter : World → Settings → List Call → Settings
+unfoldable pub settingsAfter : Buffers → Settings → List Call → Settings
 settingsAfter lent settings [] = settings
-settingsAfter lent settings (call ∷ calls) = settingsAfter (give lent call .world) (cond (isTaken (give lent call)) (settingsBy settings call) settings) calls
+settingsAfter lent settings (call ∷ calls) = settingsAfter (give lent call .buffers) (cond (isTaken (give lent call)) (settingsBy settings call) settings) calls
 
 -- whether no call of a list is a build
 unfoldable pub quiet : List Call → Bool
@@ -116,7 +116,7 @@ pub record Told : Type 0 where
   pub asked : List MemoryRange
   pub last : Outcome
 
-abbrev pub answerOf : Bool → World → Outcome
+abbrev pub answerOf : Bool → Buffers → Outcome
 answerOf done lent = cond done (doneOf lent) (failedOf lent)
 
 abbrev pub before : MemoryRange → Told → Told
@@ -127,4 +127,4 @@ asksFor o = range (o .reply .start) (o .reply .end)
 
 unfoldable pub follow : Outcome → List Bool → Told
 follow o [] = record { asked = cond (eqb (o .reply .asked) 1) (asksFor o ∷ []) []; last = o }
-follow o (done ∷ answers) = cond (eqb (o .reply .asked) 1) (before (asksFor o) (follow (answerOf done (o .world)) answers)) (record { asked = []; last = o })
+follow o (done ∷ answers) = cond (eqb (o .reply .asked) 1) (before (asksFor o) (follow (answerOf done (o .buffers)) answers)) (record { asked = []; last = o })

@@ -15,7 +15,7 @@ use Rattle.registrar_steps.specs.declared.Unaligned.{Unaligned}
 use Rattle.registrar_steps.specs.declared.Answer.the-variants.{Done, RegistrationFailed, UnalignedMemory}
 use Rattle.registrar_steps.specs.Steps.{unalignedAt}
 use Rattle.registrar_state.specs.declared.Reply.{Reply}
-use Rattle.registrar_state.specs.World.{World, offsetOf, granularityOf, entriesIn, flatOf, marked}
+use Rattle.registrar_state.specs.Buffers.{Buffers, offsetOf, granularityOf, entriesIn, flatOf, marked}
 use Rattle.registrar_claims.specs.Runs.{Told}
 
 -- how a call stands once the answers are used up: it waits for one, is Ok, or ended with 23 or 22
@@ -57,7 +57,7 @@ wholeChunks offset granularity ram (suc n) chunk registered failed answers =
     (cond (bitAt wordBits failed chunk) (ended registered failed (FailedAt (chunk * granularity)))
     (offer offset chunk (pieces (chunk * granularity) ((chunk + 1) * granularity) ram) answers registered failed (λ answers. wholeChunks offset granularity ram n (chunk + 1) (marked chunk (chunk + 1) registered) failed answers)))
 
-unfoldable pub wholeRegister : World → ℕ → ℕ → List Bool → Whole
+unfoldable pub wholeRegister : Buffers → ℕ → ℕ → List Bool → Whole
 wholeRegister lent address len answers =
     let granularity : ℕ = granularityOf (lent .state) in
     wholeChunks (offsetOf (lent .state)) granularity (spans (entriesIn (lent .state))) (endChunk granularity address len - firstChunk granularity address) (firstChunk granularity address) (lent .registered) (lent .failed) answers
@@ -91,7 +91,7 @@ wholeSpans offset granularity entries alignment ignore (span ∷ later) answers 
     (cond (empty p) (wholeSpans offset granularity entries alignment ignore later answers registered failed)
     (wholeSpan offset granularity (p .end / granularity - p .start / granularity) (p .start / granularity) (p .start / granularity) answers registered failed (λ answers registered. wholeSpans offset granularity entries alignment ignore later answers registered failed)))
 
-unfoldable pub wholeAll : World → ℕ → ℕ → List Bool → Whole
+unfoldable pub wholeAll : Buffers → ℕ → ℕ → List Bool → Whole
 wholeAll lent alignment ignore answers =
     wholeSpans (offsetOf (lent .state)) (granularityOf (lent .state)) (entriesIn (lent .state)) alignment ignore (spans (entriesIn (lent .state))) answers (lent .registered) (lent .failed)
 
@@ -111,6 +111,6 @@ Words m = (j : ℕ) → getD m j 0 < 2 ^ 64
 -- the steps of a call tell what the whole call does, k operations having been asked for before
 pub record Match (k : ℕ) (t : Told) (w : Whole) : Type 0 where
   pub same-asked : t .asked ≡ w .asked
-  pub same-registered : t .last .world .registered ≡ w .registered
-  pub same-failed : t .last .world .failed ≡ w .failed
+  pub same-registered : t .last .buffers .registered ≡ w .registered
+  pub same-failed : t .last .buffers .failed ≡ w .failed
   pub same-reply : Says (k + length (w .asked)) (t .last .reply) (w .status)

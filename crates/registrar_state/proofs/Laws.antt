@@ -30,7 +30,7 @@ use Rattle.registrar_steps.specs.declared.Plan.{Plan}
 use Rattle.registrar_steps.specs.declared.Stop.{Stop}
 use Rattle.registrar_steps.specs.Steps.{ChunkState, chunkState, idle, isIdle, ends, ramFrom, passes, stopAt, allFrom}
 use Rattle.registrar_steps.proofs.Laws.{register-done}
-use Rattle.registrar_state.specs.World.{World, outcome, requestOf, requestWords, withRequest, offsetOf, granularityOf, ramOf, entriesIn, chunkStateIn, flatOf, lengthsFit, buildRefusal, callRefusal, countIn, chunksFit, marked, carriedOut, registerPlan, isKnown, restOf}
+use Rattle.registrar_state.specs.Buffers.{Buffers, outcome, requestOf, requestWords, withRequest, offsetOf, granularityOf, ramOf, entriesIn, chunkStateIn, flatOf, lengthsFit, buildRefusal, callRefusal, countIn, chunksFit, marked, carriedOut, registerPlan, isKnown, restOf}
 
 -- ---- the request's words
 
@@ -93,7 +93,7 @@ none-refused true false d n rest e h = absurd (omega arith)
 none-refused true true false n rest e h = absurd (omega arith)
 none-refused true true true n rest e h = (refl, refl)
 
-module _ (w : World) where
+module _ (w : Buffers) where
   abbrev long : Bool
   long = eqb (length (w .state)) registrarLen
 
@@ -126,7 +126,7 @@ module _ (first end n : ℕ) where
 
 -- ---- refusals of a build
 
-module _ (w : World) (ram : List ℕ) (o g n : ℕ) (e : n ≡ refusalOf ram) where
+module _ (w : Buffers) (ram : List ℕ) (o g n : ℕ) (e : n ≡ refusalOf ram) where
   pub build-unfit : n ≡ refusal.unfitLayout → refusal.unfitLayout ≡ buildRefusal w ram o g
   unfolding buildRefusal
   build-unfit h = rw (eq-eqb (refusalOf ram) refusal.unfitLayout (sym e ∙ h))
@@ -173,7 +173,7 @@ module _ (w : World) (ram : List ℕ) (o g n : ℕ) (e : n ≡ refusalOf ram) wh
             build-last h = sym (rw (eq-eqb (length (w .state)) registrarLen i, h)) ∙ build-left
 
 -- what a build that is taken was given
-pub record BuildFits (w : World) (ram : List ℕ) (o g : ℕ) : Type 0 where
+pub record BuildFits (w : Buffers) (ram : List ℕ) (o g : ℕ) : Type 0 where
   pub layout : refusalOf ram ≡ 0
   pub room : o + lastEnd (entriesOf ram) < 2 ^ 64
   pub block : length (w .state) ≡ registrarLen
@@ -181,7 +181,7 @@ pub record BuildFits (w : World) (ram : List ℕ) (o g : ℕ) : Type 0 where
   pub power : isPower g ≡ true
   pub lengths : lengthsFit g (entriesOf ram) (w .registered) (w .failed) ≡ true
 
-pub build-fits : (w : World) (ram : List ℕ) (o g : ℕ) → buildRefusal w ram o g ≡ 0 → BuildFits w ram o g
+pub build-fits : (w : Buffers) (ram : List ℕ) (o g : ℕ) → buildRefusal w ram o g ≡ 0 → BuildFits w ram o g
 unfolding buildRefusal
 build-fits w ram o g z =
     let a = when-passed (eqb (refusalOf ram) refusal.unfitLayout) 0 _ z in
@@ -196,7 +196,7 @@ build-fits w ram o g z =
 
 -- ---- plans
 
-module _ (w : World) (ram : List ℕ) (e : ram ≡ ramOf (w .state)) where
+module _ (w : Buffers) (ram : List ℕ) (e : ram ≡ ramOf (w .state)) where
   abbrev seenOver : List ℕ → ChunkState
   seenOver l = chunkState (granularityOf (w .state)) (entriesOf l) (w .registered) (w .failed)
 
@@ -251,7 +251,7 @@ idle-is q h =
     let i = both-true (eqb (q .alignment) 0) _ (g .1) in
     zeros _ _ _ _ _ _ _ _ _ (eqb-true _ _ (a .0)) (eqb-true _ _ (b .0)) (eqb-true _ _ (c .0)) (eqb-true _ _ (d .0)) (eqb-true _ _ (e .0)) (eqb-true _ _ (f .0)) (eqb-true _ _ (g .0)) (eqb-true _ _ (i .0)) (eqb-true _ _ (i .1))
 
-module _ (w : World) (address len : ℕ) (h : length (w .state) ≡ registrarLen)
+module _ (w : Buffers) (address len : ℕ) (h : length (w .state) ≡ registrarLen)
     (k : isKnown (w .state) (w .registered) (firstChunk (granularityOf (w .state)) address) (endChunk (granularityOf (w .state)) address len) ≡ true) where
   abbrev first : ℕ
   first = firstChunk (granularityOf (w .state)) address
@@ -291,6 +291,6 @@ module _ (w : World) (address len : ℕ) (h : length (w .state) ≡ registrarLen
       ∙ ap (λ (q : Request). withRequest q (w .state)) (idle-is (requestOf (w .state)) (and-left (isIdle (requestOf (w .state))) _ k))
 
   -- no word changes
-  pub known-kept : record { world = w; reply = flatOf (Done 0) } ≡ carriedOut w (registerPlan w address len)
+  pub known-kept : record { buffers = w; reply = flatOf (Done 0) } ≡ carriedOut w (registerPlan w address len)
   known-kept =
       ap₂ (λ (s m : List ℕ). outcome s m (w .failed) (flatOf (Done 0))) known-state known-marks ∙ ap (carriedOut w) known-plan

@@ -9,7 +9,7 @@ ghost use Rattle.abi.specs.Lengths.{registrarLen, wordBits};
 ghost use Rattle.layout.specs.Layout.{range, spans};
 ghost use Rattle.registrar_steps.specs.declared.Answer.the-variants.{Done, Register, RegistrationFailed, Refused};
 ghost use Rattle.chunks.specs.Chunks.{up, chunkCount, isPower};
-ghost use Rattle.registrar_state.specs.World.{world, simple, flatUnaligned, requestOf, withRequest, offsetOf, granularityOf, ramOf, entriesIn, chunkStateIn, flatOf, buildRefusal, callRefusal, countIn, chunksFit, allRefusal, isKnown, answerRefusal, restOf};
+ghost use Rattle.registrar_state.specs.Buffers.{buffers, simple, flatUnaligned, requestOf, withRequest, offsetOf, granularityOf, ramOf, entriesIn, chunkStateIn, flatOf, buildRefusal, callRefusal, countIn, chunksFit, allRefusal, isKnown, answerRefusal, restOf};
 ghost use Rattle.registrar_steps.specs.Steps.{stopAt, allFrom};
 ghost use Rattle.laws.specs.Refusal.{unless};
 use abi::FULL_WORD;
@@ -204,7 +204,7 @@ pub fn chunk_count(state: &[u64]) -> u64
 // What refuses both requests alike: 4 of the state block, 19, 4 of the bitmaps.
 fn call_refusal(state: &[u64], registered: &[u64], failed: &[u64], total: u64) -> u64
     requires { ⌜ total ≡ countIn (now state) ⌝ }
-    ensures { λ r. ⌜ r ≡ callRefusal (world (now (state .entry)) (now (registered .entry)) (now (failed .entry))) 0 ⌝ }
+    ensures { λ r. ⌜ r ≡ callRefusal (buffers (now (state .entry)) (now (registered .entry)) (now (failed .entry))) 0 ⌝ }
 {
     if state.len() != REGISTRAR_WORDS {
         return refusal::WRONG_LENGTH;
@@ -245,7 +245,7 @@ pub fn register_refusal(
     end: u64,
 ) -> u64
     requires { ⌜ total ≡ countIn (now state) ⌝ }
-    ensures { λ r. ⌜ r ≡ callRefusal (world (now (state .entry)) (now (registered .entry)) (now (failed .entry))) (unless (chunksFit (now (state .entry)) first end) refusal.unfitChunk 0) ⌝ }
+    ensures { λ r. ⌜ r ≡ callRefusal (buffers (now (state .entry)) (now (registered .entry)) (now (failed .entry))) (unless (chunksFit (now (state .entry)) first end) refusal.unfitChunk 0) ⌝ }
 {
     let number = call_refusal(state, registered, failed, total);
     if number != 0 {
@@ -279,7 +279,7 @@ pub fn all_refusal(
     ignore: u64,
 ) -> u64
     requires { ⌜ total ≡ countIn (now state) ⌝ }
-    ensures { λ r. ⌜ r ≡ allRefusal (world (now (state .entry)) (now (registered .entry)) (now (failed .entry))) alignment ignore ⌝ }
+    ensures { λ r. ⌜ r ≡ allRefusal (buffers (now (state .entry)) (now (registered .entry)) (now (failed .entry))) alignment ignore ⌝ }
 {
     let number = call_refusal(state, registered, failed, total);
     if number != 0 {
@@ -298,7 +298,7 @@ pub fn all_refusal(
 // What refuses an answer, done or failed.
 pub fn answer_refusal(state: &[u64], registered: &[u64], failed: &[u64], total: u64) -> u64
     requires { ⌜ total ≡ countIn (now state) ⌝ }
-    ensures { λ r. ⌜ r ≡ answerRefusal (world (now (state .entry)) (now (registered .entry)) (now (failed .entry))) ⌝ }
+    ensures { λ r. ⌜ r ≡ answerRefusal (buffers (now (state .entry)) (now (registered .entry)) (now (failed .entry))) ⌝ }
 {
     if state.len() != REGISTRAR_WORDS {
         return refusal::WRONG_LENGTH;
@@ -321,7 +321,7 @@ pub fn build_refusal(
     registered: &[u64],
     failed: &[u64],
 ) -> u64
-    ensures { λ r. ⌜ r ≡ buildRefusal (world (now (state .entry)) (now (registered .entry)) (now (failed .entry))) (now (ram .entry)) offset granularity ⌝ }
+    ensures { λ r. ⌜ r ≡ buildRefusal (buffers (now (state .entry)) (now (registered .entry)) (now (failed .entry))) (now (ram .entry)) offset granularity ⌝ }
 {
     let unfit = layout::refusal(ram);
     if unfit == refusal::UNFIT_LAYOUT {
@@ -370,7 +370,7 @@ pub fn register_stop(
     until: u64,
 ) -> Stop
     requires { ⌜ (length (now state) ≡ registrarLen) × (total ≡ chunkCount (granularityOf (now state)) (entriesIn (now state))) ⌝ }
-    ensures { λ r. ⌜ (r ≡ stopAt (chunkStateIn (world (now (state .entry)) (now (registered .entry)) (now (failed .entry)))) from (min until total)) × (r .chunk < min until total → r .chunk * granularityOf (now (state .entry)) < 2 ^ 64) ⌝ }
+    ensures { λ r. ⌜ (r ≡ stopAt (chunkStateIn (buffers (now (state .entry)) (now (registered .entry)) (now (failed .entry)))) from (min until total)) × (r .chunk < min until total → r .chunk * granularityOf (now (state .entry)) < 2 ^ 64) ⌝ }
 {
     registrar_steps::stop_from(
         ram_of(state),
@@ -394,7 +394,7 @@ pub fn all_plan(
     chunk: u64,
 ) -> Plan
     requires { ⌜ length (now state) ≡ registrarLen ⌝ }
-    ensures { λ r. ⌜ r ≡ allFrom (chunkStateIn (world (now (state .entry)) (now (registered .entry)) (now (failed .entry)))) (offsetOf (now (state .entry))) count alignment ignore chunk (spans (entriesIn (now (state .entry)))) ⌝ }
+    ensures { λ r. ⌜ r ≡ allFrom (chunkStateIn (buffers (now (state .entry)) (now (registered .entry)) (now (failed .entry)))) (offsetOf (now (state .entry))) count alignment ignore chunk (spans (entriesIn (now (state .entry)))) ⌝ }
 {
     registrar_steps::all_from(
         ram_of(state),

@@ -9,12 +9,12 @@ use lib.Dec.{eqb}
 use lib.ListN.{getD, replicate}
 use Rattle.laws.specs.Bools.{took, took-not}
 use Rattle.recording.specs.Lists.{Filling, filling, afterRuns, withRuns, entryPlace, withEntries, partOf}
-use Rattle.playback.specs.declared.world.World.{World}
-use Rattle.playback.specs.declared.world.Call.{Call}
+use Rattle.playback.specs.declared.buffers.Buffers.{Buffers}
+use Rattle.playback.specs.declared.buffers.Call.{Call}
 use Rattle.playback.specs.declared.registry.Registry.{Registry}
 use Rattle.playback.specs.Registry as registry
 use Rattle.replay.specs.Tally.{recorded, resultOf, isSame, bumped, cellOf, counted, notedOf}
-use Rattle.replay.specs.Lines.{fieldsAt, runsAt, afterLine, putOf, putTimes, putOften, comparedTo, worldAfter, tallyAfter, afterLines, registryComparedTo, registryAfter, registryTally}
+use Rattle.replay.specs.Lines.{fieldsAt, runsAt, afterLine, putOf, putTimes, putOften, comparedTo, buffersAfter, tallyAfter, afterLines, registryComparedTo, registryAfter, registryTally}
 
 -- ---- how a number stands in the file
 
@@ -100,8 +100,8 @@ module _ (t f g : List ℕ) (n col : ℕ) (a b c : List ℕ) (p : a ≡ bumped t
 less : (k : ℕ) → suc k - 1 ≡ k
 less k = omega arith
 
-module _ (w : World) (c : Call) (l ram : List ℕ) where
-  pub times-next : (n : ℕ) (v : World) → 0 < n → v ≡ putOf w c l ram → putTimes (n - 1) v c l ram ≡ putTimes n w c l ram
+module _ (w : Buffers) (c : Call) (l ram : List ℕ) where
+  pub times-next : (n : ℕ) (v : Buffers) → 0 < n → v ≡ putOf w c l ram → putTimes (n - 1) v c l ram ≡ putTimes n w c l ram
   unfolding putTimes
   times-next zero v h p = absurd (omega arith)
   times-next (suc k) v h p = rw (less k, p)
@@ -113,8 +113,8 @@ module _ (w : World) (c : Call) (l ram : List ℕ) where
 
 -- ---- lines
 
-module _ (s : List ℕ) (w : World) (at : ℕ) (t : List ℕ) where
-  pub lines-next : (n : ℕ) (v : World) (k : ℕ) (u : List ℕ) → 0 < n → v ≡ worldAfter s w at → k ≡ afterLine s at → u ≡ comparedTo (worldAfter s w at) (fieldsAt s at) t
+module _ (s : List ℕ) (w : Buffers) (at : ℕ) (t : List ℕ) where
+  pub lines-next : (n : ℕ) (v : Buffers) (k : ℕ) (u : List ℕ) → 0 < n → v ≡ buffersAfter s w at → k ≡ afterLine s at → u ≡ comparedTo (buffersAfter s w at) (fieldsAt s at) t
       → tallyAfter (n - 1) s v k u ≡ tallyAfter n s w at t
   unfolding tallyAfter
   lines-next zero v k u h p q r = absurd (omega arith)
@@ -164,8 +164,8 @@ module _ (s : List ℕ) (at : ℕ) (f : List ℕ) (a : ℕ) (c : Call) (m ram : 
     list-read : l ≡ (let x : Filling = withRuns (c .runs) s a (filling (replicate 4096 0) 0) in partOf (x .bytes) (x .at))
     list-read = el ∙ ap (λ (x : Filling). partOf (x .bytes) (x .at)) eb
 
-    pub protector-line : (w v : World) → v ≡ putOften w c l ram → v ≡ worldAfter s w at
+    pub protector-line : (w v : Buffers) → v ≡ putOften w c l ram → v ≡ buffersAfter s w at
     protector-line w v p = rw (p, list-read, er, em, ek, ea, ec, ef)
 
-    pub protector-compared : (w v : World) (t u : List ℕ) → v ≡ putOften w c l ram → u ≡ comparedTo v f t → u ≡ comparedTo (worldAfter s w at) (fieldsAt s at) t
-    protector-compared w v t u p q = q ∙ ap₂ (λ (x : World) (y : List ℕ). comparedTo x y t) (protector-line w v p) ef
+    pub protector-compared : (w v : Buffers) (t u : List ℕ) → v ≡ putOften w c l ram → u ≡ comparedTo v f t → u ≡ comparedTo (buffersAfter s w at) (fieldsAt s at) t
+    protector-compared w v t u p q = q ∙ ap₂ (λ (x : Buffers) (y : List ℕ). comparedTo x y t) (protector-line w v p) ef

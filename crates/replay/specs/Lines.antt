@@ -7,15 +7,15 @@ use lib.ListN.{getD, replicate}
 use Rattle.abi.specs.Lengths.{registrarLen, ramLen}
 use Rattle.abi.specs.Limits as limit
 use Rattle.abi.specs.Places as place
-use Rattle.registrar_state.specs.World as chunks
+use Rattle.registrar_state.specs.Buffers as chunks
 use Rattle.recording.specs.Decode.{numbersAt, afterNumbers}
 use Rattle.recording.specs.Digest.{start}
 use Rattle.recording.specs.Kinds as kind
 use Rattle.recording.specs.Lists.{Filling, filling, afterRuns, withRuns, entryPlace, withEntries, partOf}
-use Rattle.playback.specs.declared.world.World.{World}
-use Rattle.playback.specs.declared.world.Call.{Call}
+use Rattle.playback.specs.declared.buffers.Buffers.{Buffers}
+use Rattle.playback.specs.declared.buffers.Call.{Call}
 use Rattle.playback.specs.declared.registry.Registry.{Registry}
-use Rattle.playback.specs.World.{withAsked}
+use Rattle.playback.specs.Buffers.{withAsked}
 use Rattle.playback.specs.Calls.{buildOf, callOf}
 use Rattle.playback.specs.Answers.{finishedOf}
 use Rattle.playback.specs.Left.{leftOf}
@@ -49,33 +49,33 @@ afterLine s at = afterRuns (callAt s at .runs) s (runsAt s at)
 -- ---- the protector's
 
 -- a call run to its end
-unfoldable pub putOf : World → Call → List ℕ → List ℕ → World
-putOf world c l ram = cond (eqb (c .kind) kind.build) (buildOf (withAsked world start) c ram) (finishedOf (callOf (withAsked world start) c l) c)
+unfoldable pub putOf : Buffers → Call → List ℕ → List ℕ → Buffers
+putOf buffers c l ram = cond (eqb (c .kind) kind.build) (buildOf (withAsked buffers start) c ram) (finishedOf (callOf (withAsked buffers start) c l) c)
 
 -- of a call that fails nowhere the place of the code says how often it is put before
 abbrev pub timesBefore : Call → ℕ
 timesBefore c = cond (eqb (c .place) 0) (c .code) 0
 
-unfoldable pub putTimes : ℕ → World → Call → List ℕ → List ℕ → World
-putTimes zero world c l ram = world
-putTimes (suc n) world c l ram = putTimes n (putOf world c l ram) c l ram
+unfoldable pub putTimes : ℕ → Buffers → Call → List ℕ → List ℕ → Buffers
+putTimes zero buffers c l ram = buffers
+putTimes (suc n) buffers c l ram = putTimes n (putOf buffers c l ram) c l ram
 
-abbrev pub putOften : World → Call → List ℕ → List ℕ → World
-putOften world c l ram = putOf (putTimes (timesBefore c) world c l ram) c l ram
+abbrev pub putOften : Buffers → Call → List ℕ → List ℕ → Buffers
+putOften buffers c l ram = putOf (putTimes (timesBefore c) buffers c l ram) c l ram
 
-abbrev pub givenBy : World → List ℕ
-givenBy world = resultOf (world .reply .number) ∷ world .reply .code ∷ world .reply .index ∷ world .reply .count ∷ world .asked ∷ leftOf world ∷ []
+abbrev pub givenBy : Buffers → List ℕ
+givenBy buffers = resultOf (buffers .reply .number) ∷ buffers .reply .code ∷ buffers .reply .index ∷ buffers .reply .count ∷ buffers .asked ∷ leftOf buffers ∷ []
 
-abbrev pub comparedTo : World → List ℕ → List ℕ → List ℕ
-comparedTo world f t = notedOf t f (givenBy world) (world .reply .number) (getD (world .state) place.isolation 0 % columns + 2)
+abbrev pub comparedTo : Buffers → List ℕ → List ℕ → List ℕ
+comparedTo buffers f t = notedOf t f (givenBy buffers) (buffers .reply .number) (getD (buffers .state) place.isolation 0 % columns + 2)
 
-abbrev pub worldAfter : List ℕ → World → ℕ → World
-worldAfter s world at = putOften world (callAt s at) (listAt s at) (ramAt s at)
+abbrev pub buffersAfter : List ℕ → Buffers → ℕ → Buffers
+buffersAfter s buffers at = putOften buffers (callAt s at) (listAt s at) (ramAt s at)
 
 -- so many lines: the counts, and the place after them
-unfoldable pub tallyAfter : ℕ → List ℕ → World → ℕ → List ℕ → List ℕ
-tallyAfter zero s world at t = t
-tallyAfter (suc n) s world at t = tallyAfter n s (worldAfter s world at) (afterLine s at) (comparedTo (worldAfter s world at) (fieldsAt s at) t)
+unfoldable pub tallyAfter : ℕ → List ℕ → Buffers → ℕ → List ℕ → List ℕ
+tallyAfter zero s buffers at t = t
+tallyAfter (suc n) s buffers at t = tallyAfter n s (buffersAfter s buffers at) (afterLine s at) (comparedTo (buffersAfter s buffers at) (fieldsAt s at) t)
 
 unfoldable pub afterLines : ℕ → List ℕ → ℕ → ℕ
 afterLines zero s at = at

@@ -5,7 +5,7 @@ use Prim.Native.Nat.{ℕ, _+_, _*_, _%_, _^_}
 use lib.Dec.{eqb, ltb}
 use lib.ListN.{getD, set}
 use Rattle.abi.specs.Refusals as refusal
-use Rattle.playback.specs.declared.world.Call.{Call}
+use Rattle.playback.specs.declared.buffers.Call.{Call}
 use Rattle.replay.specs.Fields as field
 
 -- ---- where the counts stand: of all calls, of those as recorded, of the others; by 01's number; by kind and column, of all and of those as recorded

@@ -1,33 +1,33 @@
 // The protector's part of the file.
 ghost use mathlib.Core.Path.{_≡_};
 ghost use Rattle.recording.specs.Decode.{numberAt};
-ghost use Rattle.playback.specs.World.{noWorld};
-ghost use Rattle.replay.specs.Lines.{fieldsAt, afterLine, putOf, timesBefore, putOften, comparedTo, worldAfter, tallyAfter, afterLines};
+ghost use Rattle.playback.specs.Buffers.{noBuffers};
+ghost use Rattle.replay.specs.Lines.{fieldsAt, afterLine, putOf, timesBefore, putOften, comparedTo, buffersAfter, tallyAfter, afterLines};
 use crate::field;
 use crate::given;
 use crate::tally;
 use abi::limit;
 use abi::place;
 use playback::answers;
+use playback::buffers;
+use playback::buffers::Buffers;
+use playback::buffers::Call;
 use playback::calls;
 use playback::left;
-use playback::world;
-use playback::world::Call;
-use playback::world::World;
 use recording::decode;
 use recording::kind;
 use recording::lists;
 
 // What is lent to the next call, and the place of its line.
 struct Step {
-    world: World,
+    buffers: Buffers,
     next: usize,
 }
 
-fn put(world: World, c: Call, list: &[u8], ram: &[u64]) -> World
-    ensures { λ r. ⌜ r ≡ putOf world c (now (list .entry)) (now (ram .entry)) ⌝ }
+fn put(buffers: Buffers, c: Call, list: &[u8], ram: &[u64]) -> Buffers
+    ensures { λ r. ⌜ r ≡ putOf buffers c (now (list .entry)) (now (ram .entry)) ⌝ }
 {
-    let mut fresh = world;
+    let mut fresh = buffers;
     fresh.asked = recording::digest::START;
     if c.kind == kind::BUILD {
         return calls::build(fresh, c, ram);
@@ -45,10 +45,10 @@ fn times_before(c: Call) -> u64
     0
 }
 
-fn put_often(world: World, c: Call, list: &[u8], ram: &[u64]) -> World
-    ensures { λ r. ⌜ r ≡ putOften world c (now (list .entry)) (now (ram .entry)) ⌝ }
+fn put_often(buffers: Buffers, c: Call, list: &[u8], ram: &[u64]) -> Buffers
+    ensures { λ r. ⌜ r ≡ putOften buffers c (now (list .entry)) (now (ram .entry)) ⌝ }
 {
-    let mut v = world;
+    let mut v = buffers;
     let mut left = times_before(c);
     while 0 < left {
         v = put(v, c, list, ram);
@@ -57,20 +57,20 @@ fn put_often(world: World, c: Call, list: &[u8], ram: &[u64]) -> World
     put(v, c, list, ram)
 }
 
-fn compare(world: World, f: &[u64; field::ALL], tally: &mut [u64])
-    ensures { λ _. ⌜ now (tally .exit) ≡ comparedTo world (now (f .entry)) (now (tally .entry)) ⌝ }
+fn compare(buffers: Buffers, f: &[u64; field::ALL], tally: &mut [u64])
+    ensures { λ _. ⌜ now (tally .exit) ≡ comparedTo buffers (now (f .entry)) (now (tally .entry)) ⌝ }
 {
-    let r = world.reply;
-    let state = world.state;
+    let r = buffers.reply;
+    let state = buffers.state;
     let result = tally::result_of(r.number);
-    let left = left::left(world);
-    let g: [u64; given::ALL] = [result, r.code, r.index, r.count, world.asked, left];
+    let left = left::left(buffers);
+    let g: [u64; given::ALL] = [result, r.code, r.index, r.count, buffers.asked, left];
     let column = state[place::ISOLATION] % tally::COLUMNS + 2;
     tally::note(tally, f, &g, r.number, column);
 }
 
 fn line(input: &[u8], step: Step, tally: &mut [u64]) -> Step
-    ensures { λ r. ⌜ (r .world ≡ worldAfter (now (input .entry)) (step .world) (step .next)) × (r .next ≡ afterLine (now (input .entry)) (step .next)) × (now (tally .exit) ≡ comparedTo (worldAfter (now (input .entry)) (step .world) (step .next)) (fieldsAt (now (input .entry)) (step .next)) (now (tally .entry))) ⌝ }
+    ensures { λ r. ⌜ (r .buffers ≡ buffersAfter (now (input .entry)) (step .buffers) (step .next)) × (r .next ≡ afterLine (now (input .entry)) (step .next)) × (now (tally .exit) ≡ comparedTo (buffersAfter (now (input .entry)) (step .buffers) (step .next)) (fieldsAt (now (input .entry)) (step .next)) (now (tally .entry))) ⌝ }
 {
     let mut f = [0u64; field::ALL];
     let mut list = [0u8; limit::LIST_BYTES];
@@ -80,25 +80,25 @@ fn line(input: &[u8], step: Step, tally: &mut [u64]) -> Step
     let filled = lists::fill(&mut list, input, at, c.runs);
     let words = lists::ram(&mut ram, input, at, c.runs);
     let w = put_often(
-        step.world,
+        step.buffers,
         c,
         lists::part(&list, filled.len),
         lists::words_part(&ram, words),
     );
     compare(w, &f, tally);
     Step {
-        world: w,
+        buffers: w,
         next: filled.next,
     }
 }
 
 // The calls of this part are put and counted: how many lines, then a line for each. The place after them.
 pub fn run(input: &[u8], from: usize, tally: &mut [u64]) -> usize
-    ensures { λ r. ⌜ (now (tally .exit) ≡ tallyAfter (numberAt (now (input .entry)) from .value) (now (input .entry)) noWorld (numberAt (now (input .entry)) from .next) (now (tally .entry))) × (r ≡ afterLines (numberAt (now (input .entry)) from .value) (now (input .entry)) (numberAt (now (input .entry)) from .next)) ⌝ }
+    ensures { λ r. ⌜ (now (tally .exit) ≡ tallyAfter (numberAt (now (input .entry)) from .value) (now (input .entry)) noBuffers (numberAt (now (input .entry)) from .next) (now (tally .entry))) × (r ≡ afterLines (numberAt (now (input .entry)) from .value) (now (input .entry)) (numberAt (now (input .entry)) from .next)) ⌝ }
 {
     let count = decode::number(input, from);
     let mut s = Step {
-        world: world::nothing(),
+        buffers: buffers::nothing(),
         next: count.next,
     };
     let mut left = count.value;

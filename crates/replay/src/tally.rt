@@ -4,7 +4,7 @@ ghost use Rattle.replay.specs.Tally.{recorded, resultOf, isSame, bumped,
 use crate::field;
 use crate::given;
 use abi::refusal;
-use playback::world::Call;
+use playback::buffers::Call;
 
 // Where the counts stand: of all calls, of those as recorded, of the others.
 pub const ALL: u64 = 0;

@@ -26,7 +26,7 @@ use Rattle.protector_state.specs.declared.Reply.{Reply}
 use Rattle.protector_state.specs.State.{stateLen, withRequest, settingsOf, builtState}
 use Rattle.protector_state.specs.Reply.{finished, flatOf}
 use Rattle.protector_state.specs.Changing.{withChange}
-use Rattle.call_refusals.specs.World.{World, outcome, lengthsIn, statusIn}
+use Rattle.call_refusals.specs.Buffers.{Buffers, outcome, lengthsIn, statusIn}
 use Rattle.call_refusals.proofs.Laws.{is-ready}
 use Rattle.protector.specs.Writes.{permittedRun, entered, applied}
 use Rattle.queries.specs.Queries.{queryRefusal, ramBefore, visibilities, filledBy, Query, query, queryTaken, queryOf}
@@ -54,7 +54,7 @@ module _ (s : List ℕ) (fits : Bool) (n : ℕ) (z : n ≡ 0) where
       let b = when-passed (eqb (statusIn s) 20) 19 _ (a .1) in
       passed fits 3 _ (b .1) .0
 
-pub build-passed : (ram : List ℕ) (isolation tracked release : ℕ) (w : World) (n : ℕ) → n ≡ 0
+pub build-passed : (ram : List ℕ) (isolation tracked release : ℕ) (w : Buffers) (n : ℕ) → n ≡ 0
     → n ≡ buildRefusal ram isolation tracked release (buildFits (mapLen (entriesOf ram)) tracked (length (w .state)) (lengthsIn w))
     → (length (w .state) ≡ stateLen) × (length ram ≤ 96)
 unfolding buildRefusal
@@ -67,14 +67,14 @@ build-passed ram isolation tracked release w n z e =
 
 -- ---- a step carried out
 
-pub carried : (w : World) (table : List ℕ) (set : Settings) (st x : Step) (m : Maps) (s : List ℕ) (r : Reply) → set ≡ settingsOf (w .state) → st ≡ x
+pub carried : (w : Buffers) (table : List ℕ) (set : Settings) (st x : Step) (m : Maps) (s : List ℕ) (r : Reply) → set ≡ settingsOf (w .state) → st ≡ x
     → m ≡ applied table (st .writes) (w .maps) → s ≡ withRequest (st .phase) (st .request) (w .state) → r ≡ flatOf (set .isolation) (st .answer)
     → outcome m s table (w .tables) r ≡ carriedOut w table x
 unfolding carriedOut
 carried w table set st x m s r e d a b c =
     rw (a, b, c ∙ ap (λ (y : Settings). flatOf (y .isolation) (st .answer)) e) (ap (λ (y : Step). outcome (applied table (y .writes) (w .maps)) (withRequest (y .phase) (y .request) (w .state)) table (w .tables) (flatOf (settingsOf (w .state) .isolation) (y .answer))) d)
 
-pub changed : (w : World) (x : ChangeStep) (a b c d s t : List ℕ) (r : Reply)
+pub changed : (w : Buffers) (x : ChangeStep) (a b c d s t : List ℕ) (r : Reply)
     → (perms a b c d ≡ permittedRun (x .written) (flagsOf (x .change .flags)) (w .maps .permissions)) × ((s ≡ withChange (x .stage) (x .change) (w .state)) × ((t ≡ entered (x .entry) (x .change) (w .tables)) × (r ≡ flatOf (settingsOf (w .state) .isolation) (x .answer))))
     → outcome (maps (w .maps .private) (w .maps .shared) a b c d) s (w .pages) t r ≡ carriedChange w (w .pages) x
 unfolding carriedChange
@@ -83,7 +83,7 @@ changed w x a b c d s t r h =
     ∙ ap₂ (λ (y z : List ℕ). outcome (withPermissions (w .maps) (x .written) (flagsOf (x .change .flags))) y (w .pages) z r) (h .1 .0) (h .1 .1 .0)
     ∙ ap (outcome (withPermissions (w .maps) (x .written) (flagsOf (x .change .flags))) (withChange (x .stage) (x .change) (w .state)) (w .pages) (entered (x .entry) (x .change) (w .tables))) (h .1 .1 .1)
 
-module _ (w : World) (v : GuestVtl) (share : Bool) (l : List ℕ) where
+module _ (w : Buffers) (v : GuestVtl) (share : Bool) (l : List ℕ) where
   -- a call that is taken begins with n pages, of a list of k that stops at a place
   abbrev begun : ℕ → ℕ → ℕ → Step
   begun n stop k = startOf (settingsOf (w .state)) v share n stop (ltb stop k)
@@ -103,7 +103,7 @@ module _ (w : World) (v : GuestVtl) (share : Bool) (l : List ℕ) where
       ∙ ap₂ (carriedOut w) (e5 ∙ ap (λ (k : ℕ). tableOf (wanted (w .maps .shared) share) (take k ps) (w .pages)) f)
       (ap₂ (λ (n k : ℕ). begun n stop k) e4 e6 ∙ ap (λ (k : ℕ). begun (length (pick (wanted (w .maps .shared) share) (take k ps))) k (length ps)) f)
 
-pub build-made : (w : World) (ram : List ℕ) (isolation tracked release : ℕ) (m : Maps) (s p t : List ℕ) (r : Reply) → m ≡ built (entriesOf ram) (w .maps) → s ≡ builtState ram isolation tracked release
+pub build-made : (w : Buffers) (ram : List ℕ) (isolation tracked release : ℕ) (m : Maps) (s p t : List ℕ) (r : Reply) → m ≡ built (entriesOf ram) (w .maps) → s ≡ builtState ram isolation tracked release
     → p ≡ replicate (length (w .pages)) 0 → t ≡ replicate (length (w .tables)) 0 → r ≡ finished 0 0 0 0 → outcome m s p t r ≡ buildTaken w ram isolation tracked release
 unfolding buildTaken
 build-made w ram isolation tracked release m s p t r a b c d e = rw (a, b, c, d, e) refl

@@ -1,7 +1,7 @@
 // The protector's entries: build, visibility changes, answers, queries and faults. Every one takes any lengths, any numbers, any bytes and words.
 ghost use mathlib.Core.Path.{_≡_};
 ghost use Rattle.mapping.specs.Maps.{maps};
-ghost use Rattle.call_refusals.specs.World.{world, outcome};
+ghost use Rattle.call_refusals.specs.Buffers.{buffers, outcome};
 ghost use Rattle.protector.specs.Calls.{buildOf, visibilityOf, answerDone, answerFailed};
 ghost use Rattle.queries.specs.Queries.{query, queryOf, faultIn, lowerIn, accessIn};
 use abi::STATE_WORDS;
@@ -33,7 +33,7 @@ pub extern "C" fn protector_build(
     tables: &mut [u64],
 ) -> Reply
     ensures { λ r. ⌜ outcome (maps (now (private .exit)) (now (shared .exit)) (now (read .exit)) (now (write .exit)) (now (kernel .exit)) (now (user .exit))) (now (state .exit)) (now (pages .exit)) (now (tables .exit)) r
-        ≡ buildOf (world (maps (now (private .entry)) (now (shared .entry)) (now (read .entry)) (now (write .entry)) (now (kernel .entry)) (now (user .entry))) (now (state .entry)) (now (pages .entry)) (now (tables .entry))) (now (ram .entry)) isolation tracked release ⌝ }
+        ≡ buildOf (buffers (maps (now (private .entry)) (now (shared .entry)) (now (read .entry)) (now (write .entry)) (now (kernel .entry)) (now (user .entry))) (now (state .entry)) (now (pages .entry)) (now (tables .entry))) (now (ram .entry)) isolation tracked release ⌝ }
 {
     let lengths = Lengths {
         maps: MapLengths {
@@ -83,7 +83,7 @@ pub extern "C" fn protector_change_host_visibility(
     list: &[u8],
 ) -> Reply
     ensures { λ r. ⌜ outcome (maps (now (private .exit)) (now (shared .exit)) (now (read .exit)) (now (write .exit)) (now (kernel .exit)) (now (user .exit))) (now (state .exit)) (now (pages .exit)) (now (tables .entry)) r
-        ≡ visibilityOf (world (maps (now (private .entry)) (now (shared .entry)) (now (read .entry)) (now (write .entry)) (now (kernel .entry)) (now (user .entry))) (now (state .entry)) (now (pages .entry)) (now (tables .entry))) vtl visibility (now (list .entry)) ⌝ }
+        ≡ visibilityOf (buffers (maps (now (private .entry)) (now (shared .entry)) (now (read .entry)) (now (write .entry)) (now (kernel .entry)) (now (user .entry))) (now (state .entry)) (now (pages .entry)) (now (tables .entry))) vtl visibility (now (list .entry)) ⌝ }
 {
     let lengths = Lengths {
         maps: MapLengths {
@@ -140,7 +140,7 @@ pub extern "C" fn protector_answer_done(
     tables: &mut [u64],
 ) -> Reply
     ensures { λ r. ⌜ outcome (maps (now (private .exit)) (now (shared .exit)) (now (read .exit)) (now (write .exit)) (now (kernel .exit)) (now (user .exit))) (now (state .exit)) (now (pages .exit)) (now (tables .exit)) r
-        ≡ answerDone (world (maps (now (private .entry)) (now (shared .entry)) (now (read .entry)) (now (write .entry)) (now (kernel .entry)) (now (user .entry))) (now (state .entry)) (now (pages .entry)) (now (tables .entry))) ⌝ }
+        ≡ answerDone (buffers (maps (now (private .entry)) (now (shared .entry)) (now (read .entry)) (now (write .entry)) (now (kernel .entry)) (now (user .entry))) (now (state .entry)) (now (pages .entry)) (now (tables .entry))) ⌝ }
 {
     let lengths = Lengths {
         maps: MapLengths {
@@ -181,7 +181,7 @@ pub extern "C" fn protector_answer_failed(
     processed: u64,
 ) -> Reply
     ensures { λ r. ⌜ outcome (maps (now (private .exit)) (now (shared .exit)) (now (read .exit)) (now (write .exit)) (now (kernel .exit)) (now (user .exit))) (now (state .exit)) (now (pages .exit)) (now (tables .exit)) r
-        ≡ answerFailed (world (maps (now (private .entry)) (now (shared .entry)) (now (read .entry)) (now (write .entry)) (now (kernel .entry)) (now (user .entry))) (now (state .entry)) (now (pages .entry)) (now (tables .entry))) code processed ⌝ }
+        ≡ answerFailed (buffers (maps (now (private .entry)) (now (shared .entry)) (now (read .entry)) (now (write .entry)) (now (kernel .entry)) (now (user .entry))) (now (state .entry)) (now (pages .entry)) (now (tables .entry))) code processed ⌝ }
 {
     let lengths = Lengths {
         maps: MapLengths {

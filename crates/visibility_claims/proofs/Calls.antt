@@ -35,7 +35,7 @@ use Rattle.protector_state.specs.declared.Reply.{Reply}
 use Rattle.protector_state.specs.State.{stateLen, phaseNumber, firstPhases, phaseOf, phaseIn, requestOf, requestWords, settingsOf, entriesIn}
 use Rattle.protector_state.specs.Reply.{modifies, askedOf, flatOf}
 use Rattle.protector_state.specs.Changing.{stageIn, isChanging}
-use Rattle.call_refusals.specs.World.{World, world, Outcome, outcome, fits, statusOf, statusIn, takes, takesAt, takesIn}
+use Rattle.call_refusals.specs.Buffers.{Buffers, buffers, Outcome, outcome, fits, statusOf, statusIn, takes, takesAt, takesIn}
 use Rattle.protector.specs.Writes.{applied}
 use Rattle.protector.specs.Calls.{refusedBy, decided, carriedOut, stopOf, askedFor, tableFor, visibilityTaken, visibilityOf, answerDone, answerFailed}
 use Rattle.call_refusals.specs.Refusals.{ready, visibilityRefusal, answerRefusal}
@@ -264,7 +264,7 @@ refusal-taken : (s : List ℕ) (p : Phase) (f b : Bool) → length s ≡ 128 →
 unfolding answerRefusal
 refusal-taken s p f b l c e d = rw (eq-eqb (length s) 128 l, c, e, d) (taken-at p b)
 
--- ---- the world that a step leaves: the words of its request before a tail that no answer changes
+-- ---- the buffers that a step leaves: the words of its request before a tail that no answer changes
 
 module _ (tail t tables : List ℕ) (long : length tail ≡ 118) (wide : 512 ≤ length t) where
   abbrev settings : Settings
@@ -274,7 +274,7 @@ module _ (tail t tables : List ℕ) (long : length tail ≡ 118) (wide : 512 ≤
   left x m = outcome (applied t (x .writes) m) (requestWords (x .phase) (x .request) ++ tail) t tables (flatOf (settings .isolation) (x .answer))
 
   abbrev fit : Maps → Bool
-  fit m = fits (world m (requestWords at.Idle noRequest ++ tail) t tables)
+  fit m = fits (buffers m (requestWords at.Idle noRequest ++ tail) t tables)
 
   length-put : (a b : ℕ) (s : Bool) (m : List ℕ) → length (put t a b s m) ≡ length m
   unfolding put
@@ -293,8 +293,8 @@ module _ (tail t tables : List ℕ) (long : length tail ≡ 118) (wide : 512 ≤
       )
 
   module _ (x : Step) (m : Maps) (h : x .request .n ≤ 512) (f : fit m ≡ true) where
-    abbrev w : World
-    w = left x m .world
+    abbrev w : Buffers
+    w = left x m .buffers
 
     block : length (w .state) ≡ 128
     block = omega arith
@@ -325,7 +325,7 @@ module _ (tail t tables : List ℕ) (long : length tail ≡ 118) (wide : 512 ≤
       let i : IsolationType = settings .isolation in
       record {
         same-asked = ap₂ (λ (l l′ : List Reply). l ++ l′) (asked-flat i t wide a h) (k .same-asked) ∙ sym (replies-more i (askedBy t a) (r .asked));
-        same-named = names-more (x .last .world .pages) (askedBy t a) (r .asked) (subst (λ (t′ : List ℕ). NamesAll t′ (askedBy t a)) (sym (k .same-pages)) (names-flat i t wide a h)) (k .same-named);
+        same-named = names-more (x .last .buffers .pages) (askedBy t a) (r .asked) (subst (λ (t′ : List ℕ). NamesAll t′ (askedBy t a)) (sym (k .same-pages)) (names-flat i t wide a h)) (k .same-named);
         same-maps = k .same-maps;
         same-reply = k .same-reply;
         same-pages = k .same-pages;
@@ -351,14 +351,14 @@ module _ (tail t tables : List ℕ) (long : length tail ≡ 118) (wide : 512 ≤
   followed (Succeeds ∷ gs) x m h f =
       let y : Step = doneOf settings (x .phase) (x .request) t in
       let m′ : Maps = applied t (x .writes) m in
-      answered (x .answer) (takes (x .phase) false) _ (run settings t y m′ gs) _ (follow (answerDone (left x m .world)) gs) _ (h .small) (taken x m (h .few) f false)
+      answered (x .answer) (takes (x .phase) false) _ (run settings t y m′ gs) _ (follow (answerDone (left x m .buffers)) gs) _ (h .small) (taken x m (h .few) f false)
       (λ e. subst (λ (o : Outcome). Same (run settings t y m′ gs) (follow o gs)) (sym (done-left x m (h .few) f e))
       (followed gs y m′ (done-few settings t (x .phase) (x .request) e (h .few)) (fit-kept (x .writes) m ∙ f)))
       (followed gs x m h f)
   followed (Fails code k ∷ gs) x m h f =
       let y : Step = failedOf settings (x .phase) (x .request) t code k in
       let m′ : Maps = applied t (x .writes) m in
-      answered (x .answer) (takes (x .phase) true) _ (run settings t y m′ gs) _ (follow (answerFailed (left x m .world) code k) gs) _ (h .small) (taken x m (h .few) f true)
+      answered (x .answer) (takes (x .phase) true) _ (run settings t y m′ gs) _ (follow (answerFailed (left x m .buffers) code k) gs) _ (h .small) (taken x m (h .few) f true)
       (λ e. subst (λ (o : Outcome). Same (run settings t y m′ gs) (follow o gs)) (sym (failed-left x m (h .few) f code k e))
       (followed gs y m′ (failed-few settings t (x .phase) (x .request) code k e (h .few)) (fit-kept (x .writes) m ∙ f)))
       (followed gs x m h f)
@@ -372,8 +372,8 @@ settings-kept s p q = rw (getD-drop 10 s 6 0, getD-drop 10 s 7 0, getD-drop 10 s
 entries-kept : (s : List ℕ) (p : Phase) (q : Request) → entriesIn (requestWords p q ++ drop 10 s) ≡ entriesIn s
 entries-kept s p q = rw (getD-drop 10 s 21 0, drop-drop 22 10 s)
 
-fits-kept : (w : World) (p : Phase) (q : Request) (t : List ℕ) → length t ≡ length (w .pages)
-    → fits (world (w .maps) (requestWords p q ++ drop 10 (w .state)) t (w .tables)) ≡ fits w
+fits-kept : (w : Buffers) (p : Phase) (q : Request) (t : List ℕ) → length t ≡ length (w .pages)
+    → fits (buffers (w .maps) (requestWords p q ++ drop 10 (w .state)) t (w .tables)) ≡ fits w
 fits-kept w p q t e = rw (getD-drop 10 (w .state) 7 0, getD-drop 10 (w .state) 21 0, drop-drop 22 10 (w .state), e)
 
 -- ---- what refuses a call: its input and the state first, then its pages
@@ -399,7 +399,7 @@ unfit-chain true true false d = refl
 unfit-chain true false c d = refl
 unfit-chain false b c d = refl
 
-refusal-is : (w : World) (vtl visibility : ℕ) (l : List ℕ) → visibilityRefusal (w .state) (fits w) (w .tables) vtl visibility l
+refusal-is : (w : Buffers) (vtl visibility : ℕ) (l : List ℕ) → visibilityRefusal (w .state) (fits w) (w .tables) vtl visibility l
     ≡ first (inputRefusal w vtl visibility l) (denial w (vtlOf vtl) (boolOf visibility) (pagesOf l))
 unfolding visibilityRefusal inputRefusal
 refusal-is w vtl visibility l =
@@ -411,21 +411,21 @@ refusal-is w vtl visibility l =
     ∙ unfit-chain (fitVtl vtl) (fitBool visibility) (isRagged l) d)))
 
 -- a call that is taken is refused by neither
-pub taken-input : (w : World) (vtl visibility : ℕ) (l : List ℕ) → visibilityRefusal (w .state) (fits w) (w .tables) vtl visibility l ≡ 0 → inputRefusal w vtl visibility l ≡ 0
+pub taken-input : (w : Buffers) (vtl visibility : ℕ) (l : List ℕ) → visibilityRefusal (w .state) (fits w) (w .tables) vtl visibility l ≡ 0 → inputRefusal w vtl visibility l ≡ 0
 taken-input w vtl visibility l z = first-passed (inputRefusal w vtl visibility l) _ (sym (refusal-is w vtl visibility l) ∙ z) .0
 
-pub taken-pages : (w : World) (vtl visibility : ℕ) (l : List ℕ) → visibilityRefusal (w .state) (fits w) (w .tables) vtl visibility l ≡ 0
+pub taken-pages : (w : Buffers) (vtl visibility : ℕ) (l : List ℕ) → visibilityRefusal (w .state) (fits w) (w .tables) vtl visibility l ≡ 0
     → denial w (vtlOf vtl) (boolOf visibility) (pagesOf l) ≡ 0
 taken-pages w vtl visibility l z = first-passed (inputRefusal w vtl visibility l) _ (sym (refusal-is w vtl visibility l) ∙ z) .1
 
 -- one whose input and state don't refuse it: what it was found to have
-record Taken (w : World) (l : List ℕ) : Type 0 where
+record Taken (w : Buffers) (l : List ℕ) : Type 0 where
   block : length (w .state) ≡ 128
   idle : statusIn (w .state) ≡ 0
   fit : fits w ≡ true
   short : length l ≤ 4096
 
-taken-call : (w : World) (vtl visibility : ℕ) (l : List ℕ) → inputRefusal w vtl visibility l ≡ 0 → Taken w l
+taken-call : (w : Buffers) (vtl visibility : ℕ) (l : List ℕ) → inputRefusal w vtl visibility l ≡ 0 → Taken w l
 unfolding inputRefusal
 taken-call w vtl visibility l z =
     let a = is-ready (w .state) (fits w) _ z in
@@ -455,10 +455,10 @@ idle-takes s b e = go (isChanging s) e
     go false e = none (phaseIn s) e
 
 -- the pages of Modify: the first of the table
-pub modify-pages : (w : World) (v : GuestVtl) (share : Bool) (l : List ℕ) → take (length (askedFor w v share l)) (tableFor w v share l) ≡ askedFor w v share l
+pub modify-pages : (w : Buffers) (v : GuestVtl) (share : Bool) (l : List ℕ) → take (length (askedFor w v share l)) (tableFor w v share l) ≡ askedFor w v share l
 modify-pages w v share l = in-use (wanted (w .maps .shared) share) (take (stopOf w v share l) (pagesOf l)) (w .pages)
 
-module _ (w : World) (v : GuestVtl) (l : List ℕ) (k : Taken w l) where
+module _ (w : Buffers) (v : GuestVtl) (l : List ℕ) (k : Taken w l) where
   pages-long : length (w .pages) ≡ 1024
   pages-long = fits-pages w (k .fit)
 

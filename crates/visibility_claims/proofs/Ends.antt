@@ -36,7 +36,7 @@ use Rattle.change_steps.specs.declared.ChangeStep.{ChangeStep}
 use Rattle.change_steps.specs.Changes as changes
 use Rattle.protector_state.specs.State.{stateLen, firstPhases, phaseOf, phaseIn, requestOf, settingsOf, entriesIn}
 use Rattle.protector_state.specs.Changing.{stageNumber, stageOf, stageIn, isChanging, changeIn, withChange}
-use Rattle.call_refusals.specs.World.{World, overlaysOf, fits, statusOf, statusIn, takes, takesAt}
+use Rattle.call_refusals.specs.Buffers.{Buffers, overlaysOf, fits, statusOf, statusIn, takes, takesAt}
 use Rattle.protector.specs.Calls.{carriedOut, carriedChange, pieceAfter, nextIn, afterDone, afterFailed, visibilityDone, visibilityFailed, changeDone, changeFailed, answerDone, answerFailed}
 use Rattle.call_refusals.specs.Refusals.{answerRefusal}
 use Rattle.call_refusals.proofs.Taken.{changing-named, done-takes}
@@ -317,7 +317,7 @@ takes-left stage.TlbWait b n a end e = omega arith
 -- ---- the same of what is lent
 
 -- a step carried out leaves what the step leaves
-carried-left : (w : World) (t : List ℕ) (x : Step) → x .request .n ≤ 512 → leftIn (carriedOut w t x .world) ≡ left (x .phase) (x .request .n) (x .request .at)
+carried-left : (w : Buffers) (t : List ℕ) (x : Step) → x .request .n ≤ 512 → leftIn (carriedOut w t x .buffers) ≡ left (x .phase) (x .request .n) (x .request .at)
 unfolding carriedOut
 carried-left w t x h =
     rw (no-change (x .phase))
@@ -326,8 +326,8 @@ carried-left w t x h =
 pub change-entries : (g : Stage) (q : Change) (s : List ℕ) → entriesIn (withChange g q s) ≡ entriesIn s
 change-entries g q s = rw (getD-drop 14 s 17 0, drop-drop 18 14 s)
 
-changed-left : (w : World) (t : List ℕ) (x : ChangeStep) → x .change .n ≤ 512
-    → leftIn (carriedChange w t x .world) ≡ leftAt (x .stage) (x .change .n) (x .change .at) (pageEnd (entriesIn (w .state)))
+changed-left : (w : Buffers) (t : List ℕ) (x : ChangeStep) → x .change .n ≤ 512
+    → leftIn (carriedChange w t x .buffers) ≡ leftAt (x .stage) (x .change .n) (x .change .at) (pageEnd (entriesIn (w .state)))
 unfolding carriedChange
 changed-left w t x h = go (leb 13 (stageNumber g) && ltb (stageNumber g) 20) refl
   where
@@ -343,10 +343,10 @@ changed-left w t x h = go (leb 13 (stageNumber g) && ltb (stageNumber g) 20) ref
     go true e = let m : min (q .n) 512 ≡ q .n = omega (arith, h) in rw (stage-read g e, m, change-entries g q (w .state))
     go false e = stage-over g (q .n) (q .at) (pageEnd (entriesIn (w .state))) (min (q .n) 512) (q .at) e
 
-lower : (l : ℕ) (w′ : World) (x : Step) → leftIn w′ ≡ left (x .phase) (x .request .n) (x .request .at) → Within (l - 1) x → 0 < l → leftIn w′ < l
+lower : (l : ℕ) (w′ : Buffers) (x : Step) → leftIn w′ ≡ left (x .phase) (x .request .n) (x .request .at) → Within (l - 1) x → 0 < l → leftIn w′ < l
 lower l w′ x e h o = omega (arith, e, h .within)
 
-lower-change : (w : World) (l : ℕ) (x : ChangeStep) → Least (pageEnd (entriesIn (w .state))) (l - 1) x → 0 < l → leftIn (carriedChange w (w .pages) x .world) < l
+lower-change : (w : Buffers) (l : ℕ) (x : ChangeStep) → Least (pageEnd (entriesIn (w .state))) (l - 1) x → 0 < l → leftIn (carriedChange w (w .pages) x .buffers) < l
 lower-change w l x h o = omega (arith, changed-left w (w .pages) x (h .few), h .within)
 
 -- THE CLAIMS
@@ -364,7 +364,7 @@ taken-lowers w Succeeds e = rw e (go (isChanging s) refl (answer-takes s (fits w
     x = doneOf (settingsOf s) (phaseIn s) (requestOf s) (w .pages)
 
     go : (b : Bool) → isChanging s ≡ b → cond b (takesAt (stageIn s) false) (takes (phaseIn s) false) ≡ true
-        → leftIn (cond b (changeDone w) (visibilityDone w) .world) < cond b (leftAt (stageIn s) (q .n) (q .at) (pageEnd (entriesIn s))) (left (phaseIn s) (requestOf s .n) (requestOf s .at))
+        → leftIn (cond b (changeDone w) (visibilityDone w) .buffers) < cond b (leftAt (stageIn s) (q .n) (q .at) (pageEnd (entriesIn s))) (left (phaseIn s) (requestOf s .n) (requestOf s .at))
     go true d c =
         lower-change w (leftAt (stageIn s) (q .n) (q .at) (pageEnd (entriesIn s))) _
         (change-lowers (settingsOf s .tracked) q (w .pages) (omega arith) (stageIn s) (pageEnd (entriesIn s)) (nextIn (w .maps .private) s (w .tables)) c (ahead (stageIn s)))
@@ -382,7 +382,7 @@ taken-lowers w Succeeds e = rw e (go (isChanging s) refl (answer-takes s (fits w
         ahead stage.Flush h = absurd (h refl)
         ahead stage.TlbWait h = absurd (h refl)
     go false d c =
-        lower (left (phaseIn s) (requestOf s .n) (requestOf s .at)) (carriedOut w (w .pages) x .world) x (carried-left w (w .pages) x (few-done (settingsOf s) (w .pages) (phaseIn s) (requestOf s) c (omega arith)))
+        lower (left (phaseIn s) (requestOf s .n) (requestOf s .at)) (carriedOut w (w .pages) x .buffers) x (carried-left w (w .pages) x (few-done (settingsOf s) (w .pages) (phaseIn s) (requestOf s) c (omega arith)))
         (done-left (settingsOf s) (w .pages) (phaseIn s) (requestOf s) c) (some-left (phaseIn s) (requestOf s .n) (requestOf s .at) (takes-some (phaseIn s) false c))
 taken-lowers w (Fails code k) e = rw e (go (isChanging s) refl (answer-takes s (fits w) true (eqb-true _ _ e)))
   where
@@ -396,16 +396,16 @@ taken-lowers w (Fails code k) e = rw e (go (isChanging s) refl (answer-takes s (
     x = failedOf (settingsOf s) (phaseIn s) (requestOf s) (w .pages) code k
 
     go : (b : Bool) → isChanging s ≡ b → cond b (takesAt (stageIn s) true) (takes (phaseIn s) true) ≡ true
-        → leftIn (cond b (changeFailed w) (visibilityFailed w code k) .world) < cond b (leftAt (stageIn s) (q .n) (q .at) (pageEnd (entriesIn s))) (left (phaseIn s) (requestOf s .n) (requestOf s .at))
+        → leftIn (cond b (changeFailed w) (visibilityFailed w code k) .buffers) < cond b (leftAt (stageIn s) (q .n) (q .at) (pageEnd (entriesIn s))) (left (phaseIn s) (requestOf s .n) (requestOf s .at))
     go true d c =
         lower-change w (leftAt (stageIn s) (q .n) (q .at) (pageEnd (entriesIn s))) _
         (unchange-lowers (settingsOf s .tracked) q (w .pages) (omega arith) (stageIn s) (pageEnd (entriesIn s)) c) (takes-left (stageIn s) true (q .n) (q .at) (pageEnd (entriesIn s)) c)
     go false d c =
-        lower (left (phaseIn s) (requestOf s .n) (requestOf s .at)) (carriedOut w (w .pages) x .world) x (carried-left w (w .pages) x (few-failed (settingsOf s) (w .pages) (phaseIn s) (requestOf s) code k c (omega arith)))
+        lower (left (phaseIn s) (requestOf s .n) (requestOf s .at)) (carriedOut w (w .pages) x .buffers) x (carried-left w (w .pages) x (few-failed (settingsOf s) (w .pages) (phaseIn s) (requestOf s) code k c (omega arith)))
         (failed-left (settingsOf s) (w .pages) (phaseIn s) (requestOf s) code k c) (some-left (phaseIn s) (requestOf s .n) (requestOf s .at) (takes-some (phaseIn s) true c))
 
 -- an operation outstanding is one to come, and where none is nothing is to come
-some-in : (w : World) → underWay w ≡ true → 0 < leftIn w
+some-in : (w : Buffers) → underWay w ≡ true → 0 < leftIn w
 some-in w e = go (isChanging (w .state)) refl e
   where
     s : List ℕ
@@ -421,15 +421,15 @@ unfolding answerDone answerFailed
 untaken-keeps w Succeeds e = rw e
 untaken-keeps w (Fails code k) e = rw e
 
-all-lower : (w : World) (gs : List BackendAnswer) → leftIn (afterAll w gs) + takenOf w gs ≤ leftIn w
+all-lower : (w : Buffers) (gs : List BackendAnswer) → leftIn (afterAll w gs) + takenOf w gs ≤ leftIn w
 unfolding afterAll takenOf
 all-lower w [] = omega arith
-all-lower w (g ∷ gs) = go (takenBy g w) refl (all-lower (answerOf g w .world) gs)
+all-lower w (g ∷ gs) = go (takenBy g w) refl (all-lower (answerOf g w .buffers) gs)
   where
-    go : (b : Bool) → takenBy g w ≡ b → leftIn (afterAll (answerOf g w .world) gs) + takenOf (answerOf g w .world) gs ≤ leftIn (answerOf g w .world)
-        → leftIn (afterAll (answerOf g w .world) gs) + (cond b 1 0 + takenOf (answerOf g w .world) gs) ≤ leftIn w
+    go : (b : Bool) → takenBy g w ≡ b → leftIn (afterAll (answerOf g w .buffers) gs) + takenOf (answerOf g w .buffers) gs ≤ leftIn (answerOf g w .buffers)
+        → leftIn (afterAll (answerOf g w .buffers) gs) + (cond b 1 0 + takenOf (answerOf g w .buffers) gs) ≤ leftIn w
     go true e h = omega (arith, taken-lowers w g e)
-    go false e h = let d : leftIn (answerOf g w .world) ≡ leftIn w = ap leftIn (untaken-keeps w g e) in omega arith
+    go false e h = let d : leftIn (answerOf g w .buffers) ≡ leftIn w = ap leftIn (untaken-keeps w g e) in omega arith
 
 pub ends : TakenEnd
 ends w gs h = go (underWay (afterAll w gs)) refl
@@ -454,7 +454,7 @@ none-left at.Zero n a e = false≢true (sym e)
 none-left at.ProtectDefault0 n a e = false≢true (sym e)
 none-left at.ProtectDefault1 n a e = false≢true (sym e)
 
-none-in : (w : World) → underWay w ≡ false → leftIn w ≡ 0
+none-in : (w : Buffers) → underWay w ≡ false → leftIn w ≡ 0
 none-in w e = go (isChanging (w .state)) e
   where
     s : List ℕ
@@ -472,15 +472,15 @@ every-request-ends w [] u h = go (underWay w) refl
     go : (b : Bool) → underWay w ≡ b → b ≡ false
     go false e = refl
     go true e = absurd (omega (arith, h, some-in w e))
-every-request-ends w (g ∷ gs) u h = go (takenBy g w) refl (underWay w) refl (every-request-ends (answerOf g w .world) gs (u .1))
+every-request-ends w (g ∷ gs) u h = go (takenBy g w) refl (underWay w) refl (every-request-ends (answerOf g w .buffers) gs (u .1))
   where
     go : (b : Bool) → takenBy g w ≡ b → (c : Bool) → underWay w ≡ c
-        → (leftIn (answerOf g w .world) ≤ length gs → underWay (afterAll (answerOf g w .world) gs) ≡ false) → underWay (afterAll (answerOf g w .world) gs) ≡ false
+        → (leftIn (answerOf g w .buffers) ≤ length gs → underWay (afterAll (answerOf g w .buffers) gs) ≡ false) → underWay (afterAll (answerOf g w .buffers) gs) ≡ false
     go true e c d more = more (omega (arith, h, taken-lowers w g e))
     go false e true d more = false≢true (sym e ∙ u .0 d)
     go false e false d more =
         let z : leftIn w ≡ 0 = none-in w d in
-        let k : leftIn (answerOf g w .world) ≡ leftIn w = ap leftIn (untaken-keeps w g e) in
+        let k : leftIn (answerOf g w .buffers) ≡ leftIn w = ap leftIn (untaken-keeps w g e) in
         more (omega (arith, z, k))
 
 pub done-taken : DoneTaken

@@ -13,7 +13,7 @@ use Rattle.permissions.specs.declared.GuestVtl.the-variants.{Vtl0}
 use Rattle.page_list.specs.Pages.{numberOf, numberAt, numbersFrom, pagesOf, isLong, among, repeats, isRagged}
 use Rattle.overlay_table.specs.Overlays.{placeFrom}
 use Rattle.protector_state.specs.State.{firstPhases, phaseOf, entriesIn}
-use Rattle.call_refusals.specs.World.{overlaysOf, locksOf, fits, statusIn}
+use Rattle.call_refusals.specs.Buffers.{overlaysOf, locksOf, fits, statusIn}
 use Rattle.call_refusals.specs.Refusals.{ready, pageRefusal, firstRefusal, visibilityRefusal}
 use Rattle.visibility_claims.specs.Table.{bytesFrom, broad, Lists}
 

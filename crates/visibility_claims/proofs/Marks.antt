@@ -19,7 +19,7 @@ use Rattle.page_list.specs.Pages.{among, pagesOf}
 use Rattle.page_list.specs.Runs.{runsOf}
 use Rattle.visibility_steps.specs.declared.Settings.{Settings}
 use Rattle.protector_state.specs.State.{settingsOf}
-use Rattle.call_refusals.specs.World.{World}
+use Rattle.call_refusals.specs.Buffers.{Buffers}
 use Rattle.visibility_claims.specs.Whole.{Operation, Wait, FlushAll, Protect, Invalidate, Release, Modify, Accept, Zero, Flush, TlbWait, BackendAnswer, Succeeds, Fails, Status, Denied, Ok, FailedAt, Halts, Whole, stands, asking, fails}
 use Rattle.visibility_claims.specs.Whole.{one, inTurn, perRun, flushes, accepts, defaults, shareOperations, marked, withPrivate, withShared, protecting, writingNone, clearedBy, wholeShare, returned, modified, wholeReturn}
 use Rattle.visibility_claims.specs.Calls.{wholeOn, wholeOf, follow}
@@ -148,7 +148,7 @@ unfolding wholeReturn inTurn one
 return-clears s ps their m = record { private = λ p e. e; shared = clear-less ps (m .shared) }
 
 -- at the call marks are only cleared
-call-clears : (w : World) (v : GuestVtl) (share : Bool) (l : List ℕ) → Grows (wholeOf w v share l [] .maps) (w .maps)
+call-clears : (w : Buffers) (v : GuestVtl) (share : Bool) (l : List ℕ) → Grows (wholeOf w v share l [] .maps) (w .maps)
 call-clears w v share l = go share (eqb (denial w v share (pagesOf l)) 0) (denial w v share (pagesOf l)) (requestedOf w v share l)
   where
     go : (share b : Bool) (n : ℕ) (x : Requested) → Grows (cond b (wholeOn w v share x []) (stands (w .maps) (Denied n)) .maps) (w .maps)
@@ -157,7 +157,7 @@ call-clears w v share l = go share (eqb (denial w v share (pagesOf l)) 0) (denia
     go share false n x = same (w .maps)
 
 -- and after it they are only set, by any answers gs and any more hs
-answers-set : (w : World) (v : GuestVtl) (share : Bool) (l : List ℕ) (gs hs : List BackendAnswer) → Grows (wholeOf w v share l gs .maps) (wholeOf w v share l (gs ++ hs) .maps)
+answers-set : (w : Buffers) (v : GuestVtl) (share : Bool) (l : List ℕ) (gs hs : List BackendAnswer) → Grows (wholeOf w v share l gs .maps) (wholeOf w v share l (gs ++ hs) .maps)
 answers-set w v share l gs hs = go share (eqb (denial w v share (pagesOf l)) 0) (denial w v share (pagesOf l)) (requestedOf w v share l)
   where
     go : (share b : Bool) (n : ℕ) (x : Requested)

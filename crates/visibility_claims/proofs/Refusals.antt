@@ -32,7 +32,7 @@ use Rattle.change_steps.specs.Changes as changes
 use Rattle.protector_state.specs.State.{stateLen, phaseIn, requestOf, settingsOf}
 use Rattle.protector_state.specs.Reply.{finished, askedOf, flatOf}
 use Rattle.protector_state.specs.Changing.{stageIn, isChanging, changeIn}
-use Rattle.call_refusals.specs.World.{World, Outcome, fits, statusIn, takes, takesAt, takesIn}
+use Rattle.call_refusals.specs.Buffers.{Buffers, Outcome, fits, statusIn, takes, takesAt, takesIn}
 use Rattle.protector.specs.Calls.{decided, carriedOut, carriedChange, buildTaken, buildOf, visibilityTaken, visibilityOf, nextIn, afterDone, afterFailed, visibilityDone, visibilityFailed, changeDone, changeFailed, answerDone, answerFailed}
 use Rattle.call_refusals.specs.Refusals.{answerRefusal}
 use Rattle.queries.specs.Queries.{queryRefusal, ramBefore, visibilities, filledBy, query, queryOf}
@@ -42,22 +42,22 @@ use Rattle.visibility_claims.proofs.Taken.{done-has, failed-has}
 
 -- ---- what is decided
 
-decided-kept : (w : World) (n : ℕ) (o : Outcome) → (n ≡ 0 → ⊥) → decided w n o ≡ record { world = w; reply = finished n (codeOf n) 0 0 }
+decided-kept : (w : Buffers) (n : ℕ) (o : Outcome) → (n ≡ 0 → ⊥) → decided w n o ≡ record { buffers = w; reply = finished n (codeOf n) 0 0 }
 decided-kept w n o h = rw (ne-eqb n 0 h)
 
 -- THE CLAIMS
 pub refused-keeps : RefusedKeeps
 unfolding give refusal buildOf visibilityOf answerDone answerFailed queryOf
-refused-keeps x (Build ram isolation tracked release) h = ap (λ (o : Outcome). gave (x .out) o .lent) (decided-kept (x .world) _ (buildTaken (x .world) ram isolation tracked release) h)
-refused-keeps x (ChangeVisibility vtl visibility l) h = ap (λ (o : Outcome). gave (x .out) o .lent) (decided-kept (x .world) _ _ h)
-refused-keeps x (AnswerWith Succeeds) h = ap (λ (o : Outcome). gave (x .out) o .lent) (decided-kept (x .world) _ _ h)
-refused-keeps x (AnswerWith (Fails code k)) h = ap (λ (o : Outcome). gave (x .out) o .lent) (decided-kept (x .world) _ _ h)
+refused-keeps x (Build ram isolation tracked release) h = ap (λ (o : Outcome). gave (x .out) o .lent) (decided-kept (x .buffers) _ (buildTaken (x .buffers) ram isolation tracked release) h)
+refused-keeps x (ChangeVisibility vtl visibility l) h = ap (λ (o : Outcome). gave (x .out) o .lent) (decided-kept (x .buffers) _ _ h)
+refused-keeps x (AnswerWith Succeeds) h = ap (λ (o : Outcome). gave (x .out) o .lent) (decided-kept (x .buffers) _ _ h)
+refused-keeps x (AnswerWith (Fails code k)) h = ap (λ (o : Outcome). gave (x .out) o .lent) (decided-kept (x .buffers) _ _ h)
 refused-keeps x (QueryVisibility l) h =
-    ap (λ (o : List ℕ). record { world = x .world; out = o })
-    (go (queryRefusal (x .world .state) (length (x .world .maps .shared)) l) (eqb (queryRefusal (x .world .state) (length (x .world .maps .shared)) l) 0) (ltb (ramBefore (x .world .state) l) (length (pagesOf l))) h)
+    ap (λ (o : List ℕ). record { buffers = x .buffers; out = o })
+    (go (queryRefusal (x .buffers .state) (length (x .buffers .maps .shared)) l) (eqb (queryRefusal (x .buffers .state) (length (x .buffers .maps .shared)) l) 0) (ltb (ramBefore (x .buffers .state) l) (length (pagesOf l))) h)
   where
     go : (n : ℕ) (b c : Bool) → (cond b (cond c 7 0) n ≡ 0 → ⊥)
-        → cond b (cond c (query (x .out) (finished 7 (codeOf 7) (ramBefore (x .world .state) l) 0)) (query (filledBy (visibilities (x .world .maps .shared) (pagesOf l)) (x .out)) (finished 0 0 0 0))) (query (x .out) (finished n (codeOf n) 0 0)) .out ≡ x .out
+        → cond b (cond c (query (x .out) (finished 7 (codeOf 7) (ramBefore (x .buffers .state) l) 0)) (query (filledBy (visibilities (x .buffers .maps .shared) (pagesOf l)) (x .out)) (finished 0 0 0 0))) (query (x .out) (finished n (codeOf n) 0 0)) .out ≡ x .out
     go n true true h = refl
     go n true false h = absurd (h refl)
     go n false c h = refl
@@ -149,36 +149,36 @@ module _ (i : IsolationType) (tracked : Bool) (q : Change) where
   plain-either true x y a b f g e = f e
   plain-either false x y a b f g e = g e
 
-decided-taken : (w : World) (n : ℕ) (o : Outcome) → n ≡ 0 → decided w n o ≡ o
+decided-taken : (w : Buffers) (n : ℕ) (o : Outcome) → n ≡ 0 → decided w n o ≡ o
 decided-taken w n o h = rw (eq-eqb n 0 h)
 
 taken-changes : (x : Lent) (c : Call) → refusal x c ≡ 0 → mayChange (give x c .reply .number) ≡ true
 unfolding give refusal buildOf buildTaken visibilityOf visibilityTaken answerDone answerFailed carriedOut carriedChange afterDone afterFailed startOf flatOf askedOf queryOf
 taken-changes x (Build ram isolation tracked release) h =
-    ap (λ (o : Outcome). mayChange (o .reply .number)) (decided-taken (x .world) _ (buildTaken (x .world) ram isolation tracked release) h)
+    ap (λ (o : Outcome). mayChange (o .reply .number)) (decided-taken (x .buffers) _ (buildTaken (x .buffers) ram isolation tracked release) h)
 taken-changes x (ChangeVisibility vtl visibility l) h =
-    ap (λ (o : Outcome). mayChange (o .reply .number)) (decided-taken (x .world) _ (visibilityTaken (x .world) (vtlOf vtl) (boolOf visibility) l) h)
+    ap (λ (o : Outcome). mayChange (o .reply .number)) (decided-taken (x .buffers) _ (visibilityTaken (x .buffers) (vtlOf vtl) (boolOf visibility) l) h)
 taken-changes x (AnswerWith Succeeds) h =
-    let s : List ℕ = x .world .state in
-    let v : Outcome = visibilityDone (x .world) in
-    ap (λ (o : Outcome). mayChange (o .reply .number)) (decided-taken (x .world) _ (cond (isChanging s) (changeDone (x .world)) v) h)
-    ∙ plain-either (settingsOf s .isolation) (settingsOf s .tracked) (changeIn s) (isChanging s) (changeDone (x .world)) v (takesAt (stageIn s) false) (takes (phaseIn s) false)
-    (plain-change (settingsOf s .isolation) (settingsOf s .tracked) (changeIn s) (stageIn s) (x .world .pages) (nextIn (x .world .maps .private) s (x .world .tables)))
-    (plain-done (settingsOf s .isolation) (settingsOf s) (x .world .pages) (phaseIn s) (requestOf s))
-    (answer-takes s (fits (x .world)) false h)
+    let s : List ℕ = x .buffers .state in
+    let v : Outcome = visibilityDone (x .buffers) in
+    ap (λ (o : Outcome). mayChange (o .reply .number)) (decided-taken (x .buffers) _ (cond (isChanging s) (changeDone (x .buffers)) v) h)
+    ∙ plain-either (settingsOf s .isolation) (settingsOf s .tracked) (changeIn s) (isChanging s) (changeDone (x .buffers)) v (takesAt (stageIn s) false) (takes (phaseIn s) false)
+    (plain-change (settingsOf s .isolation) (settingsOf s .tracked) (changeIn s) (stageIn s) (x .buffers .pages) (nextIn (x .buffers .maps .private) s (x .buffers .tables)))
+    (plain-done (settingsOf s .isolation) (settingsOf s) (x .buffers .pages) (phaseIn s) (requestOf s))
+    (answer-takes s (fits (x .buffers)) false h)
 taken-changes x (AnswerWith (Fails code k)) h =
-    let s : List ℕ = x .world .state in
-    let v : Outcome = visibilityFailed (x .world) code k in
-    ap (λ (o : Outcome). mayChange (o .reply .number)) (decided-taken (x .world) _ (cond (isChanging s) (changeFailed (x .world)) v) h)
-    ∙ plain-either (settingsOf s .isolation) (settingsOf s .tracked) (changeIn s) (isChanging s) (changeFailed (x .world)) v (takesAt (stageIn s) true) (takes (phaseIn s) true)
+    let s : List ℕ = x .buffers .state in
+    let v : Outcome = visibilityFailed (x .buffers) code k in
+    ap (λ (o : Outcome). mayChange (o .reply .number)) (decided-taken (x .buffers) _ (cond (isChanging s) (changeFailed (x .buffers)) v) h)
+    ∙ plain-either (settingsOf s .isolation) (settingsOf s .tracked) (changeIn s) (isChanging s) (changeFailed (x .buffers)) v (takesAt (stageIn s) true) (takes (phaseIn s) true)
     (plain-unchange (settingsOf s .isolation) (settingsOf s .tracked) (changeIn s) (stageIn s))
-    (plain-failed (settingsOf s .isolation) (settingsOf s) (x .world .pages) (phaseIn s) (requestOf s) code k)
-    (answer-takes s (fits (x .world)) true h)
+    (plain-failed (settingsOf s .isolation) (settingsOf s) (x .buffers .pages) (phaseIn s) (requestOf s) code k)
+    (answer-takes s (fits (x .buffers)) true h)
 taken-changes x (QueryVisibility l) h =
-    go (queryRefusal (x .world .state) (length (x .world .maps .shared)) l) (eqb (queryRefusal (x .world .state) (length (x .world .maps .shared)) l) 0) refl (ltb (ramBefore (x .world .state) l) (length (pagesOf l))) h
+    go (queryRefusal (x .buffers .state) (length (x .buffers .maps .shared)) l) (eqb (queryRefusal (x .buffers .state) (length (x .buffers .maps .shared)) l) 0) refl (ltb (ramBefore (x .buffers .state) l) (length (pagesOf l))) h
   where
     go : (n : ℕ) (b : Bool) → eqb n 0 ≡ b → (c : Bool) → cond b (cond c 7 0) n ≡ 0
-        → mayChange (cond b (cond c (query (x .out) (finished 7 (codeOf 7) (ramBefore (x .world .state) l) 0)) (query (filledBy (visibilities (x .world .maps .shared) (pagesOf l)) (x .out)) (finished 0 0 0 0))) (query (x .out) (finished n (codeOf n) 0 0)) .reply .number) ≡ true
+        → mayChange (cond b (cond c (query (x .out) (finished 7 (codeOf 7) (ramBefore (x .buffers .state) l) 0)) (query (filledBy (visibilities (x .buffers .maps .shared) (pagesOf l)) (x .out)) (finished 0 0 0 0))) (query (x .out) (finished n (codeOf n) 0 0)) .reply .number) ≡ true
     go n true e true h = absurd (omega arith)
     go n true e false h = refl
     go n false e c h = absurd (eqb-false n 0 e h)

@@ -18,7 +18,7 @@ use Rattle.page_list.specs.Pages.{pagesOf, stepsFrom, strict}
 use Rattle.lock_table.specs.Locks.{heldIn}
 use Rattle.request_pages.specs.Request.{pick, pickPlaces, tableOf, stopAt, isReadableAndWritable, wanted}
 use Rattle.protector_state.specs.State.{settingsOf, entriesIn}
-use Rattle.call_refusals.specs.World.{World, overlaysOf, locksOf}
+use Rattle.call_refusals.specs.Buffers.{Buffers, overlaysOf, locksOf}
 use Rattle.call_refusals.specs.Refusals.{pageRefusal, firstRefusal}
 use Rattle.protector.specs.Calls.{checksPermissions, stopOf, askedFor, tableFor}
 use Rattle.visibility_claims.specs.Whole.{Ok, StoppedAt}
@@ -30,7 +30,7 @@ use Rattle.visibility_claims.specs.Requested.{isOverlayPage, denial, acc
 abbrev number : Bool → Bool → Bool → Bool → ℕ
 number ram o h share = unless ram 7 (when (h && not o) 10 (when (share && o) 11 0))
 
-pub same-denial : (w : World) (v : GuestVtl) (share : Bool) (ps : List ℕ)
+pub same-denial : (w : Buffers) (v : GuestVtl) (share : Bool) (ps : List ℕ)
     → denial w v share ps ≡ firstRefusal (pageRefusal (entriesIn (w .state)) (overlaysOf (w .tables) v) (locksOf (w .tables) v) share) ps
 unfolding denial firstRefusal
 same-denial w v share [] = refl
@@ -53,7 +53,7 @@ same-denial w v share (p ∷ ps) =
 ltb-suc : (a b : ℕ) → ltb (suc a) (suc b) ≡ ltb a b
 ltb-suc a b = same (ltb (suc a) (suc b)) (ltb a b) (λ e. lt-ltb a b (omega (arith, ltb-true (suc a) (suc b) e))) (λ e. lt-ltb (suc a) (suc b) (omega (arith, ltb-true a b e)))
 
-module _ (w : World) (v : GuestVtl) (share : Bool) (O P : ℕ → Bool) (f : (p : ℕ) → O p ≡ not (accessDenied w v share p)) (g : (p : ℕ) → P p ≡ not (isSoMarked w share p)) where
+module _ (w : Buffers) (v : GuestVtl) (share : Bool) (O P : ℕ → Bool) (f : (p : ℕ) → O p ≡ not (accessDenied w v share p)) (g : (p : ℕ) → P p ≡ not (isSoMarked w share p)) where
   pages-from : (i : ℕ) (ps : List ℕ) → pagesIn (requestedFrom w v share i ps .listed) ≡ pick P (take (stopAt O ps) ps)
   unfolding requestedFrom pagesIn pick stopAt
   pages-from i [] = refl
@@ -93,7 +93,7 @@ module _ (w : World) (v : GuestVtl) (share : Bool) (O P : ℕ → Bool) (f : (p 
           last true = refl
           last false = refl
 
-module _ (w : World) (v : GuestVtl) (share : Bool) where
+module _ (w : Buffers) (v : GuestVtl) (share : Bool) where
   abbrev O : ℕ → Bool
   O = isReadableAndWritable (w .maps .permissions .read) (w .maps .permissions .write) (checksPermissions (settingsOf (w .state)) v share)
 
@@ -143,7 +143,7 @@ module _ (w : World) (v : GuestVtl) (share : Bool) where
 
 -- ---- THE CLAIM: the place of each page asked for holds that page in the list as sent, and places ascend
 
-module _ (w : World) (v : GuestVtl) (share : Bool) where
+module _ (w : Buffers) (v : GuestVtl) (share : Bool) where
   -- of the pages from place i on, those before being `pre`
   record Held (all : List ℕ) (xs : List Listed) : Type 0 where
     inside : (j : ℕ) → j < length xs → getD (placesIn xs) j 0 < length all

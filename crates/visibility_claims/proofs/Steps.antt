@@ -36,7 +36,7 @@ use Rattle.visibility_steps.specs.declared.Writes.{Writes}
 use Rattle.visibility_steps.specs.declared.Step.{Step}
 use Rattle.visibility_steps.specs.Steps.{isSnp, isCca, releases, places, noWrites, setShared, setPermissions, step, operationOf, ask, end, halt, shareRun, defaultRun, returnRun, afterFlush, afterWait, afterModify, afterAccept, afterDefault0, failedModify, doneOf, failedOf, asked, cleared, startOf}
 use Rattle.visibility_steps.proofs.Laws as laws
-use Rattle.call_refusals.specs.World.{takes}
+use Rattle.call_refusals.specs.Buffers.{takes}
 use Rattle.protector.specs.Writes.{applied}
 use Rattle.visibility_claims.specs.Whole.{Operation, Wait, FlushAll, Protect, Invalidate, Release, Modify, Accept, Zero, BackendAnswer, Succeeds, Fails, Status, Ok, StoppedAt, FailedAt, Halts, Whole, stands, fails, one, inTurn, perRun, flushes, unaccepts, accepts, defaults, withPrivate, withShared, protecting, writingNone, clearedBy, wholeShare, returned, modified, wholeReturn}
 use Rattle.visibility_claims.specs.Runs.{Last, named, before, run, told, after}

@@ -17,7 +17,7 @@ use Rattle.visibility_steps.specs.declared.Request.{Request}
 use Rattle.visibility_steps.specs.declared.Writes.{Writes}
 use Rattle.visibility_steps.specs.declared.Step.{Step}
 use Rattle.visibility_steps.specs.Steps.{isSnp, isCca, releases, noWrites, setShared, setPrivate, setPermissions, ask, end, halt, shareRun, defaultRun, returnRun, afterFlush, afterWait, afterModify, afterAccept, afterDefault0, cutAt, failedModify, doneOf, failedOf}
-use Rattle.call_refusals.specs.World.{takes}
+use Rattle.call_refusals.specs.Buffers.{takes}
 
 module _ (s : Settings) (t : List ℕ) (I : Request → Type 0) (P : Step → Type 0) (asks : (p : Phase) (q : Request) (a : ℕ) (w : Writes) → I q → P (ask s p q t a w))
     (ends : (q : Request) (w : Writes) → I q → P (end q w)) (halts : (q : Request) → I q → P (halt q))

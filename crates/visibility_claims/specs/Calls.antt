@@ -17,7 +17,7 @@ use Rattle.visibility_steps.specs.declared.Operation.the-variants as crossed
 use Rattle.protector_state.specs.declared.Reply.{Reply}
 use Rattle.protector_state.specs.State.{settingsOf}
 use Rattle.protector_state.specs.Reply.{askedOf, flatOf}
-use Rattle.call_refusals.specs.World.{World, Outcome, fits}
+use Rattle.call_refusals.specs.Buffers.{Buffers, Outcome, fits}
 use Rattle.protector.specs.Calls.{refusedBy, visibilityOf, answerDone, answerFailed}
 use Rattle.call_refusals.specs.Refusals.{ready, answerRefusal}
 use Rattle.visibility_claims.specs.Whole.{Operation, Wait, FlushAll, Protect, Invalidate, Release, Modify, Accept, Zero, Flush, TlbWait, BackendAnswer, Succeeds, Fails, Denied, Whole, stands, wholeShare, wholeReturn}
@@ -27,7 +27,7 @@ use Rattle.visibility_claims.specs.Runs.{Last, Outstanding, Gives, Ran, 
 -- ---- the whole call on what the protector is lent
 
 -- what refuses it before its pages are looked at (01, "Order"): 20 and 19, then its input by number; a state block of another length tells nothing
-unfoldable pub inputRefusal : World → ℕ → ℕ → List ℕ → ℕ
+unfoldable pub inputRefusal : Buffers → ℕ → ℕ → List ℕ → ℕ
 inputRefusal w vtl visibility l =
     ready (w .state) (fits w)
     (when (isLong l) refusal.longList
@@ -36,27 +36,27 @@ inputRefusal w vtl visibility l =
     0)))
 
 -- none of its pages refused: to shared or to private, of those that it asks for
-abbrev pub wholeOn : World → GuestVtl → Bool → Requested → List BackendAnswer → Whole
+abbrev pub wholeOn : Buffers → GuestVtl → Bool → Requested → List BackendAnswer → Whole
 wholeOn w v true x gs = wholeShare (settingsOf (w .state)) v (pagesIn (x .listed)) (x .end) (w .maps) gs
 wholeOn w v false x gs = wholeReturn (settingsOf (w .state)) (pagesIn (x .listed)) (placesIn (x .listed)) (w .maps) gs
 
 -- a page that is refused (7, 10, 11) ends it: nothing is asked for and nothing changes
-abbrev pub wholeOf : World → GuestVtl → Bool → List ℕ → List BackendAnswer → Whole
+abbrev pub wholeOf : Buffers → GuestVtl → Bool → List ℕ → List BackendAnswer → Whole
 wholeOf w v share l gs =
     cond (eqb (denial w v share (pagesOf l)) 0) (wholeOn w v share (requestedOf w v share l) gs)
     (stands (w .maps) (Denied (denial w v share (pagesOf l))))
 
 -- the lent run `pages` as it is from the call on
-abbrev pub pagesFor : World → GuestVtl → Bool → List ℕ → List ℕ
+abbrev pub pagesFor : Buffers → GuestVtl → Bool → List ℕ → List ℕ
 pagesFor w v share l = cond (eqb (denial w v share (pagesOf l)) 0) (storedIn (requestedOf w v share l .listed) (w .pages)) (w .pages)
 
 -- ---- the calls, each answer given in turn
 
-abbrev pub answerOf : BackendAnswer → World → Outcome
+abbrev pub answerOf : BackendAnswer → Buffers → Outcome
 answerOf Succeeds w = answerDone w
 answerOf (Fails code k) w = answerFailed w code k
 
-abbrev pub takenBy : BackendAnswer → World → Bool
+abbrev pub takenBy : BackendAnswer → Buffers → Bool
 takenBy Succeeds w = eqb (answerRefusal (w .state) (fits w) false) 0
 takenBy (Fails code k) w = eqb (answerRefusal (w .state) (fits w) true) 0
 
@@ -76,9 +76,9 @@ pub record Told : Type 0 where
 unfoldable pub follow : Outcome → List BackendAnswer → Told
 follow o [] = record { asked = asksIn (o .reply); last = o }
 follow o (g ∷ gs) =
-    let r = follow (answerOf g (o .world)) gs in
+    let r = follow (answerOf g (o .buffers)) gs in
     let u = follow o gs in
-    cond (takenBy g (o .world)) (record { asked = asksIn (o .reply) ++ r .asked; last = r .last }) u
+    cond (takenBy g (o .buffers)) (record { asked = asksIn (o .reply) ++ r .asked; last = r .last }) u
 
 -- ---- what they tell
 
@@ -124,24 +124,24 @@ Says i (Gives a) r = r ≡ flatOf i a
 -- as in `rest`
 pub record Match (tables rest t : List ℕ) (i : IsolationType) (r : Ran) (x : Told) : Type 0 where
   pub same-asked : x .asked ≡ replies i (r .asked)
-  pub same-named : NamesAll (x .last .world .pages) (r .asked)
-  pub same-maps : x .last .world .maps ≡ r .maps
+  pub same-named : NamesAll (x .last .buffers .pages) (r .asked)
+  pub same-maps : x .last .buffers .maps ≡ r .maps
   pub same-reply : Says i (r .last) (x .last .reply)
-  pub same-pages : x .last .world .pages ≡ t
-  pub same-tables : x .last .world .tables ≡ tables
-  pub same-rest : drop place.afterRequest (x .last .world .state) ≡ rest
+  pub same-pages : x .last .buffers .pages ≡ t
+  pub same-tables : x .last .buffers .tables ≡ tables
+  pub same-rest : drop place.afterRequest (x .last .buffers .state) ≡ rest
 
 -- ---- THE CLAIMS: a visibility change that isn't refused before its pages are looked at, with its answers in turn, is the whole call; Modify being the last
 -- operation asked for, the run `pages` names its pages then
 
 abbrev pub VisibilityIsWhole : Type 0
 VisibilityIsWhole =
-    (w : World) (vtl visibility : ℕ) (l : List ℕ) (gs : List BackendAnswer) → inputRefusal w vtl visibility l ≡ 0
+    (w : Buffers) (vtl visibility : ℕ) (l : List ℕ) (gs : List BackendAnswer) → inputRefusal w vtl visibility l ≡ 0
     → Match (w .tables) (drop place.afterRequest (w .state)) (pagesFor w (vtlOf vtl) (boolOf visibility) l) (settingsOf (w .state) .isolation)
     (whole (wholeOf w (vtlOf vtl) (boolOf visibility) l gs)) (follow (visibilityOf w vtl visibility l) gs)
 
 -- one that is refused before gives that number, and changes nothing
 abbrev pub VisibilityRefused : Type 0
 VisibilityRefused =
-    (w : World) (vtl visibility : ℕ) (l : List ℕ) → (inputRefusal w vtl visibility l ≡ 0 → ⊥)
+    (w : Buffers) (vtl visibility : ℕ) (l : List ℕ) → (inputRefusal w vtl visibility l ≡ 0 → ⊥)
     → visibilityOf w vtl visibility l ≡ refusedBy w (inputRefusal w vtl visibility l)

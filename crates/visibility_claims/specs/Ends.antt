@@ -14,7 +14,7 @@ use Rattle.change_steps.specs.declared.Stage.{Stage}
 use Rattle.change_steps.specs.declared.Stage.the-variants as stage
 use Rattle.protector_state.specs.State.{stateLen, phaseIn, requestOf, entriesIn}
 use Rattle.protector_state.specs.Changing.{stageIn, isChanging, changeIn}
-use Rattle.call_refusals.specs.World.{World, fits, statusIn}
+use Rattle.call_refusals.specs.Buffers.{Buffers, fits, statusIn}
 use Rattle.visibility_claims.specs.Whole.{BackendAnswer, Succeeds}
 use Rattle.visibility_claims.specs.Calls.{answerOf, takenBy}
 
@@ -51,47 +51,47 @@ unfoldable pub pageEnd : List MemoryRangeWithNode → ℕ
 pageEnd [] = 0
 pageEnd (e ∷ es) = max (pageUp (e .end)) (pageEnd es)
 
-abbrev pub leftIn : World → ℕ
+abbrev pub leftIn : Buffers → ℕ
 leftIn w =
     cond (isChanging (w .state)) (leftAt (stageIn (w .state)) (changeIn (w .state) .n) (changeIn (w .state) .at) (pageEnd (entriesIn (w .state))))
     (left (phaseIn (w .state)) (requestOf (w .state) .n) (requestOf (w .state) .at))
 
 -- an operation waits for its answer (19)
-abbrev pub underWay : World → Bool
+abbrev pub underWay : Buffers → Bool
 underWay w = eqb (statusIn (w .state)) refusal.busy
 
--- the world once answers were given in turn, and how many of them were taken
-unfoldable pub afterAll : World → List BackendAnswer → World
+-- the buffers once answers were given in turn, and how many of them were taken
+unfoldable pub afterAll : Buffers → List BackendAnswer → Buffers
 afterAll w [] = w
-afterAll w (g ∷ gs) = afterAll (answerOf g w .world) gs
+afterAll w (g ∷ gs) = afterAll (answerOf g w .buffers) gs
 
-unfoldable pub takenOf : World → List BackendAnswer → ℕ
+unfoldable pub takenOf : Buffers → List BackendAnswer → ℕ
 takenOf w [] = 0
-takenOf w (g ∷ gs) = cond (takenBy g w) 1 0 + takenOf (answerOf g w .world) gs
+takenOf w (g ∷ gs) = cond (takenBy g w) 1 0 + takenOf (answerOf g w .buffers) gs
 
 -- while a request is under way, none of the answers is refused
-unfoldable pub unrefused : World → List BackendAnswer → Type 0
+unfoldable pub unrefused : Buffers → List BackendAnswer → Type 0
 unrefused w [] = Unit {0}
-unrefused w (g ∷ gs) = (underWay w ≡ true → takenBy g w ≡ true) × unrefused (answerOf g w .world) gs
+unrefused w (g ∷ gs) = (underWay w ≡ true → takenBy g w ≡ true) × unrefused (answerOf g w .buffers) gs
 
 -- ---- THE CLAIMS, from any state
 
 -- a taken answer, done or failed, lowers the number
 abbrev pub TakenLowers : Type 0
-TakenLowers = (w : World) (g : BackendAnswer) → takenBy g w ≡ true → leftIn (answerOf g w .world) < leftIn w
+TakenLowers = (w : Buffers) (g : BackendAnswer) → takenBy g w ≡ true → leftIn (answerOf g w .buffers) < leftIn w
 
 -- an answer that isn't taken changes nothing
 abbrev pub UntakenKeeps : Type 0
-UntakenKeeps = (w : World) (g : BackendAnswer) → takenBy g w ≡ false → answerOf g w .world ≡ w
+UntakenKeeps = (w : Buffers) (g : BackendAnswer) → takenBy g w ≡ false → answerOf g w .buffers ≡ w
 
 -- once so many answers were taken as the number says, nothing is under way
 abbrev pub TakenEnd : Type 0
-TakenEnd = (w : World) (gs : List BackendAnswer) → leftIn w ≤ takenOf w gs → underWay (afterAll w gs) ≡ false
+TakenEnd = (w : Buffers) (gs : List BackendAnswer) → leftIn w ≤ takenOf w gs → underWay (afterAll w gs) ≡ false
 
 -- as many answers as the number says, none of them refused while the request is under way, end it
 abbrev pub EveryRequestEnds : Type 0
-EveryRequestEnds = (w : World) (gs : List BackendAnswer) → unrefused w gs → leftIn w ≤ length gs → underWay (afterAll w gs) ≡ false
+EveryRequestEnds = (w : Buffers) (gs : List BackendAnswer) → unrefused w gs → leftIn w ≤ length gs → underWay (afterAll w gs) ≡ false
 
 -- done is refused by no request that is under way, where what is lent has its lengths
 abbrev pub DoneTaken : Type 0
-DoneTaken = (w : World) → length (w .state) ≡ stateLen → fits w ≡ true → underWay w ≡ true → takenBy Succeeds w ≡ true
+DoneTaken = (w : Buffers) → length (w .state) ≡ stateLen → fits w ≡ true → underWay w ≡ true → takenBy Succeeds w ≡ true

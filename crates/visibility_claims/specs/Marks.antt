@@ -10,7 +10,7 @@ use Rattle.bitmap.specs.Pages.{bitAt}
 use Rattle.permissions.specs.declared.GuestVtl.{GuestVtl}
 use Rattle.mapping.specs.Maps.{Maps}
 use Rattle.visibility_steps.specs.declared.Settings.{Settings}
-use Rattle.call_refusals.specs.World.{World}
+use Rattle.call_refusals.specs.Buffers.{Buffers}
 use Rattle.protector.specs.Calls.{visibilityOf}
 use Rattle.visibility_claims.specs.Whole.{Operation, Wait, BackendAnswer, Succeeds, Fails, Status, flushes, marked, wholeShare, wholeReturn}
 use Rattle.visibility_claims.specs.Calls.{inputRefusal, follow}
@@ -37,14 +37,14 @@ restored ps (Fails code k ∷ gs) m = cond (ltb k (length ps)) (marked (drop k p
 
 abbrev pub VisibilityClears : Type 0
 VisibilityClears =
-    (w : World) (vtl visibility : ℕ) (l : List ℕ) → inputRefusal w vtl visibility l ≡ 0 → Grows (visibilityOf w vtl visibility l .world .maps) (w .maps)
+    (w : Buffers) (vtl visibility : ℕ) (l : List ℕ) → inputRefusal w vtl visibility l ≡ 0 → Grows (visibilityOf w vtl visibility l .buffers .maps) (w .maps)
 
-abbrev pub mapsAfter : World → ℕ → ℕ → List ℕ → List BackendAnswer → Maps
-mapsAfter w vtl visibility l gs = follow (visibilityOf w vtl visibility l) gs .last .world .maps
+abbrev pub mapsAfter : Buffers → ℕ → ℕ → List ℕ → List BackendAnswer → Maps
+mapsAfter w vtl visibility l gs = follow (visibilityOf w vtl visibility l) gs .last .buffers .maps
 
 abbrev pub VisibilitySets : Type 0
 VisibilitySets =
-    (w : World) (vtl visibility : ℕ) (l : List ℕ) → inputRefusal w vtl visibility l ≡ 0 → (gs hs : List BackendAnswer)
+    (w : Buffers) (vtl visibility : ℕ) (l : List ℕ) → inputRefusal w vtl visibility l ≡ 0 → (gs hs : List BackendAnswer)
     → Grows (mapsAfter w vtl visibility l gs) (mapsAfter w vtl visibility l (gs ++ hs))
 
 -- ---- and on the marks that are set again: of a share none, its private marks stay as the call left them

@@ -9,7 +9,7 @@ use Rattle.abi.specs.Refusals as refusals
 use Rattle.layout.specs.Layout.{entriesOf, mapLen}
 use Rattle.page_list.specs.Pages.{pagesOf}
 use Rattle.protector_state.specs.declared.Reply.{Reply}
-use Rattle.call_refusals.specs.World.{World, Outcome, fits, lengthsIn}
+use Rattle.call_refusals.specs.Buffers.{Buffers, Outcome, fits, lengthsIn}
 use Rattle.call_refusals.specs.Refusals.{buildFits, buildRefusal, visibilityRefusal, answerRefusal}
 use Rattle.protector.specs.Calls.{buildOf, visibilityOf}
 use Rattle.queries.specs.Queries.{queryRefusal, ramBefore, queryOf}
@@ -24,7 +24,7 @@ pub data Call : Type 0 where
 
 -- what is lent: the protector's own, and the output of a query
 pub record Lent : Type 0 where
-  pub world : World
+  pub buffers : Buffers
   pub out : List ℕ
 
 pub record Gave : Type 0 where
@@ -32,25 +32,25 @@ pub record Gave : Type 0 where
   pub reply : Reply
 
 abbrev pub gave : List ℕ → Outcome → Gave
-gave out o = record { lent = record { world = o .world; out = out }; reply = o .reply }
+gave out o = record { lent = record { buffers = o .buffers; out = out }; reply = o .reply }
 
 unfoldable pub give : Lent → Call → Gave
-give x (Build ram isolation tracked release) = gave (x .out) (buildOf (x .world) ram isolation tracked release)
-give x (ChangeVisibility vtl visibility l) = gave (x .out) (visibilityOf (x .world) vtl visibility l)
-give x (AnswerWith g) = gave (x .out) (answerOf g (x .world))
+give x (Build ram isolation tracked release) = gave (x .out) (buildOf (x .buffers) ram isolation tracked release)
+give x (ChangeVisibility vtl visibility l) = gave (x .out) (visibilityOf (x .buffers) vtl visibility l)
+give x (AnswerWith g) = gave (x .out) (answerOf g (x .buffers))
 give x (QueryVisibility l) =
-    let q = queryOf (x .world .state) (x .world .maps .shared) l (x .out) in
-    record { lent = record { world = x .world; out = q .out }; reply = q .reply }
+    let q = queryOf (x .buffers .state) (x .buffers .maps .shared) l (x .out) in
+    record { lent = record { buffers = x .buffers; out = q .out }; reply = q .reply }
 
 -- 0 where it is taken
 unfoldable pub refusal : Lent → Call → ℕ
-refusal x (Build ram isolation tracked release) = buildRefusal ram isolation tracked release (buildFits (mapLen (entriesOf ram)) tracked (length (x .world .state)) (lengthsIn (x .world)))
-refusal x (ChangeVisibility vtl visibility l) = visibilityRefusal (x .world .state) (fits (x .world)) (x .world .tables) vtl visibility l
-refusal x (AnswerWith Succeeds) = answerRefusal (x .world .state) (fits (x .world)) false
-refusal x (AnswerWith (Fails code k)) = answerRefusal (x .world .state) (fits (x .world)) true
+refusal x (Build ram isolation tracked release) = buildRefusal ram isolation tracked release (buildFits (mapLen (entriesOf ram)) tracked (length (x .buffers .state)) (lengthsIn (x .buffers)))
+refusal x (ChangeVisibility vtl visibility l) = visibilityRefusal (x .buffers .state) (fits (x .buffers)) (x .buffers .tables) vtl visibility l
+refusal x (AnswerWith Succeeds) = answerRefusal (x .buffers .state) (fits (x .buffers)) false
+refusal x (AnswerWith (Fails code k)) = answerRefusal (x .buffers .state) (fits (x .buffers)) true
 refusal x (QueryVisibility l) =
-    let n = queryRefusal (x .world .state) (length (x .world .maps .shared)) l in
-    cond (eqb n 0) (cond (ltb (ramBefore (x .world .state) l) (length (pagesOf l))) refusals.notRam 0) n
+    let n = queryRefusal (x .buffers .state) (length (x .buffers .maps .shared)) l in
+    cond (eqb n 0) (cond (ltb (ramBefore (x .buffers .state) l) (length (pagesOf l))) refusals.notRam 0) n
 
 -- Ok or an operation asked for, 15, 16, 20: every other number changes nothing
 abbrev pub mayChange : ℕ → Bool

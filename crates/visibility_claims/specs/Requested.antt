@@ -16,21 +16,21 @@ use Rattle.overlay_table.specs.Overlays.{isOverlay}
 use Rattle.lock_table.specs.Locks.{heldIn}
 use Rattle.request_pages.specs.Request.{over}
 use Rattle.protector_state.specs.State.{settingsOf, entriesIn}
-use Rattle.call_refusals.specs.World.{World, overlaysOf, locksOf}
+use Rattle.call_refusals.specs.Buffers.{Buffers, overlaysOf, locksOf}
 use Rattle.visibility_claims.specs.Whole.{Status, Ok, StoppedAt}
 
 -- ---- before anything is changed each page is looked at, in list order: 7 where it is no RAM, 10 where it is locked, 11 where an overlay is to be shared. Overlays
 -- and locks are those of the calling VTL
 
-abbrev pub isOverlayPage : World → GuestVtl → ℕ → Bool
+abbrev pub isOverlayPage : Buffers → GuestVtl → ℕ → Bool
 isOverlayPage w v p = isOverlay (overlaysOf (w .tables) v) p
 
 -- an overlay frees a page from its locks
-abbrev pub isLockedPage : World → GuestVtl → ℕ → Bool
+abbrev pub isLockedPage : Buffers → GuestVtl → ℕ → Bool
 isLockedPage w v p = cond (isOverlayPage w v p) false (heldIn (locksOf (w .tables) v) p)
 
 -- the number that the first refused page has, or 0
-unfoldable pub denial : World → GuestVtl → Bool → List ℕ → ℕ
+unfoldable pub denial : Buffers → GuestVtl → Bool → List ℕ → ℕ
 denial w v share [] = 0
 denial w v share (p ∷ ps) =
     cond (not (isRam (entriesIn (w .state)) p)) refusal.notRam
@@ -41,14 +41,14 @@ denial w v share (p ∷ ps) =
 -- ---- then the list is gone through from its first page on
 
 -- 15: VTL0 shares, protections are enabled, and the page isn't both readable and writable
-abbrev pub accessDenied : World → GuestVtl → Bool → ℕ → Bool
+abbrev pub accessDenied : Buffers → GuestVtl → Bool → ℕ → Bool
 accessDenied w Vtl0 true p =
     settingsOf (w .state) .enabled && not (bitAt 8 (w .maps .permissions .read) p && bitAt 8 (w .maps .permissions .write) p)
 accessDenied w Vtl0 false p = false
 accessDenied w Vtl1 share p = false
 
 -- marked already as it is asked for: the shared mark tells it both ways
-abbrev pub isSoMarked : World → Bool → ℕ → Bool
+abbrev pub isSoMarked : Buffers → Bool → ℕ → Bool
 isSoMarked w true p = bitAt 8 (w .maps .shared) p
 isSoMarked w false p = not (bitAt 8 (w .maps .shared) p)
 
@@ -69,14 +69,14 @@ abbrev pub withPage : ℕ → ℕ → Requested → Requested
 withPage p i x = record { listed = record { page = p; place = i } ∷ x .listed; end = x .end }
 
 -- from place i on: a page stops the list, or drops out, or is asked for
-unfoldable pub requestedFrom : World → GuestVtl → Bool → ℕ → List ℕ → Requested
+unfoldable pub requestedFrom : Buffers → GuestVtl → Bool → ℕ → List ℕ → Requested
 requestedFrom w v share i [] = noMore Ok
 requestedFrom w v share i (p ∷ ps) =
     cond (accessDenied w v share p) (noMore (StoppedAt i))
     (cond (isSoMarked w share p) (requestedFrom w v share (suc i) ps)
     (withPage p i (requestedFrom w v share (suc i) ps)))
 
-abbrev pub requestedOf : World → GuestVtl → Bool → List ℕ → Requested
+abbrev pub requestedOf : Buffers → GuestVtl → Bool → List ℕ → Requested
 requestedOf w v share l = requestedFrom w v share 0 (pagesOf l)
 
 unfoldable pub pagesIn : List Listed → List ℕ
@@ -99,4 +99,4 @@ pub record Placed (ps : List ℕ) (xs : List Listed) : Type 0 where
   pub ascend : strict true (placesIn xs) ≡ true
 
 abbrev pub PlacesHold : Type 0
-PlacesHold = (w : World) (v : GuestVtl) (share : Bool) (l : List ℕ) → Placed (pagesOf l) (requestedOf w v share l .listed)
+PlacesHold = (w : Buffers) (v : GuestVtl) (share : Bool) (l : List ℕ) → Placed (pagesOf l) (requestedOf w v share l .listed)

@@ -11,7 +11,7 @@ use Rattle.visibility_steps.specs.declared.Answer.the-variants.{Done, AccessDen
 use Rattle.visibility_steps.specs.declared.Settings.{Settings}
 use Rattle.visibility_steps.specs.declared.Step.{Step}
 use Rattle.visibility_steps.specs.Steps.{doneOf, failedOf}
-use Rattle.call_refusals.specs.World.{takes}
+use Rattle.call_refusals.specs.Buffers.{takes}
 use Rattle.protector.specs.Writes.{applied}
 use Rattle.visibility_claims.specs.Whole.{Operation, Wait, FlushAll, Protect, Invalidate, Release, Modify, Accept, Zero, Flush, TlbWait, BackendAnswer, Succeeds, Fails, Status, Denied, Waits, Ok, StoppedAt, FailedAt, Halts, Whole}
 

@@ -21,7 +21,7 @@ use Rattle.overlay_table.specs.Overlays as overlays
 use Rattle.lock_table.specs.Locks as locks
 use Rattle.protector_state.specs.State.{builtState}
 use Rattle.protector_state.specs.Reply.{finished, plain}
-use Rattle.call_refusals.specs.World.{World, world, fits}
+use Rattle.call_refusals.specs.Buffers.{Buffers, buffers, fits}
 use Rattle.call_refusals.specs.Refusals.{visibilityRefusal}
 use Rattle.protector.specs.Calls.{visibilityOf}
 use Rattle.visibility_claims.specs.Whole.{Wait, FlushAll, Protect, Invalidate, Modify, Accept, Zero, BackendAnswer, Succeeds, Fails, Denied, Ok, StoppedAt, FailedAt, Whole}
@@ -42,15 +42,15 @@ dones n = replicate n Succeeds
 abbrev pub lent : List ℕ
 lent = 0xa5 ∷ 0xa5 ∷ 0xa5 ∷ 0xa5 ∷ 0xa5 ∷ []
 
-abbrev pub fresh : World
-fresh = world (built (entriesOf ram) (maps lent lent lent lent lent lent)) (builtState ram 2 1 0) (replicate pagesLen 0) (replicate tablesLen 0)
+abbrev pub fresh : Buffers
+fresh = buffers (built (entriesOf ram) (maps lent lent lent lent lent lent)) (builtState ram 2 1 0) (replicate pagesLen 0) (replicate tablesLen 0)
 
 -- it with these maps, and with protections enabled
-abbrev with : World → Maps → World
-with w m = world m (w .state) (w .pages) (w .tables)
+abbrev with : Buffers → Maps → Buffers
+with w m = buffers m (w .state) (w .pages) (w .tables)
 
-abbrev pub enabled : World
-enabled = world (fresh .maps) (set (fresh .state) place.enabled 1) (fresh .pages) (fresh .tables)
+abbrev pub enabled : Buffers
+enabled = buffers (fresh .maps) (set (fresh .state) place.enabled 1) (fresh .pages) (fresh .tables)
 
 abbrev pub P2 : Whole
 P2 = wholeOf fresh Vtl0 true (page 3 (page 9 (page 10 []))) (dones 9)
@@ -92,7 +92,7 @@ abbrev writeOnly : Maps
 writeOnly = maps all (fresh .maps .shared) but5 all all all
 
 -- page 3 is shared already, and page 5 isn't writable
-abbrev mixed : World
+abbrev mixed : Buffers
 mixed = with enabled (maps but3 only3 all but5 all all)
 
 abbrev mixedList : List ℕ
@@ -107,22 +107,22 @@ abbrev pub P2-calls : Told
 P2-calls = follow (visibilityOf fresh 0 1 (page 3 (page 9 (page 10 [])))) (dones 9)
 
 abbrev pub P3-calls : Told
-P3-calls = follow (visibilityOf (P2-calls .last .world) 0 0 (page 9 (page 10 []))) (Succeeds ∷ Succeeds ∷ Fails 77 1 ∷ dones 3)
+P3-calls = follow (visibilityOf (P2-calls .last .buffers) 0 0 (page 9 (page 10 []))) (Succeeds ∷ Succeeds ∷ Fails 77 1 ∷ dones 3)
 
 abbrev pub P5-calls : ℕ → ℕ → Told
 P5-calls vtl n = follow (visibilityOf enabled vtl 1 (page 3 [])) (dones n)
 
 abbrev pub P5-calls-again : ℕ → ℕ → Told
-P5-calls-again vtl n = follow (visibilityOf (P5-calls vtl n .last .world) vtl 1 (page 3 [])) (dones 3)
+P5-calls-again vtl n = follow (visibilityOf (P5-calls vtl n .last .buffers) vtl 1 (page 3 [])) (dones 3)
 
 -- what they tell: number, code, index, count
 pub record Replies : Type 0 where
   pub P2-told : P2-calls .last .reply ≡ finished 0 0 0 9
-  pub P2-private : P2-calls .last .world .maps .private ≡ 0xf7 ∷ 0xf9 ∷ 0x00 ∷ 0x00 ∷ 0xff ∷ []
-  pub P2-shared : P2-calls .last .world .maps .shared ≡ 0x08 ∷ 0x06 ∷ 0x00 ∷ 0x00 ∷ 0x00 ∷ []
+  pub P2-private : P2-calls .last .buffers .maps .private ≡ 0xf7 ∷ 0xf9 ∷ 0x00 ∷ 0x00 ∷ 0xff ∷ []
+  pub P2-shared : P2-calls .last .buffers .maps .shared ≡ 0x08 ∷ 0x06 ∷ 0x00 ∷ 0x00 ∷ 0x00 ∷ []
   pub P3-told : P3-calls .last .reply ≡ finished refusal.backendFailed 77 1 6
-  pub P3-private : P3-calls .last .world .maps .private ≡ 0xf7 ∷ 0xfb ∷ 0x00 ∷ 0x00 ∷ 0xff ∷ []
-  pub P3-shared : P3-calls .last .world .maps .shared ≡ 0x08 ∷ 0x04 ∷ 0x00 ∷ 0x00 ∷ 0x00 ∷ []
+  pub P3-private : P3-calls .last .buffers .maps .private ≡ 0xf7 ∷ 0xfb ∷ 0x00 ∷ 0x00 ∷ 0xff ∷ []
+  pub P3-shared : P3-calls .last .buffers .maps .shared ≡ 0x08 ∷ 0x04 ∷ 0x00 ∷ 0x00 ∷ 0x00 ∷ []
   pub P5-first : P5-calls 0 6 .last .reply ≡ finished 0 0 0 6
   pub P5-second : P5-calls-again 0 6 .last .reply ≡ finished refusal.accessDenied code.accessDenied 0 3
   pub P5-vtl1-first : P5-calls 1 6 .last .reply ≡ finished 0 0 0 6
@@ -133,9 +133,9 @@ pub record Replies : Type 0 where
 
 -- ---- 7, 10 and 11: in VTL0 an overlay on page 4 and a locked list of pages 4, 6 and 20, in VTL1 an overlay on page 7 and a locked list of page 8; page 20 is no RAM
 
-abbrev guarded : World
+abbrev guarded : Buffers
 guarded =
-    world (fresh .maps) (fresh .state) (fresh .pages)
+    buffers (fresh .maps) (fresh .state) (fresh .pages)
     (overlays.tableOf (overlays.entry 4 15 15 1 0 ∷ []) ++ (overlays.tableOf (overlays.entry 7 15 15 1 0 ∷ [])
     ++ (locks.tableOf ((4 ∷ 6 ∷ 20 ∷ []) ∷ []) ++ locks.tableOf ((8 ∷ []) ∷ []))))
 
@@ -145,9 +145,9 @@ unfoldable pub bytesFrom : ℕ → ℕ → List ℕ
 bytesFrom p zero = []
 bytesFrom p (suc n) = p % 256 ∷ p / 256 ∷ 0 ∷ 0 ∷ 0 ∷ 0 ∷ 0 ∷ 0 ∷ bytesFrom (suc p) n
 
-abbrev pub broad : World
+abbrev pub broad : Buffers
 broad =
-    world (maps (replicate 64 0) (replicate 64 0) (replicate 64 0) (replicate 64 0) (replicate 64 0) (replicate 64 0)) (builtState (0 ∷ 2097152 ∷ 0 ∷ []) 2 1 0)
+    buffers (maps (replicate 64 0) (replicate 64 0) (replicate 64 0) (replicate 64 0) (replicate 64 0) (replicate 64 0)) (builtState (0 ∷ 2097152 ∷ 0 ∷ []) 2 1 0)
     (replicate pagesLen 0) (replicate tablesLen 0)
 
 -- where a share stops (15)
@@ -204,7 +204,7 @@ pub record Visibility : Type 0 where
   -- page 4 drops out and counts in the index of 16
   pub dropped-asked : dropped .asked ≡ P3 .asked
   pub dropped-failed : dropped .status ≡ FailedAt 77 2
-  pub P4 : visibilityOf fresh 0 1 (page 3 (page 16 [])) ≡ record { world = fresh; reply = finished refusal.notRam (codeOf refusal.notRam) 0 0 }
+  pub P4 : visibilityOf fresh 0 1 (page 3 (page 16 [])) ≡ record { buffers = fresh; reply = finished refusal.notRam (codeOf refusal.notRam) 0 0 }
   pub P5-first : P5 Vtl0 6 .status ≡ Ok
   pub P5-second : P5-again Vtl0 6 .status ≡ StoppedAt 0
   pub P5-vtl1-first : P5 Vtl1 6 .status ≡ Ok

@@ -22,7 +22,7 @@ use Rattle.protector_state.specs.State.{firstPhases, phaseOf}
 use Rattle.protector_state.specs.Reply.{askedOf, flatOf}
 use Rattle.protector_state.specs.Changing.{stageOf}
 use Rattle.permissions.specs.declared.GuestVtl.the-variants.{Vtl0}
-use Rattle.call_refusals.specs.World.{fits}
+use Rattle.call_refusals.specs.Buffers.{fits}
 use Rattle.protector.specs.Writes.{applied, entered}
 use Rattle.protector.specs.Calls.{decided, carriedOut, carriedChange, visibilityTaken, visibilityOf, afterDone, afterFailed, answerDone, answerFailed}
 use Rattle.call_refusals.specs.Refusals.{ready, firstRefusal, visibilityRefusal, answerRefusal}

@@ -4,8 +4,8 @@ use Rattle.bitmap.specs.Pages.{word, writtenFrom}
 use Rattle.layout.specs.Layout.{entriesOf, ordered, aligned, refusalOf, spansFrom, spans}
 use Rattle.chunks.specs.Chunks.{powerFrom, pieces, firstNotOf, entryWith}
 use Rattle.registrar_steps.specs.Steps.{registerFrom, lookAt, allFrom}
-use Rattle.registrar_state.specs.World as reg
-use Rattle.registrar_state.specs.World.{allRefusal, allOf}
+use Rattle.registrar_state.specs.Buffers as reg
+use Rattle.registrar_state.specs.Buffers.{allRefusal, allOf}
 use Rattle.worked.specs.Registrar.{RegistrarBuilds, Registers, AllAligned}
 
 pub registrar-builds : RegistrarBuilds

@@ -7,7 +7,7 @@ use lib.ListN.{replicate}
 use Rattle.mapping.specs.Maps.{Maps, maps}
 use Rattle.protector_state.specs.declared.Reply.{Reply}
 use Rattle.protector_state.specs.Reply.{finished}
-use Rattle.call_refusals.specs.World.{World, world}
+use Rattle.call_refusals.specs.Buffers.{Buffers, buffers}
 use Rattle.protector.specs.Calls.{visibilityOf, answerDone, answerFailed}
 use Rattle.protection_entries.specs.Calls.{protectionOf, defaultOf}
 use Rattle.overlay_entries.specs.Calls.{registerOf, unregisterOf, isOverlayIn}
@@ -29,13 +29,13 @@ overlay = 1 ∷ 5 ∷ 15 ∷ 1 ∷ 1 ∷ 0 ∷ []
 abbrev pub list56 : List ℕ
 list56 = lockTable 1 (2 ∷ []) (5 ∷ 6 ∷ [])
 
-abbrev pub rests : Maps → List ℕ → World
+abbrev pub rests : Maps → List ℕ → Buffers
 rests m t = rest m (settings 2 1 0 0 15 16) t
 
-abbrev pub held0 : World
+abbrev pub held0 : Buffers
 held0 = rests read-only (tables overlay [] list56 [])
 
-abbrev pub held1 : World
+abbrev pub held1 : Buffers
 held1 = rests first (tables [] overlay [] list56)
 
 -- VTL0 has locked page 5 and, in another list, page n
@@ -43,23 +43,23 @@ abbrev pub two : ℕ → List ℕ
 two n = tables [] [] (lockTable 2 (1 ∷ 2 ∷ []) (5 ∷ n ∷ [])) []
 
 -- neither default is the one that a build stores
-abbrev pub others : Maps → ℕ → ℕ → List ℕ → World
+abbrev pub others : Maps → ℕ → ℕ → List ℕ → Buffers
 others m a b t = rest m (settings 2 1 0 0 a b) t
 
 -- of pages 5 and 6, each by itself, the number that refuses it
 abbrev pub both : (List ℕ → Reply) → List ℕ
 both f = f (page 5 []) .number ∷ f (page 6 []) .number ∷ []
 
-abbrev pub sharing : World → ℕ → List ℕ → Reply
+abbrev pub sharing : Buffers → ℕ → List ℕ → Reply
 sharing w vtl l = visibilityOf w vtl 1 l .reply
 
-abbrev pub returning : World → ℕ → List ℕ → Reply
+abbrev pub returning : Buffers → ℕ → List ℕ → Reply
 returning w vtl l = visibilityOf w vtl 0 l .reply
 
-abbrev pub protecting : World → ℕ → List ℕ → Reply
+abbrev pub protecting : Buffers → ℕ → List ℕ → Reply
 protecting w vtl l = protectionOf w vtl 4 l .reply
 
-abbrev pub registering : World → ℕ → ℕ → Reply
+abbrev pub registering : Buffers → ℕ → ℕ → Reply
 registering w vtl p = registerOf w vtl p 0 1 16 .reply
 
 pub record Bars : Type 0 where
@@ -158,14 +158,14 @@ pub record Queries : Type 0 where
 -- ---- busy (19) and halted (20)
 
 -- Wait of a share of page 3 is outstanding; a failed Protect has halted it
-abbrev pub busy : World
-busy = visibilityOf fresh 0 1 (page 3 []) .world
+abbrev pub busy : Buffers
+busy = visibilityOf fresh 0 1 (page 3 []) .buffers
 
-abbrev pub halted : World
-halted = follow (visibilityOf fresh 0 1 (page 3 [])) (Succeeds ∷ Succeeds ∷ Fails 77 0 ∷ []) .last .world
+abbrev pub halted : Buffers
+halted = follow (visibilityOf fresh 0 1 (page 3 [])) (Succeeds ∷ Succeeds ∷ Fails 77 0 ∷ []) .last .buffers
 
 -- the calls that wait their turn, each unfit besides
-abbrev pub refusals : World → List ℕ
+abbrev pub refusals : Buffers → List ℕ
 refusals w =
     visibilityOf w 2 1 (page 3 (page 3 (1 ∷ []))) .reply .number ∷ protectionOf w 2 4 (1 ∷ []) .reply .number ∷ defaultOf w 2 16 .reply .number
     ∷ registerOf w 2 5 2 16 17 .reply .number ∷ unregisterOf w 2 5 .reply .number ∷ isOverlayIn (w .state) (w .tables) 2 5 .number
@@ -173,20 +173,20 @@ refusals w =
     ∷ enabledIn (w .state) .number ∷ defaultIn (w .state) .number ∷ queryOf (w .state) (w .maps .shared) (1 ∷ []) [] .reply .number ∷ []
 
 -- those that don't: of page 4
-abbrev pub passes : World → List ℕ
+abbrev pub passes : Buffers → List ℕ
 passes w =
     faultIn (w .state) (w .maps) 0 0 16384 0 1 .number ∷ lowerIn (w .state) (w .maps) 0 4 .number ∷ accessIn (w .state) (w .maps) 4 .number ∷ []
 
 -- lent no `pages` run and no tables
-abbrev pub short : World → World
-short w = world (w .maps) (w .state) [] []
+abbrev pub short : Buffers → Buffers
+short w = buffers (w .maps) (w .state) [] []
 
 -- lent a state block of a word too many, and of a word too few
-abbrev pub longer : World → World
-longer w = world (w .maps) (w .state ++ (0 ∷ [])) (w .pages) (w .tables)
+abbrev pub longer : Buffers → Buffers
+longer w = buffers (w .maps) (w .state ++ (0 ∷ [])) (w .pages) (w .tables)
 
-abbrev pub shorter : World → World
-shorter w = world (w .maps) (replicate 127 0) (w .pages) (w .tables)
+abbrev pub shorter : Buffers → Buffers
+shorter w = buffers (w .maps) (replicate 127 0) (w .pages) (w .tables)
 
 pub record Turns : Type 0 where
   pub busy-19 : refusals busy ≡ replicate 12 19
@@ -206,7 +206,7 @@ pub record Turns : Type 0 where
   pub idle-shorter : refusals (shorter fresh) ≡ replicate 12 4
   pub halted-longer-done : answerDone (longer halted) ≡ keeps (longer halted) (refused 4 0)
   -- 19 before 24
-  pub busy-untracked : enableOf (visibilityOf (rest untracked (settings 2 0 0 0 15 16) noTables) 0 1 (page 3 []) .world .state) .reply ≡ refused 19 0
+  pub busy-untracked : enableOf (visibilityOf (rest untracked (settings 2 0 0 0 15 16) noTables) 0 1 (page 3 []) .buffers .state) .reply ≡ refused 19 0
   -- of an answer too, and before 21: nothing is asked, or a Wait is said to have failed
   pub halted-short-done : answerDone (short halted) ≡ keeps (short halted) (refused 20 0)
   pub idle-short-done : answerDone (short fresh) ≡ keeps (short fresh) (refused 4 0)

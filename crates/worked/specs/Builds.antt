@@ -5,7 +5,7 @@ use Prim.Native.Nat.{ℕ, _+_, _^_}
 use lib.ListN.{replicate}
 use Rattle.mapping.specs.Maps.{Maps, maps}
 use Rattle.protector_state.specs.declared.Reply.{Reply}
-use Rattle.call_refusals.specs.World.{World, world, outcome}
+use Rattle.call_refusals.specs.Buffers.{Buffers, buffers, outcome}
 use Rattle.protector.specs.Calls.{buildOf}
 use Rattle.setting_entries.specs.Calls.{enableOf, enabledIn, defaultIn}
 use Rattle.setting_entries.specs.Calls as calls
@@ -14,22 +14,22 @@ use Rattle.visibility_claims.specs.Table.{ram, lent, fresh, enabled}
 use Rattle.worked.specs.Crossing.{ok, refused, keeps, first, allRam, clear, settings, noTables, rest}
 
 -- bytes and words of any content, and maps of these lengths
-abbrev pub dirty : Maps → World
-dirty m = world m (replicate 128 7) (replicate 1024 7) (replicate 3460 7)
+abbrev pub dirty : Maps → Buffers
+dirty m = buffers m (replicate 128 7) (replicate 1024 7) (replicate 3460 7)
 
-abbrev pub unbuilt : World
+abbrev pub unbuilt : Buffers
 unbuilt = dirty (maps lent lent lent lent lent lent)
 
-abbrev pub unbuilt-untracked : World
+abbrev pub unbuilt-untracked : Buffers
 unbuilt-untracked = dirty (maps lent lent [] [] [] [])
 
 abbrev pub one : List ℕ
 one = 0xa5 ∷ []
 
-abbrev pub eight : World
+abbrev pub eight : Buffers
 eight = dirty (maps one one one one one one)
 
-abbrev pub told : World → List ℕ → ℕ → ℕ → ℕ → Reply
+abbrev pub told : Buffers → List ℕ → ℕ → ℕ → ℕ → Reply
 told w layout isolation tracked release = buildOf w layout isolation tracked release .reply
 
 pub record Builds : Type 0 where
@@ -70,9 +70,9 @@ pub record Builds : Type 0 where
   pub too-short : told unbuilt-untracked ram 2 1 0 ≡ refused 4 0
   pub one-map-short : told (dirty (maps lent lent lent lent lent one)) ram 2 1 0 ≡ refused 4 0
   -- the blocks beside the maps, also where `tracked` is unfit
-  pub state-short : told (world (unbuilt .maps) (replicate 127 7) (replicate 1024 7) (replicate 3460 7)) ram 2 1 0 ≡ refused 4 0
-  pub pages-short : told (world (unbuilt .maps) (replicate 128 7) (replicate 1023 7) (replicate 3460 7)) ram 2 1 0 ≡ refused 4 0
-  pub tables-short : told (world (unbuilt .maps) (replicate 128 7) (replicate 1024 7) (replicate 3459 7)) ram 2 1 0 ≡ refused 4 0
-  pub pages-short-unfit : told (world (unbuilt .maps) (replicate 128 7) [] (replicate 3460 7)) ram 2 2 0 ≡ refused 4 0
+  pub state-short : told (buffers (unbuilt .maps) (replicate 127 7) (replicate 1024 7) (replicate 3460 7)) ram 2 1 0 ≡ refused 4 0
+  pub pages-short : told (buffers (unbuilt .maps) (replicate 128 7) (replicate 1023 7) (replicate 3460 7)) ram 2 1 0 ≡ refused 4 0
+  pub tables-short : told (buffers (unbuilt .maps) (replicate 128 7) (replicate 1024 7) (replicate 3459 7)) ram 2 1 0 ≡ refused 4 0
+  pub pages-short-unfit : told (buffers (unbuilt .maps) (replicate 128 7) [] (replicate 3460 7)) ram 2 2 0 ≡ refused 4 0
   pub tracked-2 : told unbuilt ram 2 2 0 ≡ refused 8 0
   pub release-2 : told unbuilt ram 2 1 2 ≡ refused 8 0

@@ -7,7 +7,7 @@ use lib.ListN.{replicate}
 use Rattle.mapping.specs.Maps.{Maps, maps}
 use Rattle.protector_state.specs.Reply.{finished}
 use Rattle.protector_state.specs.State.{builtState}
-use Rattle.call_refusals.specs.World.{World}
+use Rattle.call_refusals.specs.Buffers.{Buffers}
 use Rattle.protector.specs.Calls.{visibilityOf}
 use Rattle.protection_entries.specs.Calls.{protectionOf, defaultOf}
 use Rattle.visibility_claims.specs.Whole.{Succeeds, Fails}
@@ -40,7 +40,7 @@ pub record Protections : Type 0 where
   pub tdx-vtl1 : replies (protectionOf (on 3 1 first) 1 8 (page 3 [])) (dones 4) ≡ protects 1 8 0 3 1 ∷ waits ∷ flushes 0 ∷ tlbWaits 1 ∷ ok 4 ∷ []
   pub cca-vtl0 : replies (protectionOf (on 4 1 first) 0 4 (page 3 [])) (dones 4) ≡ protects 0 4 0 3 1 ∷ waits ∷ flushes 0 ∷ tlbWaits 0 ∷ ok 4 ∷ []
   -- each flag to its map, before the Protect of its run is answered; of VTL1 none, nor where none are tracked
-  pub kernel-asked : protectionOf fresh 0 4 apart .world .maps ≡ maps allRam clear (low 0xe7) (low 0xe7) allRam (low 0xe7)
+  pub kernel-asked : protectionOf fresh 0 4 apart .buffers .maps ≡ maps allRam clear (low 0xe7) (low 0xe7) allRam (low 0xe7)
   pub kernel-left : forgotten (after 5 (protectionOf fresh 0 4 apart)) ≡ off (maps allRam clear others others allRam others)
   pub user-left : forgotten (after 4 (protectionOf fresh 0 8 (page 3 []))) ≡ off (maps allRam clear (low 0xf7) (low 0xf7) (low 0xf7) allRam)
   pub vtl1-left : forgotten (after 4 (protectionOf fresh 1 8 (page 3 []))) ≡ fresh
@@ -54,7 +54,7 @@ pub record Protections : Type 0 where
   pub flags-16 : protectionOf fresh 0 16 (page 16 []) .reply ≡ refused 8 0
   -- a failed Protect halts; its own run is written, later ones aren't
   pub fails : replies (protectionOf fresh 0 4 apart) (Fails 77 0 ∷ []) ≡ protects 0 4 2050 3 2 ∷ finished 20 0 0 1 ∷ []
-  pub fails-left : follow (protectionOf fresh 0 4 apart) (Fails 77 0 ∷ []) .last .world .maps ≡ maps allRam clear (low 0xe7) (low 0xe7) allRam (low 0xe7)
+  pub fails-left : follow (protectionOf fresh 0 4 apart) (Fails 77 0 ∷ []) .last .buffers .maps ≡ maps allRam clear (low 0xe7) (low 0xe7) allRam (low 0xe7)
   -- Wait, Flush and TlbWait cannot fail: each is asked until it is done
   pub cannot-fail : replies (protectionOf fresh 1 4 []) (Fails 1 0 ∷ Succeeds ∷ Fails 1 0 ∷ Succeeds ∷ Fails 1 0 ∷ Succeeds ∷ []) ≡ waits ∷ flushes 0 ∷ tlbWaits 1 ∷ ok 3 ∷ []
 
@@ -64,21 +64,21 @@ pub record Protections : Type 0 where
 abbrev pub overlay5 : ℕ → List ℕ
 overlay5 p = tables (1 ∷ 5 ∷ p ∷ 1 ∷ 1 ∷ 0 ∷ []) [] [] []
 
-abbrev pub overlaid : World
+abbrev pub overlaid : Buffers
 overlaid = rest read-only (settings 2 1 0 0 15 16) (overlay5 15)
 
-abbrev pub overlaid-shared : World
+abbrev pub overlaid-shared : Buffers
 overlaid-shared = rest (maps (low 0xdf) (only 0x20) allRam (low 0xdf) (low 0xdf) (low 0xdf)) (settings 2 1 0 0 15 16) (overlay5 15)
 
 -- a Dma overlay of VTL0 on page 16, which is no RAM
-abbrev pub dma : World
+abbrev pub dma : Buffers
 dma = rest first (settings 2 1 0 0 15 16) (tables (1 ∷ 16 ∷ 0 ∷ 0 ∷ 1 ∷ 1 ∷ []) [] [] [])
 
 -- pages 0 to 39 are RAM, in two entries that touch at page 16
 abbrev pub full : List ℕ
 full = replicate 5 0xff
 
-abbrev pub touching : World
+abbrev pub touching : Buffers
 touching = rest (maps full clear full full full full) (builtState (0 ∷ 65536 ∷ 0 ∷ 65536 ∷ 163840 ∷ 1 ∷ []) 2 1 0) noTables
 
 pub record DefaultChanges : Type 0 where
@@ -101,7 +101,7 @@ pub record DefaultChanges : Type 0 where
   -- an overlay of the target VTL splits its run and gets the new previous flags at once; one of the other VTL does neither
   pub overlay-split : replies (defaultOf overlaid 0 4) (dones 6)
       ≡ protects 0 4 2050 0 5 ∷ protects 0 4 2050 6 10 ∷ protects 0 4 2050 32 8 ∷ waits ∷ flushes 0 ∷ tlbWaits 0 ∷ ok 6 ∷ []
-  pub overlay-renewed : defaultOf overlaid 0 4 .world .tables ≡ overlay5 4
+  pub overlay-renewed : defaultOf overlaid 0 4 .buffers .tables ≡ overlay5 4
   pub overlay-other : replies (defaultOf overlaid 1 4) (dones 5) ≡ protects 1 4 2049 0 16 ∷ protects 1 4 2049 32 8 ∷ waits ∷ flushes 0 ∷ tlbWaits 1 ∷ ok 5 ∷ []
   pub overlay-other-kept : after 5 (defaultOf overlaid 1 4) .tables ≡ overlay5 15
   -- nor does it of a page that is shared or no RAM: they keep their own

@@ -7,7 +7,7 @@ use Rattle.words.specs.Words.{padded}
 use Rattle.mapping.specs.Maps.{Maps, maps}
 use Rattle.protector_state.specs.declared.Reply.{Reply}
 use Rattle.protector_state.specs.Reply.{finished}
-use Rattle.call_refusals.specs.World.{World, world, Outcome}
+use Rattle.call_refusals.specs.Buffers.{Buffers, buffers, Outcome}
 use Rattle.visibility_claims.specs.Whole.{BackendAnswer}
 use Rattle.visibility_claims.specs.Calls.{Told, follow}
 use Rattle.visibility_claims.specs.Table.{ram, dones}
@@ -21,8 +21,8 @@ abbrev pub refused : ℕ → ℕ → Reply
 refused n code = finished n code 0 0
 
 -- a refused call leaves all that it is lent
-abbrev pub keeps : World → Reply → Outcome
-keeps w r = record { world = w; reply = r }
+abbrev pub keeps : Buffers → Reply → Outcome
+keeps w r = record { buffers = w; reply = r }
 
 -- ---- a reply that asks for an operation
 
@@ -74,11 +74,11 @@ abbrev pub replies : Outcome → List BackendAnswer → List Reply
 replies o gs = heard (follow o gs)
 
 -- what is lent once n operations are done
-abbrev pub after : ℕ → Outcome → World
-after n o = follow o (dones n) .last .world
+abbrev pub after : ℕ → Outcome → Buffers
+after n o = follow o (dones n) .last .buffers
 
 -- the pages that a Modify of n asks for, in the run `pages`, and their places in the list as sent
-abbrev pub named : ℕ → World → List ℕ
+abbrev pub named : ℕ → Buffers → List ℕ
 named n w = take n (w .pages) ++ take n (drop 512 (w .pages))
 
 -- ---- maps: all RAM, no page, and either with another first byte (pages 0 to 7)
@@ -125,8 +125,8 @@ noTables = replicate 3460 0
 
 -- ---- a protector at rest; and what is lent without the pages that a request has left behind
 
-abbrev pub rest : Maps → List ℕ → List ℕ → World
-rest m s t = world m s (replicate 1024 0) t
+abbrev pub rest : Maps → List ℕ → List ℕ → Buffers
+rest m s t = buffers m s (replicate 1024 0) t
 
-abbrev pub forgotten : World → World
+abbrev pub forgotten : Buffers → Buffers
 forgotten w = rest (w .maps) (w .state) (w .tables)

@@ -6,7 +6,7 @@ use mathlib.Core.Path.{_≡_}
 use Prim.Native.Nat.{ℕ, _+_, _*_, _^_}
 use lib.ListN.{replicate}
 use Rattle.mapping.specs.Maps.{Maps, maps}
-use Rattle.call_refusals.specs.World.{World}
+use Rattle.call_refusals.specs.Buffers.{Buffers}
 use Rattle.protector.specs.Calls.{visibilityOf}
 use Rattle.protector_state.specs.declared.Value.{Value}
 use Rattle.queries.specs.Queries.{faultIn, lowerIn, accessIn}
@@ -33,8 +33,8 @@ abbrev pub answers : ℕ → List ℕ
 answers p = at 0 0 0 p .value ∷ at 0 1 0 p .value ∷ at 0 2 0 p .value ∷ at 0 0 1 p .value ∷ []
 
 -- VTL0 has begun to share page 3: Wait is outstanding
-abbrev pub under-way : World
-under-way = visibilityOf fresh 0 1 (page 3 []) .world
+abbrev pub under-way : Buffers
+under-way = visibilityOf fresh 0 1 (page 3 []) .buffers
 
 pub record Faults : Type 0 where
   -- each view has its map, a write the write map

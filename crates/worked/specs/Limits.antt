@@ -4,7 +4,7 @@ use mathlib.Core.List.{List, [], _∷_}
 use mathlib.Core.Path.{_≡_}
 use Prim.Native.Nat.{ℕ, zero, suc, _+_}
 use lib.ListN.{replicate}
-use Rattle.call_refusals.specs.World.{World}
+use Rattle.call_refusals.specs.Buffers.{Buffers}
 use Rattle.overlay_entries.specs.Calls.{registerOf}
 use Rattle.lock_entries.specs.Calls.{kept, lockOf, unlockOf}
 use Rattle.visibility_claims.specs.Table.{page, fresh}
@@ -17,18 +17,18 @@ dmaFrom p zero = []
 dmaFrom p (suc k) = p ∷ 0 ∷ 0 ∷ 1 ∷ 1 ∷ dmaFrom (suc p) k
 
 -- 128 of them, and page 5 locked
-abbrev pub full-locked : World
+abbrev pub full-locked : Buffers
 full-locked = rest first (settings 2 1 0 0 15 16) (tables (128 ∷ dmaFrom 40 128) [] (oneLocked 5) [])
 
-abbrev pub holding : ℕ → World
+abbrev pub holding : ℕ → Buffers
 holding n = rest first (settings 2 1 0 0 15 16) (tables (n ∷ dmaFrom 40 n) [] [] [])
 
 -- k register calls from n overlays on, each with its three operations done; and what they leave
-unfoldable pub registered : ℕ → ℕ → List World
+unfoldable pub registered : ℕ → ℕ → List Buffers
 registered n zero = []
 registered n (suc k) = forgotten (after 3 (registerOf (holding n) 0 (40 + n) 1 0 16)) ∷ registered (suc n) k
 
-unfoldable pub holdings : ℕ → ℕ → List World
+unfoldable pub holdings : ℕ → ℕ → List Buffers
 holdings n zero = []
 holdings n (suc k) = holding n ∷ holdings (suc n) k
 

@@ -6,7 +6,7 @@ use lib.ListN.{replicate}
 use Rattle.mapping.specs.Maps.{maps}
 use Rattle.protector_state.specs.declared.Reply.{Reply}
 use Rattle.protector_state.specs.State.{builtState}
-use Rattle.call_refusals.specs.World.{World}
+use Rattle.call_refusals.specs.Buffers.{Buffers}
 use Rattle.protector.specs.Calls.{visibilityOf}
 use Rattle.protection_entries.specs.Calls.{protectionOf}
 use Rattle.lock_entries.specs.Calls.{lockOf, unlockOf}
@@ -18,7 +18,7 @@ use Rattle.worked.specs.Crossing.{ok, refused, keeps, waits, flushesAll,
 abbrev pub all512 : List ℕ
 all512 = replicate 64 0xff
 
-abbrev pub wide : World
+abbrev pub wide : Buffers
 wide = rest (maps all512 (replicate 64 0) all512 all512 all512 all512) (builtState (0 ∷ 2097152 ∷ 0 ∷ []) 2 1 0) noTables
 
 -- k pages from p on, below 65,536
@@ -74,7 +74,7 @@ pub record Lists : Type 0 where
   -- the lowest byte first, all eight: 2^52 + 3 is another page than 3, and no RAM
   pub high-page : share (page 3 (3 ∷ 0 ∷ 0 ∷ 0 ∷ 0 ∷ 0 ∷ 16 ∷ 0 ∷ [])) ≡ refused 7 8
   pub highest-byte : share (3 ∷ 0 ∷ 0 ∷ 0 ∷ 0 ∷ 0 ∷ 0 ∷ 1 ∷ []) ≡ refused 7 8
-  pub second-byte : named 1 (visibilityOf wide 0 1 (2 ∷ 1 ∷ 0 ∷ 0 ∷ 0 ∷ 0 ∷ 0 ∷ 0 ∷ []) .world) ≡ 258 ∷ 0 ∷ []
+  pub second-byte : named 1 (visibilityOf wide 0 1 (2 ∷ 1 ∷ 0 ∷ 0 ∷ 0 ∷ 0 ∷ 0 ∷ 0 ∷ []) .buffers) ≡ 258 ∷ 0 ∷ []
   -- neighbours make a run where they ascend, also across a byte of the maps
   pub descending : replies (visibilityOf fresh 0 1 (page 8 (page 7 []))) (dones 9)
       ≡ waits ∷ flushesAll ∷ protects 0 0 2 8 1 ∷ protects 1 0 1 8 1 ∷ invalidates 8 1 ∷ protects 0 0 2 7 1 ∷ protects 1 0 1 7 1 ∷ invalidates 7 1 ∷ shares 2 ∷ ok 9 ∷ []

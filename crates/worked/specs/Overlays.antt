@@ -6,7 +6,7 @@ use Prim.Native.Nat.{ℕ, _+_, _^_}
 use Rattle.mapping.specs.Maps.{Maps, maps}
 use Rattle.protector_state.specs.declared.Reply.{Reply}
 use Rattle.protector_state.specs.Reply.{finished}
-use Rattle.call_refusals.specs.World.{World}
+use Rattle.call_refusals.specs.Buffers.{Buffers}
 use Rattle.overlay_entries.specs.Calls.{registerOf, unregisterOf, isOverlayIn}
 use Rattle.protector_state.specs.Reply.{value}
 use Rattle.visibility_claims.specs.Whole.{Fails}
@@ -25,21 +25,21 @@ abbrev pub in1 : List ℕ → List ℕ
 in1 o = tables [] o [] []
 
 -- page 5 only executable in kernel mode (4)
-abbrev pub kernel-only : World
+abbrev pub kernel-only : Buffers
 kernel-only = off (maps allRam clear (low 0xdf) (low 0xdf) allRam (low 0xdf))
 
-abbrev pub without : World
+abbrev pub without : Buffers
 without = rest untracked (settings 2 0 0 0 15 16) noTables
 
 -- VTL0 has page 5 as an overlay, readable and executable in kernel mode (5), counted n times
-abbrev pub counted : ℕ → World
+abbrev pub counted : ℕ → Buffers
 counted n = rest (maps allRam clear allRam (low 0xdf) allRam (low 0xdf)) (settings 2 1 0 0 15 16) (in0 (1 ∷ 5 ∷ 15 ∷ 5 ∷ n ∷ 0 ∷ []))
 
 -- these maps, with pages 3, 5 and 16 locked by VTL0
-abbrev pub locking : Maps → World
+abbrev pub locking : Maps → Buffers
 locking m = rest m (settings 2 1 0 0 15 16) (tables [] [] (lockTable 1 (3 ∷ []) (3 ∷ 5 ∷ 16 ∷ [])) [])
 
-abbrev pub register : World → ℕ → ℕ → ℕ → ℕ → ℕ → Reply
+abbrev pub register : Buffers → ℕ → ℕ → ℕ → ℕ → ℕ → Reply
 register w vtl p source checked new = registerOf w vtl p source checked new .reply
 
 pub record NewOverlays : Type 0 where
@@ -48,23 +48,23 @@ pub record NewOverlays : Type 0 where
   pub vtl1-user : replies (registerOf fresh 1 5 0 15 8) (dones 4) ≡ protects 1 8 1025 5 1 ∷ waits ∷ flushes 1 ∷ tlbWaits 1 ∷ ok 4 ∷ []
   pub tdx-vtl1 : replies (registerOf (on 3 1 first) 1 5 0 15 8) (dones 4) ≡ protects 1 8 0 5 1 ∷ waits ∷ flushes 1 ∷ tlbWaits 1 ∷ ok 4 ∷ []
   -- the maps of VTL0 are written before it, the entry once it is done
-  pub vtl0-asked : registerOf fresh 0 5 0 15 4 .world .maps ≡ kernel-only .maps
-  pub vtl0-asked-tables : registerOf fresh 0 5 0 15 4 .world .tables ≡ noTables
+  pub vtl0-asked : registerOf fresh 0 5 0 15 4 .buffers .maps ≡ kernel-only .maps
+  pub vtl0-asked-tables : registerOf fresh 0 5 0 15 4 .buffers .tables ≡ noTables
   pub vtl0-left : forgotten (after 4 (registerOf fresh 0 5 0 15 4)) ≡ rest (kernel-only .maps) (settings 2 1 0 0 15 16) (in0 (1 ∷ 5 ∷ 15 ∷ 4 ∷ 1 ∷ 0 ∷ []))
   pub vtl1-left : forgotten (after 4 (registerOf fresh 1 5 0 15 8)) ≡ rest first (settings 2 1 0 0 15 16) (in1 (1 ∷ 5 ∷ 15 ∷ 8 ∷ 1 ∷ 0 ∷ []))
   pub read-left : forgotten (after 4 (registerOf fresh 0 5 0 15 1)) ≡ overlaid
   pub own-left : forgotten (after 4 (registerOf fresh 0 5 0 15 5)) ≡ counted 1
   -- no new flags: no Protect, and the entry at once, with the current flags
   pub none : replies (registerOf fresh 1 5 0 15 16) (dones 3) ≡ waits ∷ flushes 1 ∷ tlbWaits 1 ∷ ok 3 ∷ []
-  pub none-tables : registerOf kernel-only 0 5 0 4 16 .world .tables ≡ in0 (1 ∷ 5 ∷ 4 ∷ 4 ∷ 1 ∷ 0 ∷ [])
+  pub none-tables : registerOf kernel-only 0 5 0 4 16 .buffers .tables ≡ in0 (1 ∷ 5 ∷ 4 ∷ 4 ∷ 1 ∷ 0 ∷ [])
   -- current flags: the maps for VTL0, all four for VTL1 and where none are tracked; the checked ones are within them, the new ones need not be
   pub vtl0-within : register kernel-only 0 5 0 4 8 ≡ protects 0 8 1026 5 1
   pub vtl0-narrow : register kernel-only 0 5 0 8 4 ≡ refused 13 8
   pub vtl0-both : register kernel-only 0 5 0 12 16 ≡ refused 13 8
   pub vtl1-all : register kernel-only 1 5 0 15 16 ≡ waits
-  pub vtl1-all-tables : registerOf kernel-only 1 5 0 8 16 .world .tables ≡ in1 (1 ∷ 5 ∷ 15 ∷ 15 ∷ 1 ∷ 0 ∷ [])
+  pub vtl1-all-tables : registerOf kernel-only 1 5 0 8 16 .buffers .tables ≡ in1 (1 ∷ 5 ∷ 15 ∷ 15 ∷ 1 ∷ 0 ∷ [])
   pub untracked-all : register without 0 5 0 15 16 ≡ waits
-  pub untracked-all-tables : registerOf without 0 5 0 1 16 .world .tables ≡ in0 (1 ∷ 5 ∷ 15 ∷ 15 ∷ 1 ∷ 0 ∷ [])
+  pub untracked-all-tables : registerOf without 0 5 0 1 16 .buffers .tables ≡ in0 (1 ∷ 5 ∷ 15 ∷ 15 ∷ 1 ∷ 0 ∷ [])
   pub user-flag : register (off split) 0 6 0 8 16 ≡ waits
   pub kernel-not-user : register (off split) 0 6 0 4 16 ≡ refused 13 8
   -- a Dma page isn't RAM; its checked flags aren't looked at, and it has no previous ones; no map has it
@@ -91,7 +91,7 @@ pub record NewOverlays : Type 0 where
   pub new-17 : register fresh 0 16 0 0 17 ≡ refused 8 0
   -- a failed Protect: OperationDenied whatever its code, the maps written, no entry
   pub fails : replies (registerOf fresh 0 5 0 15 4) (Fails 77 0 ∷ dones 3) ≡ protects 0 4 2050 5 1 ∷ finished 16 8 0 1 ∷ []
-  pub fails-left : forgotten (follow (registerOf fresh 0 5 0 15 4) (Fails 77 0 ∷ []) .last .world) ≡ kernel-only
+  pub fails-left : forgotten (follow (registerOf fresh 0 5 0 15 4) (Fails 77 0 ∷ []) .last .buffers) ≡ kernel-only
 
 pub record KnownOverlays : Type 0 where
   -- its own flags (5) hold the new ones, or the checked where none are new: one registration more, and nothing is asked
@@ -110,10 +110,10 @@ pub record KnownOverlays : Type 0 where
   -- a count above 1 is lowered with no operation; else the previous flags, and the entry goes once they are set
   pub lowered : unregisterOf (counted 2) 0 5 ≡ keeps (counted 1) (ok 0)
   pub gone : replies (unregisterOf (counted 1) 0 5) (dones 4) ≡ protects 0 15 3842 5 1 ∷ waits ∷ flushes 0 ∷ tlbWaits 0 ∷ ok 4 ∷ []
-  pub gone-asked : unregisterOf (counted 1) 0 5 .world .tables ≡ counted 1 .tables
+  pub gone-asked : unregisterOf (counted 1) 0 5 .buffers .tables ≡ counted 1 .tables
   pub gone-left : forgotten (after 4 (unregisterOf (counted 1) 0 5)) ≡ fresh
   pub gone-fails : replies (unregisterOf (counted 1) 0 5) (Fails 77 0 ∷ []) ≡ protects 0 15 3842 5 1 ∷ finished 16 8 0 1 ∷ []
-  pub gone-fails-left : forgotten (follow (unregisterOf (counted 1) 0 5) (Fails 77 0 ∷ []) .last .world) ≡ rest first (settings 2 1 0 0 15 16) (counted 1 .tables)
+  pub gone-fails-left : forgotten (follow (unregisterOf (counted 1) 0 5) (Fails 77 0 ∷ []) .last .buffers) ≡ rest first (settings 2 1 0 0 15 16) (counted 1 .tables)
   pub gone-vtl1 : replies (unregisterOf (rest first (settings 2 1 0 0 15 16) (in1 (1 ∷ 5 ∷ 9 ∷ 1 ∷ 1 ∷ 0 ∷ []))) 1 5) (dones 4)
       ≡ protects 1 9 1281 5 1 ∷ waits ∷ flushes 1 ∷ tlbWaits 1 ∷ ok 4 ∷ []
   -- the gap is closed

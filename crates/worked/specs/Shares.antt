@@ -6,7 +6,7 @@ use Prim.Native.Nat.{ℕ}
 use Rattle.mapping.specs.Maps.{Maps, maps}
 use Rattle.protector_state.specs.declared.Reply.{Reply}
 use Rattle.protector_state.specs.Reply.{finished}
-use Rattle.call_refusals.specs.World.{World}
+use Rattle.call_refusals.specs.Buffers.{Buffers}
 use Rattle.protector.specs.Calls.{visibilityOf, answerDone, answerFailed}
 use Rattle.protection_entries.specs.Calls.{protectionOf}
 use Rattle.visibility_claims.specs.Whole.{BackendAnswer, Succeeds, Fails}
@@ -16,7 +16,7 @@ use Rattle.worked.specs.Crossing.{ok, refused, keeps, waits, flushesAll,
 
 -- ---- operations: VTL0's default is all four flags, VTL1's is read and kernel execute (5)
 
-abbrev pub on : ℕ → ℕ → Maps → World
+abbrev pub on : ℕ → ℕ → Maps → Buffers
 on isolation release m = rest m (settings isolation 1 release 0 15 5) noTables
 
 abbrev pub three : List ℕ
@@ -63,8 +63,8 @@ pub record Operations : Type 0 where
   pub share-names : named 3 (after 8 (visibilityOf (on 2 1 first) 0 1 three)) ≡ 3 ∷ 9 ∷ 10 ∷ 0 ∷ 1 ∷ 2 ∷ []
   pub return-names : named 3 (after 2 (visibilityOf (on 2 1 shared) 0 0 (page 10 (page 3 (page 9 []))))) ≡ 10 ∷ 3 ∷ 9 ∷ 0 ∷ 1 ∷ 2 ∷ []
   -- what is already so drops out
-  pub share-drops : named 2 (visibilityOf (on 2 1 shared) 1 1 (page 2 (page 3 (page 4 []))) .world) ≡ 2 ∷ 4 ∷ 0 ∷ 2 ∷ []
-  pub return-drops : named 2 (visibilityOf (on 2 1 shared) 0 0 (page 2 (page 3 (page 4 (page 9 [])))) .world) ≡ 3 ∷ 9 ∷ 1 ∷ 3 ∷ []
+  pub share-drops : named 2 (visibilityOf (on 2 1 shared) 1 1 (page 2 (page 3 (page 4 []))) .buffers) ≡ 2 ∷ 4 ∷ 0 ∷ 2 ∷ []
+  pub return-drops : named 2 (visibilityOf (on 2 1 shared) 0 0 (page 2 (page 3 (page 4 (page 9 [])))) .buffers) ≡ 3 ∷ 9 ∷ 1 ∷ 3 ∷ []
   pub all-drop : replies (visibilityOf (on 2 1 first) 0 0 three) (dones 3) ≡ waits ∷ flushesAll ∷ returns 0 ∷ ok 3 ∷ []
 
 -- ---- when marks and permissions move: after n answers, each done
@@ -112,13 +112,13 @@ mixed = maps (low 0xf7) (only 0x08) allRam (low 0xdf) (low 0xdf) (low 0xdf)
 abbrev pub closed : Maps
 closed = maps (low 0xf7) (only 0x08) (low 0xf7) (low 0xf7) (low 0xf7) (low 0xf7)
 
-abbrev pub off : Maps → World
+abbrev pub off : Maps → Buffers
 off m = rest m (settings 2 1 0 0 15 16) noTables
 
-abbrev pub guarded : Maps → World
+abbrev pub guarded : Maps → Buffers
 guarded m = rest m (settings 2 1 0 1 15 16) noTables
 
-abbrev pub last : World → ℕ → List ℕ → Reply
+abbrev pub last : Buffers → ℕ → List ℕ → Reply
 last w vtl l = follow (visibilityOf w vtl 1 l) (dones 14) .last .reply
 
 abbrev pub five : List ℕ
@@ -139,7 +139,7 @@ pub record Stops : Type 0 where
   -- the index is a place in the list as sent; earlier pages are done, later ones aren't
   pub five-on : replies (visibilityOf (guarded mixed) 0 1 five) (dones 6)
       ≡ waits ∷ flushesAll ∷ protects 0 0 2 6 2 ∷ protects 1 0 1 6 2 ∷ invalidates 6 2 ∷ shares 2 ∷ finished 15 6 3 6 ∷ []
-  pub five-names : named 2 (visibilityOf (guarded mixed) 0 1 five .world) ≡ 6 ∷ 7 ∷ 0 ∷ 2 ∷ []
+  pub five-names : named 2 (visibilityOf (guarded mixed) 0 1 five .buffers) ≡ 6 ∷ 7 ∷ 0 ∷ 2 ∷ []
   pub five-left : after 6 (visibilityOf (guarded mixed) 0 1 five) .maps ≡ maps (low 0x37) (only 0xc8) (low 0x3f) (low 0x1f) (low 0x1f) (low 0x1f)
   pub five-off : last (off mixed) 0 five ≡ ok 12
   pub five-vtl1 : last (guarded mixed) 1 five ≡ ok 12
@@ -158,7 +158,7 @@ pub record Calls : Type 0 where
   pub P2-left : forgotten (after 9 (visibilityOf fresh 0 1 three)) ≡ off shared
   pub P3 : replies (visibilityOf (off shared) 0 0 (page 9 (page 10 []))) (Succeeds ∷ Succeeds ∷ Fails 77 1 ∷ dones 3)
       ≡ waits ∷ flushesAll ∷ returns 2 ∷ accepts 9 1 ∷ zeroes 9 1 ∷ protects 0 15 3842 9 1 ∷ finished 16 77 1 6 ∷ []
-  pub P3-left : follow (visibilityOf (off shared) 0 0 (page 9 (page 10 []))) (Succeeds ∷ Succeeds ∷ Fails 77 1 ∷ dones 3) .last .world .maps
+  pub P3-left : follow (visibilityOf (off shared) 0 0 (page 9 (page 10 []))) (Succeeds ∷ Succeeds ∷ Fails 77 1 ∷ dones 3) .last .buffers .maps
       ≡ maps (0xf7 ∷ 0xfb ∷ 0x00 ∷ 0x00 ∷ 0xff ∷ []) (0x08 ∷ 0x04 ∷ 0x00 ∷ 0x00 ∷ 0x00 ∷ []) (0xf7 ∷ 0xfb ∷ 0x00 ∷ 0x00 ∷ 0xff ∷ []) (0xf7 ∷ 0xfb ∷ 0x00 ∷ 0x00 ∷ 0xff ∷ []) (0xf7 ∷ 0xfb ∷ 0x00 ∷ 0x00 ∷ 0xff ∷ []) (0xf7 ∷ 0xfb ∷ 0x00 ∷ 0x00 ∷ 0xff ∷ [])
   pub P4 : visibilityOf fresh 0 1 (page 3 (page 16 [])) ≡ keeps fresh (refused 7 8)
   pub P5-first : last enabled 0 (page 3 []) ≡ ok 6
@@ -180,7 +180,7 @@ abbrev pub failed : ℕ → List Reply
 failed k = replies (visibilityOf (off shared) 0 0 four) (failing k)
 
 abbrev pub failed-maps : ℕ → Maps
-failed-maps k = follow (visibilityOf (off shared) 0 0 four) (failing k) .last .world .maps
+failed-maps k = follow (visibilityOf (off shared) 0 0 four) (failing k) .last .buffers .maps
 
 pub record Failures : Type 0 where
   -- the code at the place of the first page not processed; what was processed goes on
@@ -204,7 +204,7 @@ pub record Failures : Type 0 where
   pub accept-halts : replies (visibilityOf (off shared) 0 0 four) (Succeeds ∷ Succeeds ∷ Fails 77 1 ∷ Fails 5 0 ∷ [])
       ≡ waits ∷ flushesAll ∷ returns 3 ∷ accepts 3 1 ∷ finished 20 0 0 4 ∷ []
   -- a failure of Wait or FlushAll is refused, and the same operation still waits for its answer
-  pub wait-fails : answerFailed (visibilityOf fresh 0 1 three .world) 77 0 ≡ keeps (visibilityOf fresh 0 1 three .world) (refused 21 0)
+  pub wait-fails : answerFailed (visibilityOf fresh 0 1 three .buffers) 77 0 ≡ keeps (visibilityOf fresh 0 1 three .buffers) (refused 21 0)
   pub flush-fails : replies (visibilityOf (off first) 0 1 []) (Fails 77 0 ∷ Succeeds ∷ Fails 77 0 ∷ Succeeds ∷ Succeeds ∷ []) ≡ waits ∷ flushesAll ∷ shares 0 ∷ ok 3 ∷ []
   pub nothing-asked : answerDone fresh ≡ keeps fresh (refused 21 0)
   pub nothing-failed : answerFailed fresh 77 0 ≡ keeps fresh (refused 21 0)

@@ -6,7 +6,7 @@ use Prim.Native.Nat.{ℕ}
 use borrow.Author.Tests.{eq-eqb, ne-eqb}
 use Rattle.laws.specs.Bools.{and-ends, and-goes}
 use Rattle.call_refusals.specs.declared.Lengths.{Lengths}
-use Rattle.call_refusals.specs.World.{lengthsFit}
+use Rattle.call_refusals.specs.Buffers.{lengthsFit}
 use Rattle.call_refusals.proofs.build_fits.Statement.{statement}
 use Rattle.call_refusals.proofs.build_fits.Tie as tie
 

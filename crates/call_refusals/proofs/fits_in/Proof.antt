@@ -5,7 +5,7 @@ use mathlib.Core.Bool.{Bool}
 use mathlib.Core.List.{List}
 use Prim.Native.Nat.{ℕ}
 use Rattle.layout.specs.Layout.{entriesOf, mapLen}
-use Rattle.call_refusals.specs.World.{lengthsFit}
+use Rattle.call_refusals.specs.Buffers.{lengthsFit}
 use Rattle.call_refusals.proofs.fits_in.Statement.{statement}
 use Rattle.call_refusals.proofs.fits_in.Tie as tie
 

@@ -1,7 +1,7 @@
 -- `call_refusals::locks_of` meets its contract. Assumes nothing.
 use borrow.Author.Needs.{needs}
 use mathlib.Core.Path.{sym, ap}
-use Rattle.call_refusals.specs.World.{locksOf}
+use Rattle.call_refusals.specs.Buffers.{locksOf}
 use Rattle.call_refusals.proofs.locks_of.Statement.{statement}
 use Rattle.call_refusals.proofs.locks_of.Tie as tie
 

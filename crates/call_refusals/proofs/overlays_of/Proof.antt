@@ -1,7 +1,7 @@
 -- `call_refusals::overlays_of` meets its contract. Assumes nothing.
 use borrow.Author.Needs.{needs}
 use mathlib.Core.Path.{sym, ap}
-use Rattle.call_refusals.specs.World.{overlaysOf}
+use Rattle.call_refusals.specs.Buffers.{overlaysOf}
 use Rattle.call_refusals.proofs.overlays_of.Statement.{statement}
 use Rattle.call_refusals.proofs.overlays_of.Tie as tie
 

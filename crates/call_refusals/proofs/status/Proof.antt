@@ -2,7 +2,7 @@
 use borrow.Author.Needs.{needs}
 use mathlib.Core.Path.{refl, ap, _∙_}
 use Rattle.laws.specs.Bools.{chose, chose-not}
-use Rattle.call_refusals.specs.World.{statusOf}
+use Rattle.call_refusals.specs.Buffers.{statusOf}
 use Rattle.call_refusals.proofs.status.Statement.{statement}
 use Rattle.call_refusals.proofs.status.Tie as tie
 

@@ -3,7 +3,7 @@ use borrow.Author.Needs.{needs}
 use mathlib.Core.Path.{sym, ap₂, _∙_}
 use borrow.Author.Tests.{not-false}
 use Rattle.laws.specs.Bools.{chose, chose-not}
-use Rattle.call_refusals.specs.World.{takes, takesAt}
+use Rattle.call_refusals.specs.Buffers.{takes, takesAt}
 use Rattle.call_refusals.proofs.Taken.{busy-takes}
 use Rattle.call_refusals.proofs.takes.Statement.{statement}
 use Rattle.call_refusals.proofs.takes.Tie as tie

@@ -8,7 +8,7 @@ use Rattle.laws.specs.Refusal.{refuses, passes, when-refuses, when-passes}
 use Rattle.permissions.specs.declared.GuestVtl.{GuestVtl}
 use Rattle.page_list.specs.Pages.{pagesOf}
 use Rattle.protector_state.specs.State.{entriesIn}
-use Rattle.call_refusals.specs.World.{overlaysOf, locksOf}
+use Rattle.call_refusals.specs.Buffers.{overlaysOf, locksOf}
 use Rattle.call_refusals.specs.Refusals.{visibilityRefusal, pageRefusal, firstRefusal}
 use Rattle.call_refusals.proofs.Laws.{lent-refuses, lent-ready, lent-passes, tables-fit, first-end}
 use Rattle.call_refusals.proofs.visibility_refusal.Statement.{statement}

@@ -5,7 +5,7 @@ use native.Mathlib.Omega.{arith}
 use Rattle.mapping.specs.Maps.{maps}
 use Rattle.permissions.specs.declared.GuestVtl.{GuestVtl}
 use Rattle.permissions.specs.Flags.{vtlOf}
-use Rattle.call_refusals.specs.World.{world, fits}
+use Rattle.call_refusals.specs.Buffers.{buffers, fits}
 use Rattle.protector.proofs.Laws.{call-refused, call-taken}
 use Rattle.call_refusals.proofs.Laws.{fits-tables}
 use Rattle.overlay_entries.specs.Calls.{registerOf, registerTaken}
@@ -48,7 +48,7 @@ unfolding registerOf
 returns c =
     let c3 = c .before .before .before in let c6 = c3 .before .before .before in let c12 = c6 .before .before .before .before .before .before in
     let a = c12 .before .before .before .before .before .before .before .before .before .before .args in
-    let w = world (maps (a .private .now) (a .shared .now) (a .read .now) (a .write .now) (a .kernel .now) (a .user .now)) (a .state .now) (a .pages .now) (a .tables .now) in
+    let w = buffers (maps (a .private .now) (a .shared .now) (a .read .now) (a .write .now) (a .kernel .now) (a .user .now)) (a .state .now) (a .pages .now) (a .tables .now) in
     call-refused w _ _ (laws.register-asks w (fits w) (c12 .vtl-of .result) (a .vtl) (a .gpn) (a .source) (a .checked) (a .new) _ _ (c12 .vtl-of .ensures)
     (c6 .current-flags .ensures) (c3 .look-register .ensures .0)) (registerTaken w (vtlOf (a .vtl)) (a .gpn) (a .source) (a .new)) _ (c .before .if1 .taken)
     (c .refused .ensures)
@@ -57,7 +57,7 @@ entry-of-requires : tie.Need-entry-of-requires
 entry-of-requires c κs =
     let c3 = c .before .before .before in let c5 = c3 .before .before in let c8 = c5 .before .before .before in
     let a = c8 .before .before .before .before .before .before .before .before .before .before .before .before .before .before .before .before .args in
-    let w = world (maps (a .private .now) (a .shared .now) (a .read .now) (a .write .now) (a .kernel .now) (a .user .now)) (a .state .now) (a .pages .now) (a .tables .now) in
+    let w = buffers (maps (a .private .now) (a .shared .now) (a .read .now) (a .write .now) (a .kernel .now) (a .user .now)) (a .state .now) (a .pages .now) (a .tables .now) in
     fits-tables w (laws.register-fits (a .state .now) (fits w) (a .shared .now) (a .tables .now) (c8 .current-flags .result) (a .vtl) (a .gpn) (a .source) (a .checked) (a .new) _
     (c5 .look-register .ensures .0) (c3 .if1 .left))
 
@@ -66,7 +66,7 @@ add-set-ref-count c =
     let c4 = c .before .before .before .before in let c6 = c4 .before .before in let c8 = c6 .before .before in let c11 = c8 .before .before .before in
     let c17 = c11 .before .before .before .before .before .before in
     let a = c17 .before .before .before .before .before .before .before .before .before .before .args in
-    let w = world (maps (a .private .now) (a .shared .now) (a .read .now) (a .write .now) (a .kernel .now) (a .user .now)) (a .state .now) (a .pages .now) (a .tables .now) in
+    let w = buffers (maps (a .private .now) (a .shared .now) (a .read .now) (a .write .now) (a .kernel .now) (a .user .now)) (a .state .now) (a .pages .now) (a .tables .now) in
     let place = c8 .look-register .ensures .1 (c6 .if1 .left) in
     let at = laws.place-found (a .tables .now) (c17 .vtl-of .result) (a .vtl) (a .gpn) _ (c17 .vtl-of .ensures) place in
     let h = laws.register-room (a .state .now) (fits w) (a .shared .now) (a .tables .now) (c11 .current-flags .result) (a .vtl) (a .gpn) (a .source) (a .checked) (a .new) _
@@ -78,7 +78,7 @@ set-ref-count-requires : tie.Need-set-ref-count-requires
 set-ref-count-requires c κs =
     let c6 = c .before .before .before .before .before .before in let c8 = c6 .before .before in let c11 = c8 .before .before .before in
     let a = c11 .before .before .before .before .before .before .before .before .before .before .before .before .before .before .before .before .args in
-    let w = world (maps (a .private .now) (a .shared .now) (a .read .now) (a .write .now) (a .kernel .now) (a .user .now)) (a .state .now) (a .pages .now) (a .tables .now) in
+    let w = buffers (maps (a .private .now) (a .shared .now) (a .read .now) (a .write .now) (a .kernel .now) (a .user .now)) (a .state .now) (a .pages .now) (a .tables .now) in
     fits-tables w (laws.register-fits (a .state .now) (fits w) (a .shared .now) (a .tables .now) (c11 .current-flags .result) (a .vtl) (a .gpn) (a .source) (a .checked) (a .new) _
     (c8 .look-register .ensures .0) (c6 .if1 .left))
 
@@ -109,7 +109,7 @@ returns-2 c =
     let c6 = c .before .before .before .before .before .before in let c8 = c6 .before .before in let c10 = c8 .before .before in let c12 = c10 .before .before in
     let c15 = c12 .before .before .before in let c21 = c15 .before .before .before .before .before .before in
     let a = c21 .before .before .before .before .before .before .before .before .before .before .args in
-    let w = world (maps (a .private .now) (a .shared .now) (a .read .now) (a .write .now) (a .kernel .now) (a .user .now)) (a .state .now) (a .pages .now) (a .tables .now) in
+    let w = buffers (maps (a .private .now) (a .shared .now) (a .read .now) (a .write .now) (a .kernel .now) (a .user .now)) (a .state .now) (a .pages .now) (a .tables .now) in
     let at = laws.place-found (a .tables .now) (c21 .vtl-of .result) (a .vtl) (a .gpn) _ (c21 .vtl-of .ensures) (c12 .look-register .ensures .1 (c10 .if1 .left)) in
     call-taken w _ _ (laws.register-asks w (fits w) (c21 .vtl-of .result) (a .vtl) (a .gpn) (a .source) (a .checked) (a .new) _ _ (c21 .vtl-of .ensures)
     (c15 .current-flags .ensures) (c12 .look-register .ensures .0)) (registerTaken w (vtlOf (a .vtl)) (a .gpn) (a .source) (a .new)) _ (c10 .if1 .left)
@@ -122,7 +122,7 @@ settings-requires : tie.Need-settings-requires
 settings-requires c κs =
     let c3 = c .before .before .before in let c5 = c3 .before .before in let c8 = c5 .before .before .before in
     let a = c8 .before .before .before .before .before .before .before .before .before .before .before .before .before .before .before .before .args in
-    laws.register-state (a .state .now) (fits (world (maps (a .private .now) (a .shared .now) (a .read .now) (a .write .now) (a .kernel .now) (a .user .now)) (a .state .now)
+    laws.register-state (a .state .now) (fits (buffers (maps (a .private .now) (a .shared .now) (a .read .now) (a .write .now) (a .kernel .now) (a .user .now)) (a .state .now)
     (a .pages .now) (a .tables .now))) (a .shared .now) (a .tables .now) (c8 .current-flags .result) (a .vtl) (a .gpn) (a .source) (a .checked) (a .new) _
     (c5 .look-register .ensures .0) (c3 .if1 .left)
 
@@ -137,7 +137,7 @@ apply-step-requires c κs =
     let c6 = c .before .before .before .before .before .before in let c12 = c6 .before .before .before .before .before .before in let c14 = c12 .before .before in
     let c17 = c14 .before .before .before in let c23 = c17 .before .before .before .before .before .before in
     let a = c23 .before .before .before .before .before .before .before .before .before .before .args in
-    let w = world (maps (a .private .now) (a .shared .now) (a .read .now) (a .write .now) (a .kernel .now) (a .user .now)) (a .state .now) (a .pages .now) (a .tables .now) in (
+    let w = buffers (maps (a .private .now) (a .shared .now) (a .read .now) (a .write .now) (a .kernel .now) (a .user .now)) (a .state .now) (a .pages .now) (a .tables .now) in (
       laws.register-state (a .state .now) (fits w) (a .shared .now) (a .tables .now) (c17 .current-flags .result) (a .vtl) (a .gpn) (a .source) (a .checked) (a .new) _
           (c14 .look-register .ensures .0) (c12 .if1 .left),
       fits-tables w
@@ -172,7 +172,7 @@ returns-3 c =
     let c25 = c23 .before .before in let c27 = c25 .before .before in let c30 = c27 .before .before .before in
     let c36 = c30 .before .before .before .before .before .before in
     let a = c36 .before .before .before .before .before .before .before .before .before .before .args in
-    let w = world (maps (a .private .now) (a .shared .now) (a .read .now) (a .write .now) (a .kernel .now) (a .user .now)) (a .state .now) (a .pages .now) (a .tables .now) in
+    let w = buffers (maps (a .private .now) (a .shared .now) (a .read .now) (a .write .now) (a .kernel .now) (a .user .now)) (a .state .now) (a .pages .now) (a .tables .now) in
     let at = laws.place-found (a .tables .now) (c36 .vtl-of .result) (a .vtl) (a .gpn) _ (c36 .vtl-of .ensures) (c27 .look-register .ensures .1 (c25 .if1 .left)) in
     call-taken w _ _ (laws.register-asks w (fits w) (c36 .vtl-of .result) (a .vtl) (a .gpn) (a .source) (a .checked) (a .new) _ _ (c36 .vtl-of .ensures)
     (c30 .current-flags .ensures) (c27 .look-register .ensures .0)) (registerTaken w (vtlOf (a .vtl)) (a .gpn) (a .source) (a .new)) _ (c25 .if1 .left)

@@ -6,7 +6,7 @@ use Prim.Native.Nat.{ℕ}
 use Rattle.permissions.specs.declared.GuestVtl.{GuestVtl}
 use Rattle.overlay_table.specs.Overlays.{placeOf}
 use Rattle.protector_state.specs.State.{entriesIn}
-use Rattle.call_refusals.specs.World.{overlaysOf, locksOf, fitsIn}
+use Rattle.call_refusals.specs.Buffers.{overlaysOf, locksOf, fitsIn}
 use Rattle.call_refusals.proofs.Laws.{tables-fit}
 use Rattle.overlay_refusals.specs.Refusals.{pageRefusal, registerRefusal}
 use Rattle.overlay_refusals.proofs.Laws as laws

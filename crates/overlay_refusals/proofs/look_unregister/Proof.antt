@@ -3,7 +3,7 @@ use borrow.Author.Needs.{needs}
 use native.Mathlib.Omega.{arith}
 use mathlib.Core.Path.{refl, sym, _∙_}
 use Rattle.laws.specs.Refusal.{refuses, passes}
-use Rattle.call_refusals.specs.World.{fitsIn}
+use Rattle.call_refusals.specs.Buffers.{fitsIn}
 use Rattle.call_refusals.proofs.Laws.{tables-fit}
 use Rattle.overlay_refusals.specs.Refusals.{unregisterRefusal}
 use Rattle.overlay_refusals.proofs.Laws as laws

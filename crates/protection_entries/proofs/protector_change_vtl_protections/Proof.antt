@@ -2,7 +2,7 @@
 use borrow.Author.Needs.{needs}
 use Rattle.permissions.specs.Flags.{vtlOf}
 use Rattle.mapping.specs.Maps.{maps}
-use Rattle.call_refusals.specs.World.{world}
+use Rattle.call_refusals.specs.Buffers.{buffers}
 use Rattle.protector.proofs.Laws.{call-refused, call-taken}
 use Rattle.protection_entries.specs.Calls.{protectionTaken, protectionOf}
 use Rattle.protection_entries.proofs.Laws as laws
@@ -22,7 +22,7 @@ returns : tie.Need-returns
 unfolding protectionOf
 returns c =
     let a = c .before .before .before .before .before .before .before .before .before .before .before .before .before .before .args in
-    let w = world (maps (a .private .now) (a .shared .now) (a .read .now) (a .write .now) (a .kernel .now) (a .user .now)) (a .state .now) (a .pages .now) (a .tables .now) in
+    let w = buffers (maps (a .private .now) (a .shared .now) (a .read .now) (a .write .now) (a .kernel .now) (a .user .now)) (a .state .now) (a .pages .now) (a .tables .now) in
     call-refused w _ _ (c .before .before .protection-refusal .ensures) (protectionTaken w (vtlOf (a .vtl)) (a .flags) (a .list .now)) (c .refused .result) (c .before .if1 .taken) (c .refused .ensures)
 
 vtl-of-requires : tie.Need-vtl-of-requires
@@ -34,20 +34,20 @@ page-count-requires c κs = search needs
 store-all-requires : tie.Need-store-all-requires
 store-all-requires c κs =
     let a = c .before .before .before .before .before .before .before .before .before .before .before .before .before .before .before .before .args in
-    let w = world (maps (a .private .now) (a .shared .now) (a .read .now) (a .write .now) (a .kernel .now) (a .user .now)) (a .state .now) (a .pages .now) (a .tables .now) in
+    let w = buffers (maps (a .private .now) (a .shared .now) (a .read .now) (a .write .now) (a .kernel .now) (a .user .now)) (a .state .now) (a .pages .now) (a .tables .now) in
     (laws.table-fits w (a .vtl) (a .flags) (a .list .now) _ (c .before .before .before .before .protection-refusal .ensures) (c .before .before .before .if1 .left), laws.protection-passed w (a .vtl) (a .flags) (a .list .now) _ (c .before .before .before .before .protection-refusal .ensures) (c .before .before .before .if1 .left) .2)
 
 protection-step-requires : tie.Need-protection-step-requires
 protection-step-requires c κs =
     let a = c .before .before .before .before .before .before .before .before .before .before .before .before .before .before .before .before .before .before .before .before .before .args in
-    let w = world (maps (a .private .now) (a .shared .now) (a .read .now) (a .write .now) (a .kernel .now) (a .user .now)) (a .state .now) (a .pages .now) (a .tables .now) in
+    let w = buffers (maps (a .private .now) (a .shared .now) (a .read .now) (a .write .now) (a .kernel .now) (a .user .now)) (a .state .now) (a .pages .now) (a .tables .now) in
     laws.protection-passed w (a .vtl) (a .flags) (a .list .now) _ (c .before .before .before .before .before .before .before .before .before .protection-refusal .ensures) (c .before .before .before .before .before .before .before .before .if1 .left) .0
 
 apply-step-requires : tie.Need-apply-step-requires
 apply-step-requires c κs =
     let c5 = c .before .before .before .before .before in let c14 = c5 .before .before .before .before .before .before .before .before .before in let c15 = c14 .before in
     let a = c15 .before .before .before .before .before .before .before .before .before .before .before .before .args in
-    let w = world (maps (a .private .now) (a .shared .now) (a .read .now) (a .write .now) (a .kernel .now) (a .user .now)) (a .state .now) (a .pages .now) (a .tables .now) in
+    let w = buffers (maps (a .private .now) (a .shared .now) (a .read .now) (a .write .now) (a .kernel .now) (a .user .now)) (a .state .now) (a .pages .now) (a .tables .now) in
     (laws.protection-passed w (a .vtl) (a .flags) (a .list .now) _ (c15 .protection-refusal .ensures) (c14 .if1 .left) .0, c5 .protection-step .ensures .1)
 
 same-length-2 : tie.Need-same-length-2
@@ -74,7 +74,7 @@ returns-2 c =
     let c10 = c .before .before .before .before .before .before .before .before .before .before in let c16 = c10 .before .before .before .before .before .before in
     let c21 = c16 .before .before .before .before .before in let c23 = c21 .before .before in let c24 = c23 .before in let c25 = c24 .before in let c26 = c25 .before in
     let a = c26 .before .before .before .before .before .before .before .before .before .before .before .before .args in
-    let w = world (maps (a .private .now) (a .shared .now) (a .read .now) (a .write .now) (a .kernel .now) (a .user .now)) (a .state .now) (a .pages .now) (a .tables .now) in
+    let w = buffers (maps (a .private .now) (a .shared .now) (a .read .now) (a .write .now) (a .kernel .now) (a .user .now)) (a .state .now) (a .pages .now) (a .tables .now) in
     call-taken w _ _ (c26 .protection-refusal .ensures) (protectionTaken w (vtlOf (a .vtl)) (a .flags) (a .list .now)) _ (c25 .if1 .left)
     (laws.protection-made w (c24 .vtl-of .result) (vtlOf (a .vtl)) (a .flags) (a .list .now) (c23 .page-count .result) _ (c16 .protection-step .result) _ _ (c10 .apply-step .result)
     (c24 .vtl-of .ensures) (c23 .page-count .ensures) (c21 .store-all .ensures) (c16 .protection-step .ensures .0) (c10 .apply-step .ensures .0) (c10 .apply-step .ensures .1 .0)

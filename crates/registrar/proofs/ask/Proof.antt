@@ -3,7 +3,7 @@ use borrow.Author.Needs.{needs}
 use mathlib.Core.Path.{ap, ap₂, _∙_}
 use Prim.Native.Nat.{ℕ}
 use Rattle.registrar_steps.specs.declared.Request.{Request}
-use Rattle.registrar_state.specs.World.{simple, withRequest}
+use Rattle.registrar_state.specs.Buffers.{simple, withRequest}
 use Rattle.registrar.proofs.ask.Statement.{statement}
 use Rattle.registrar.proofs.ask.Tie as tie
 

@@ -1,7 +1,7 @@
 -- `registrar::register_all_done` meets its contract. Assumes nothing.
 use borrow.Author.Needs.{needs}
 use mathlib.Core.Path.{_∙_}
-use Rattle.registrar_state.specs.World.{world}
+use Rattle.registrar_state.specs.Buffers.{buffers}
 use Rattle.registrar.proofs.Laws as laws
 use Rattle.registrar.proofs.register_all_done.Statement.{statement}
 use Rattle.registrar.proofs.register_all_done.Tie as tie
@@ -24,7 +24,7 @@ same-length-2 c = search needs
 returns : tie.Need-returns
 returns c =
     let a = c .before .before .before .before .before .before .before .before .before .before .before .before .before .before .before .before .args in
-    let w = world (a .state .now) (a .registered .now) (a .failed .now) in
+    let w = buffers (a .state .now) (a .registered .now) (a .failed .now) in
     let load = c .before .before .before .before .before .before .before .before .before .before .before .load in
     let given = c .before .before .before .before .before .before .before .before .before .before .before .before .before .before .before .before .pre in
     c .before .before .before .before .register-all-from .ensures ∙ laws.done-all w (load .result) (load .ensures) (laws.not-register (a .state .now) (given .1)) _ (c .before .before .before .before .before .before .before .before .before .set-chunks .ensures) (given .1)

@@ -1,6 +1,6 @@
 -- `registrar::register_all_from` meets its contract. Assumes nothing.
 use borrow.Author.Needs.{needs}
-use Rattle.registrar_state.specs.World.{world}
+use Rattle.registrar_state.specs.Buffers.{buffers}
 use Rattle.registrar.proofs.Laws as laws
 use Rattle.registrar.proofs.register_all_from.Statement.{statement}
 use Rattle.registrar.proofs.register_all_from.Tie as tie
@@ -26,7 +26,7 @@ same-length-2 c = search needs
 returns : tie.Need-returns
 returns c =
     let a = c .before .before .before .before .before .before .before .before .before .before .before .before .before .before .before .args in
-    let w = world (a .state .now) (a .registered .now) (a .failed .now) in
+    let w = buffers (a .state .now) (a .registered .now) (a .failed .now) in
     laws.plan-made w _ (c .before .before .before .before .before .before .before .before .before .all-plan .result) _ _ (c .to-reply .result) (c .before .before .before .before .before .before .before .before .before .all-plan .ensures) (c .before .before .before .save .ensures) (c .before .before .before .before .before .before .before .set-chunks .ensures) (c .to-reply .ensures)
 
 pub register-all-from-spec : {M : Type 1} → statement M

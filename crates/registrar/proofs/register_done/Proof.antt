@@ -1,7 +1,7 @@
 -- `registrar::register_done` meets its contract. Assumes nothing.
 use borrow.Author.Needs.{needs}
 use mathlib.Core.Path.{_∙_}
-use Rattle.registrar_state.specs.World.{world}
+use Rattle.registrar_state.specs.Buffers.{buffers}
 use Rattle.registrar.proofs.Laws as laws
 use Rattle.registrar.proofs.register_done.Statement.{statement}
 use Rattle.registrar.proofs.register_done.Tie as tie
@@ -21,7 +21,7 @@ same-length c = search needs
 returns : tie.Need-returns
 returns c =
     let a = c .before .before .before .before .before .before .before .before .before .before .before .before .before .args in
-    let w = world (a .state .now) (a .registered .now) (a .failed .now) in
+    let w = buffers (a .state .now) (a .registered .now) (a .failed .now) in
     let ask = c .before .before .ask in
     let load = c .before .before .before .before .before .before .before .before .load in
     let rest-of = c .before .before .before .before .before .before .rest-of in
@@ -36,8 +36,8 @@ register-from-requires c κs = search needs
 answer-requires : tie.Need-answer-requires
 answer-requires c κs =
     let a = c .before .before .before .before .before .before .before .before .before .before .before .before .before .before .before .before .before .before .before .before .before .args in
-    let w = world (a .state .now) (a .registered .now) (a .failed .now) in
-    let v = world (a .state .now) (c .before .before .before .before .before .before .before .before .before .before .set-chunks .last .0) (a .failed .now) in
+    let w = buffers (a .state .now) (a .registered .now) (a .failed .now) in
+    let v = buffers (a .state .now) (c .before .before .before .before .before .before .before .before .before .before .set-chunks .last .0) (a .failed .now) in
     let o = c .before .before .before .before .before .register-from in
     let load = c .before .before .before .before .before .before .before .before .before .before .before .before .before .before .before .before .load in
     let given = c .before .before .before .before .before .before .before .before .before .before .before .before .before .before .before .before .before .before .before .before .before .pre in
@@ -55,8 +55,8 @@ returns-2 c =
     let rest = c .before .before .before .before .before .before .before .before .before .before .before .before .before .before .before .rest-of in
     let given = c .before .before .before .before .before .before .before .before .before .before .before .before .before .before .before .before .before .before .before .before .before .before .pre in
     let a = c .before .before .before .before .before .before .before .before .before .before .before .before .before .before .before .before .before .before .before .before .before .before .args in
-    let w = world (a .state .now) (a .registered .now) (a .failed .now) in
-    let v = world (a .state .now) (c .before .before .before .before .before .before .before .before .before .before .before .set-chunks .last .0) (a .failed .now) in
+    let w = buffers (a .state .now) (a .registered .now) (a .failed .now) in
+    let v = buffers (a .state .now) (c .before .before .before .before .before .before .before .before .before .before .before .set-chunks .last .0) (a .failed .now) in
     let o = c .before .before .before .before .before .before .register-from in
     laws.go-answered v (a .total) (q .result .count) (q .result .to) (q .result .until) (given .1) _ _ (o .result) (c .answer .result) (o .ensures .0) (c .answer .ensures)
     ∙ laws.done-register w (q .result) (q .ensures) (laws.none-left (a .state .now) (rest .result) (rest .ensures) (c .before .before .before .before .before .before .before .before .before .before .before .before .before .if1 .left) (given .2)) _ (c .before .before .before .before .before .before .before .before .before .before .before .set-chunks .ensures) (given .2)

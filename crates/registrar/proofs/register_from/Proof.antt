@@ -3,7 +3,7 @@ use borrow.Author.Needs.{needs}
 use native.Mathlib.Omega.{arith}
 use mathlib.Core.Path.{sym, _∙_}
 use Prim.Native.Nat.{min}
-use Rattle.registrar_state.specs.World.{world, chunkStateIn}
+use Rattle.registrar_state.specs.Buffers.{buffers, chunkStateIn}
 use Rattle.registrar_steps.proofs.Laws.{stop-below}
 use Rattle.registrar.proofs.Laws as laws
 use Rattle.registrar.proofs.register_from.Statement.{statement}
@@ -22,7 +22,7 @@ add-piece : tie.Need-add-piece
 add-piece c =
     let a = c .before .before .before .before .before .before .before .before .before .before .before .before .before .args in
     let t = c .before .before .before .before .before .before .before .register-stop in
-    omega (arith, stop-below (chunkStateIn (world (a .state .now) (a .registered .now) (a .failed .now))) (a .from) (min (a .until) (a .total)) (t .result) (t .ensures .0) (sym (c .before .before .has-ram .ensures) ∙ c .before .if1 .taken), c .before .before .before .before .before .before .before .before .before .before .before .before .before .fits .total)
+    omega (arith, stop-below (chunkStateIn (buffers (a .state .now) (a .registered .now) (a .failed .now))) (a .from) (min (a .until) (a .total)) (t .result) (t .ensures .0) (sym (c .before .before .has-ram .ensures) ∙ c .before .if1 .taken), c .before .before .before .before .before .before .before .before .before .before .before .before .before .fits .total)
 
 piece-requires : tie.Need-piece-requires
 piece-requires c κs = search needs
@@ -39,7 +39,7 @@ same-length-2 c = search needs
 returns : tie.Need-returns
 returns c =
     let a = c .before .before .before .before .before .before .before .before .before .before .before .before .before .before .before .before .before .args in
-    let w = world (a .state .now) (a .registered .now) (a .failed .now) in
+    let w = buffers (a .state .now) (a .registered .now) (a .failed .now) in
     let t = c .before .before .before .before .before .before .before .before .before .before .before .register-stop in
     let piece = c .before .before .before .piece in
     (laws.go-asked w (a .total) (a .count) (a .from) (a .until) (c .before .before .before .before .before .before .before .before .before .before .before .before .before .before .before .before .before .pre .1) (t .result) (t .ensures .0) _ _ (c .before .before .before .before .before .before .before .before .before .set-chunks .ensures) (piece .result) (sym (c .before .before .before .before .before .before .has-ram .ensures) ∙ c .before .before .before .before .before .if1 .taken) (piece .ensures) (c .before .before .save .ensures), t .ensures .1)
@@ -59,7 +59,7 @@ same-length-4 c = search needs
 returns-2 : tie.Need-returns-2
 returns-2 c =
     let a = c .before .before .before .before .before .before .before .before .before .before .before .before .before .before .before .before .before .args in
-    let w = world (a .state .now) (a .registered .now) (a .failed .now) in
+    let w = buffers (a .state .now) (a .registered .now) (a .failed .now) in
     let t = c .before .before .before .before .before .before .before .before .before .before .before .register-stop in
     let idle = c .before .before .before .idle in
     (laws.go-ended w (a .total) (a .count) (a .from) (a .until) (c .before .before .before .before .before .before .before .before .before .before .before .before .before .before .before .before .before .pre .1) (t .result) (t .ensures .0) _ _ (c .before .before .before .before .before .before .before .before .before .set-chunks .ensures) (idle .result) (sym (c .before .before .before .before .before .before .has-ram .ensures) ∙ c .before .before .before .before .before .if1 .left) (idle .ensures) (c .before .before .save2 .ensures), t .ensures .1)

@@ -1,7 +1,7 @@
 -- `registrar::registrar_answer_done` meets its contract. Assumes nothing.
 use borrow.Author.Needs.{needs}
 use native.Mathlib.Omega.{arith}
-use Rattle.registrar_state.specs.World.{world, doneOf}
+use Rattle.registrar_state.specs.Buffers.{buffers, doneOf}
 use Rattle.registrar_state.proofs.Laws.{count-in}
 use Rattle.registrar.proofs.Laws as laws
 use Rattle.registrar.proofs.registrar_answer_done.Statement.{statement}
@@ -29,21 +29,21 @@ returns : tie.Need-returns
 unfolding doneOf
 returns c =
     let a = c .before .before .before .before .before .before .before .before .before .before .before .args in
-    let w = world (a .state .now) (a .registered .now) (a .failed .now) in
+    let w = buffers (a .state .now) (a .registered .now) (a .failed .now) in
     let n = c .before .before .answer-refusal in
     laws.call-refused w (n .result) _ (n .ensures) _ (c .refused .result) (c .before .if1 .taken) (c .refused .ensures)
 
 slice-read-if2 : tie.Need-slice-read-if2
 slice-read-if2 c =
     let a = c .before .before .before .before .before .before .before .before .before .before .before .args in
-    let w = world (a .state .now) (a .registered .now) (a .failed .now) in
+    let w = buffers (a .state .now) (a .registered .now) (a .failed .now) in
     let n = c .before .before .answer-refusal in
     omega (arith, laws.answer-long w (n .result) (c .before .if1 .left) (n .ensures))
 
 register-done-requires : tie.Need-register-done-requires
 register-done-requires c κs =
     let a = c .before .before .before .before .before .before .before .before .before .before .before .before .before .before .before .args in
-    let w = world (a .state .now) (a .registered .now) (a .failed .now) in
+    let w = buffers (a .state .now) (a .registered .now) (a .failed .now) in
     let n = c .before .before .before .before .before .before .answer-refusal in
     let long = laws.answer-long w (n .result) (c .before .before .before .before .before .if1 .left) (n .ensures) in
     (long, count-in (a .state .now) _ (c .before .before .before .before .before .before .before .before .before .before .chunk-count .ensures) long, c .before .before .before .if2 .taken)
@@ -61,14 +61,14 @@ returns-2 : tie.Need-returns-2
 unfolding doneOf
 returns-2 c =
     let a = c .before .before .before .before .before .before .before .before .before .before .before .before .before .before .before .before .before .before .before .before .args in
-    let w = world (a .state .now) (a .registered .now) (a .failed .now) in
+    let w = buffers (a .state .now) (a .registered .now) (a .failed .now) in
     let n = c .before .before .before .before .before .before .before .before .before .before .before .answer-refusal in
     laws.call-answered w (n .result) _ (n .ensures) _ _ (c .before .before .before .before .before .before .before .before .before .before .if1 .left) (c .before .before .before .before .register-done .ensures)
 
 register-all-done-requires : tie.Need-register-all-done-requires
 register-all-done-requires c κs =
     let a = c .before .before .before .before .before .before .before .before .before .before .before .before .before .before .before .args in
-    let w = world (a .state .now) (a .registered .now) (a .failed .now) in
+    let w = buffers (a .state .now) (a .registered .now) (a .failed .now) in
     let n = c .before .before .before .before .before .before .answer-refusal in
     (laws.answer-long w (n .result) (c .before .before .before .before .before .if1 .left) (n .ensures), c .before .before .before .if2 .left)
 
@@ -85,7 +85,7 @@ returns-3 : tie.Need-returns-3
 unfolding doneOf
 returns-3 c =
     let a = c .before .before .before .before .before .before .before .before .before .before .before .before .before .before .before .before .before .before .before .before .args in
-    let w = world (a .state .now) (a .registered .now) (a .failed .now) in
+    let w = buffers (a .state .now) (a .registered .now) (a .failed .now) in
     let n = c .before .before .before .before .before .before .before .before .before .before .before .answer-refusal in
     laws.call-answered w (n .result) _ (n .ensures) _ _ (c .before .before .before .before .before .before .before .before .before .before .if1 .left) (c .before .before .before .before .register-all-done .ensures)
 

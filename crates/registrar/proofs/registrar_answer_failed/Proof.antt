@@ -1,6 +1,6 @@
 -- `registrar::registrar_answer_failed` meets its contract. Assumes nothing.
 use borrow.Author.Needs.{needs}
-use Rattle.registrar_state.specs.World.{world, failedOf}
+use Rattle.registrar_state.specs.Buffers.{buffers, failedOf}
 use Rattle.registrar.proofs.Laws as laws
 use Rattle.registrar.proofs.registrar_answer_failed.Statement.{statement}
 use Rattle.registrar.proofs.registrar_answer_failed.Tie as tie
@@ -27,14 +27,14 @@ returns : tie.Need-returns
 unfolding failedOf
 returns c =
     let a = c .before .before .before .before .before .before .before .before .before .before .before .args in
-    let w = world (a .state .now) (a .registered .now) (a .failed .now) in
+    let w = buffers (a .state .now) (a .registered .now) (a .failed .now) in
     let n = c .before .before .answer-refusal in
     laws.call-refused w (n .result) _ (n .ensures) _ (c .refused .result) (c .before .if1 .taken) (c .refused .ensures)
 
 load-requires : tie.Need-load-requires
 load-requires c κs =
     let a = c .before .before .before .before .before .before .before .before .before .before .before .args in
-    let w = world (a .state .now) (a .registered .now) (a .failed .now) in
+    let w = buffers (a .state .now) (a .registered .now) (a .failed .now) in
     let n = c .before .before .answer-refusal in
     laws.answer-long w (n .result) (c .before .if1 .left) (n .ensures)
 
@@ -47,7 +47,7 @@ idle-requires c κs = search needs
 save-requires : tie.Need-save-requires
 save-requires c κs =
     let a = c .before .before .before .before .before .before .before .before .before .before .before .before .before .before .before .before .before .before .args in
-    let w = world (a .state .now) (a .registered .now) (a .failed .now) in
+    let w = buffers (a .state .now) (a .registered .now) (a .failed .now) in
     let n = c .before .before .before .before .before .before .before .before .before .answer-refusal in
     laws.answer-long w (n .result) (c .before .before .before .before .before .before .before .before .if1 .left) (n .ensures)
 
@@ -67,7 +67,7 @@ returns-2 : tie.Need-returns-2
 unfolding failedOf
 returns-2 c =
     let a = c .before .before .before .before .before .before .before .before .before .before .before .before .before .before .before .before .before .before .before .before .before .before .args in
-    let w = world (a .state .now) (a .registered .now) (a .failed .now) in
+    let w = buffers (a .state .now) (a .registered .now) (a .failed .now) in
     let n = c .before .before .before .before .before .before .before .before .before .before .before .before .before .answer-refusal in
     let load = c .before .before .before .before .before .before .before .before .before .before .load in
     let idle = c .before .before .before .before .idle in

@@ -1,6 +1,6 @@
 -- `registrar::registrar_build` meets its contract. Assumes nothing.
 use borrow.Author.Needs.{needs}
-use Rattle.registrar_state.specs.World.{world, buildOf}
+use Rattle.registrar_state.specs.Buffers.{buffers, buildOf}
 use Rattle.registrar.proofs.Laws as laws
 use Rattle.registrar.proofs.registrar_build.Statement.{statement}
 use Rattle.registrar.proofs.registrar_build.Tie as tie
@@ -25,13 +25,13 @@ unfolding buildOf
 returns c =
     let a = c .before .before .before .before .before .before .before .before .before .before .args in
     let build-refusal = c .before .before .build-refusal in
-    laws.call-refused (world (a .state .now) (a .registered .now) (a .failed .now)) (build-refusal .result) _ (build-refusal .ensures) _ (c .refused .result) (c .before .if1 .taken) (c .refused .ensures)
+    laws.call-refused (buffers (a .state .now) (a .registered .now) (a .failed .now)) (build-refusal .result) _ (build-refusal .ensures) _ (c .refused .result) (c .before .if1 .taken) (c .refused .ensures)
 
 build-state-requires : tie.Need-build-state-requires
 build-state-requires c κs =
     let a = c .before .before .before .before .before .before .before .before .before .before .args in
     let build-refusal = c .before .before .build-refusal in
-    laws.build-lengths (world (a .state .now) (a .registered .now) (a .failed .now)) (a .ram .now) (a .offset) (a .granularity) (build-refusal .result) (c .before .if1 .left) (build-refusal .ensures)
+    laws.build-lengths (buffers (a .state .now) (a .registered .now) (a .failed .now)) (a .ram .now) (a .offset) (a .granularity) (build-refusal .result) (c .before .if1 .left) (build-refusal .ensures)
 
 clear-requires : tie.Need-clear-requires
 clear-requires c κs = search needs
@@ -55,7 +55,7 @@ returns-2 : tie.Need-returns-2
 unfolding buildOf
 returns-2 c =
     let a = c .before .before .before .before .before .before .before .before .before .before .before .before .before .before .before .before .before .before .before .before .before .before .args in
-    let w = world (a .state .now) (a .registered .now) (a .failed .now) in
+    let w = buffers (a .state .now) (a .registered .now) (a .failed .now) in
     let n = c .before .before .before .before .before .before .before .before .before .before .before .before .before .before .build-refusal in
     laws.call-answered w (n .result) _ (n .ensures) _ _ (c .before .before .before .before .before .before .before .before .before .before .before .before .before .if1 .left) (laws.build-made w (a .ram .now) (a .offset) (a .granularity) _ _ _ (c .done .result) (c .before .before .before .before .before .before .before .before .before .before .before .build-state .ensures) (c .before .before .before .before .before .before .before .clear .ensures) (c .before .before .before .clear2 .ensures) (c .done .ensures))
 

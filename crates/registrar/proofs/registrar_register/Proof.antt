@@ -1,7 +1,7 @@
 -- `registrar::registrar_register` meets its contract. Assumes nothing.
 use borrow.Author.Needs.{needs}
 use mathlib.Core.Path.{ap, _∙_}
-use Rattle.registrar_state.specs.World.{world, carriedOut, registerOf}
+use Rattle.registrar_state.specs.Buffers.{buffers, carriedOut, registerOf}
 use Rattle.registrar_state.proofs.Laws.{count-in}
 use Rattle.registrar.proofs.Laws as laws
 use Rattle.registrar.proofs.registrar_register.Statement.{statement}
@@ -38,7 +38,7 @@ returns : tie.Need-returns
 unfolding registerOf
 returns c =
     let a = c .before .before .before .before .before .before .before .before .before .before .before .before .before .before .before .args in
-    let w = world (a .state .now) (a .registered .now) (a .failed .now) in
+    let w = buffers (a .state .now) (a .registered .now) (a .failed .now) in
     let g = c .before .before .before .before .before .before .before .before .before .before .granularity in
     let f = c .before .before .before .before .before .before .before .before .before .first-chunk in
     let e = c .before .before .before .before .before .before .before .before .end-chunk in
@@ -49,7 +49,7 @@ returns c =
 is-known-requires : tie.Need-is-known-requires
 is-known-requires c κs =
     let a = c .before .before .before .before .before .before .before .before .before .before .before .before .before .before .before .before .args in
-    let w = world (a .state .now) (a .registered .now) (a .failed .now) in
+    let w = buffers (a .state .now) (a .registered .now) (a .failed .now) in
     let g = c .before .before .before .before .before .before .before .before .before .before .before .granularity in
     let f = c .before .before .before .before .before .before .before .before .before .before .first-chunk in
     let e = c .before .before .before .before .before .before .before .before .before .end-chunk in
@@ -73,7 +73,7 @@ returns-2 : tie.Need-returns-2
 unfolding registerOf
 returns-2 c =
     let a = c .before .before .before .before .before .before .before .before .before .before .before .before .before .before .before .before .before .before .before .args in
-    let w = world (a .state .now) (a .registered .now) (a .failed .now) in
+    let w = buffers (a .state .now) (a .registered .now) (a .failed .now) in
     let g = c .before .before .before .before .before .before .before .before .before .before .before .before .before .before .granularity in
     let f = c .before .before .before .before .before .before .before .before .before .before .before .before .before .first-chunk in
     let e = c .before .before .before .before .before .before .before .before .before .before .before .before .end-chunk in
@@ -85,7 +85,7 @@ returns-2 c =
 register-from-requires : tie.Need-register-from-requires
 register-from-requires c κs =
     let a = c .before .before .before .before .before .before .before .before .before .before .before .before .before .before .before .before .before .before .before .before .before .args in
-    let w = world (a .state .now) (a .registered .now) (a .failed .now) in
+    let w = buffers (a .state .now) (a .registered .now) (a .failed .now) in
     let g = c .before .before .before .before .before .before .before .before .before .before .before .before .before .before .before .before .granularity in
     let f = c .before .before .before .before .before .before .before .before .before .before .before .before .before .before .before .first-chunk in
     let e = c .before .before .before .before .before .before .before .before .before .before .before .before .before .before .end-chunk in
@@ -97,7 +97,7 @@ register-from-requires c κs =
 answer-requires : tie.Need-answer-requires
 answer-requires c κs =
     let a = c .before .before .before .before .before .before .before .before .before .before .before .before .before .before .before .before .before .before .before .before .before .before .before .before .before .before .before .args in
-    let w = world (a .state .now) (a .registered .now) (a .failed .now) in
+    let w = buffers (a .state .now) (a .registered .now) (a .failed .now) in
     let g = c .before .before .before .before .before .before .before .before .before .before .before .before .before .before .before .before .before .before .before .before .before .before .granularity in
     let f = c .before .before .before .before .before .before .before .before .before .before .before .before .before .before .before .before .before .before .before .before .before .first-chunk in
     let e = c .before .before .before .before .before .before .before .before .before .before .before .before .before .before .before .before .before .before .before .before .end-chunk in
@@ -121,7 +121,7 @@ returns-3 : tie.Need-returns-3
 unfolding registerOf
 returns-3 c =
     let a = c .before .before .before .before .before .before .before .before .before .before .before .before .before .before .before .before .before .before .before .before .before .before .before .before .before .before .before .before .args in
-    let w = world (a .state .now) (a .registered .now) (a .failed .now) in
+    let w = buffers (a .state .now) (a .registered .now) (a .failed .now) in
     let g = c .before .before .before .before .before .before .before .before .before .before .before .before .before .before .before .before .before .before .before .before .before .before .before .granularity in
     let f = c .before .before .before .before .before .before .before .before .before .before .before .before .before .before .before .before .before .before .before .before .before .before .first-chunk in
     let e = c .before .before .before .before .before .before .before .before .before .before .before .before .before .before .before .before .before .before .before .before .before .end-chunk in

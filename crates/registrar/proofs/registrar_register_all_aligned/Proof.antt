@@ -1,6 +1,6 @@
 -- `registrar::registrar_register_all_aligned` meets its contract. Assumes nothing.
 use borrow.Author.Needs.{needs}
-use Rattle.registrar_state.specs.World.{world, allOf}
+use Rattle.registrar_state.specs.Buffers.{buffers, allOf}
 use Rattle.registrar.proofs.Laws as laws
 use Rattle.registrar.proofs.registrar_register_all_aligned.Statement.{statement}
 use Rattle.registrar.proofs.registrar_register_all_aligned.Tie as tie
@@ -27,14 +27,14 @@ returns : tie.Need-returns
 unfolding allOf
 returns c =
     let a = c .before .before .before .before .before .before .before .before .before .before .before .args in
-    let w = world (a .state .now) (a .registered .now) (a .failed .now) in
+    let w = buffers (a .state .now) (a .registered .now) (a .failed .now) in
     let n = c .before .before .all-refusal in
     laws.call-refused w (n .result) _ (n .ensures) _ (c .refused .result) (c .before .if1 .taken) (c .refused .ensures)
 
 register-all-from-requires : tie.Need-register-all-from-requires
 register-all-from-requires c κs =
     let a = c .before .before .before .before .before .before .before .before .before .before .before .before .before .args in
-    let w = world (a .state .now) (a .registered .now) (a .failed .now) in
+    let w = buffers (a .state .now) (a .registered .now) (a .failed .now) in
     let n = c .before .before .before .before .all-refusal in
     laws.all-long w (n .result) (c .before .before .before .if1 .left) (a .alignment) (a .ignore-unaligned-ranges) (n .ensures)
 
@@ -51,7 +51,7 @@ returns-2 : tie.Need-returns-2
 unfolding allOf
 returns-2 c =
     let a = c .before .before .before .before .before .before .before .before .before .before .before .before .before .before .before .before .before .before .args in
-    let w = world (a .state .now) (a .registered .now) (a .failed .now) in
+    let w = buffers (a .state .now) (a .registered .now) (a .failed .now) in
     let n = c .before .before .before .before .before .before .before .before .before .all-refusal in
     laws.call-answered w (n .result) _ (n .ensures) _ _ (c .before .before .before .before .before .before .before .before .if1 .left) (c .before .before .before .before .register-all-from .ensures)
 

@@ -1,6 +1,6 @@
 -- `registrar_state::all_plan` meets its contract. Assumes nothing.
 use borrow.Author.Needs.{needs}
-use Rattle.registrar_state.specs.World.{world}
+use Rattle.registrar_state.specs.Buffers.{buffers}
 use Rattle.registrar_state.proofs.Laws as laws
 use Rattle.registrar_state.proofs.all_plan.Statement.{statement}
 use Rattle.registrar_state.proofs.all_plan.Tie as tie
@@ -21,7 +21,7 @@ returns : tie.Need-returns
 returns c =
     let a = c .before .before .before .before .before .before .before .args in
     let ram-of = c .before .before .before .ram-of in
-    laws.all-planned (world (a .state .now) (a .registered .now) (a .failed .now)) (ram-of .result .now) (ram-of .ensures) (c .all-from .result) (a .count) (a .alignment) (a .ignore) (a .chunk) (c .all-from .ensures)
+    laws.all-planned (buffers (a .state .now) (a .registered .now) (a .failed .now)) (ram-of .result .now) (ram-of .ensures) (c .all-from .result) (a .count) (a .alignment) (a .ignore) (a .chunk) (c .all-from .ensures)
 
 pub all-plan-spec : {M : Type 1} → statement M
 all-plan-spec =

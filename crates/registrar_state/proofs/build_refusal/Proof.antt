@@ -3,7 +3,7 @@ use native.Mathlib.Omega.{arith}
 use borrow.Author.Needs.{needs}
 use mathlib.Core.Path.{refl, sym, _∙_}
 use borrow.Author.Tests.{not-true, not-false}
-use Rattle.registrar_state.specs.World.{world}
+use Rattle.registrar_state.specs.Buffers.{buffers}
 use Rattle.layout.specs.Layout.{entriesOf}
 use Rattle.registrar_state.proofs.Laws as laws
 use Rattle.laws.specs.Refusal.{refuses, passes}
@@ -16,14 +16,14 @@ refusal-requires c κs = search needs
 returns : tie.Need-returns
 returns c =
     let a = c .before .before .before .before .before .before .args in
-    let w = world (a .state .now) (a .registered .now) (a .failed .now) in
+    let w = buffers (a .state .now) (a .registered .now) (a .failed .now) in
     let e = c .before .refusal in
     laws.build-unfit w (a .ram .now) (a .offset) (a .granularity) (e .result) (e .ensures) (c .if1 .taken)
 
 returns-2 : tie.Need-returns-2
 returns-2 c =
     let a = c .before .before .before .before .before .before .before .args in
-    let w = world (a .state .now) (a .registered .now) (a .failed .now) in
+    let w = buffers (a .state .now) (a .registered .now) (a .failed .now) in
     let e = c .before .before .refusal in
     laws.build-ragged w (a .ram .now) (a .offset) (a .granularity) (e .result) (e .ensures) (c .before .if1 .left) (c .if2 .taken)
 
@@ -36,21 +36,21 @@ last-end-requires c κs = search needs
 returns-3 : tie.Need-returns-3
 returns-3 c =
     let a = c .before .before .before .before .before .before .before .before .before .args in
-    let w = world (a .state .now) (a .registered .now) (a .failed .now) in
+    let w = buffers (a .state .now) (a .registered .now) (a .failed .now) in
     let e = c .before .before .before .before .refusal in
     laws.build-high w (a .ram .now) (a .offset) (a .granularity) (e .result) (e .ensures) (c .before .before .before .if1 .left) (c .before .before .if2 .left) (omega (arith, c .before .last-end .ensures))
 
 returns-4 : tie.Need-returns-4
 returns-4 c =
     let a = c .before .before .before .before .before .before .before .before .before .before .args in
-    let w = world (a .state .now) (a .registered .now) (a .failed .now) in
+    let w = buffers (a .state .now) (a .registered .now) (a .failed .now) in
     let e = c .before .before .before .before .before .refusal in
     laws.build-edge w (a .ram .now) (a .offset) (a .granularity) (e .result) (e .ensures) (c .before .before .before .before .if1 .left) (c .before .before .before .if2 .left) (omega (arith, c .before .before .last-end .ensures)) (c .if4 .taken)
 
 returns-5 : tie.Need-returns-5
 returns-5 c =
     let a = c .before .before .before .before .before .before .before .before .before .before .before .args in
-    let w = world (a .state .now) (a .registered .now) (a .failed .now) in
+    let w = buffers (a .state .now) (a .registered .now) (a .failed .now) in
     let e = c .before .before .before .before .before .before .refusal in
     laws.build-state w (a .ram .now) (a .offset) (a .granularity) (e .result) (e .ensures) (c .before .before .before .before .before .if1 .left) (c .before .before .before .before .if2 .left) (omega (arith, c .before .before .before .last-end .ensures)) (c .before .if4 .left) (c .if5 .taken)
 
@@ -60,7 +60,7 @@ is-power-from-requires c κs = search needs
 returns-6 : tie.Need-returns-6
 returns-6 c =
     let a = c .before .before .before .before .before .before .before .before .before .before .before .before .before .args in
-    let w = world (a .state .now) (a .registered .now) (a .failed .now) in
+    let w = buffers (a .state .now) (a .registered .now) (a .failed .now) in
     let e = c .before .before .before .before .before .before .before .before .refusal in
     laws.build-power w (a .ram .now) (a .offset) (a .granularity) (e .result) (e .ensures) (c .before .before .before .before .before .before .before .if1 .left) (c .before .before .before .before .before .before .if2 .left) (omega (arith, c .before .before .before .before .before .last-end .ensures)) (c .before .before .before .if4 .left)
     (c .before .before .if5 .left) (sym (c .before .is-power-from .ensures) ∙ not-true _ (c .if6 .taken))
@@ -74,7 +74,7 @@ lengths-fit-requires c κs = search needs
 returns-7 : tie.Need-returns-7
 returns-7 c =
     let a = c .before .before .before .before .before .before .before .before .before .before .before .before .before .before .before .before .args in
-    let w = world (a .state .now) (a .registered .now) (a .failed .now) in
+    let w = buffers (a .state .now) (a .registered .now) (a .failed .now) in
     let e = c .before .before .before .before .before .before .before .before .before .before .before .refusal in
     let chunk-count = c .before .before .chunk-count in
     passes _ _ _ _ (sym (laws.lengths-fit (a .registered .now) (a .failed .now) (chunk-count .result) (a .granularity) (entriesOf (a .ram .now)) _ (chunk-count .ensures) (c .before .lengths-fit .ensures)) ∙ c .if7 .taken) refl
@@ -84,7 +84,7 @@ returns-7 c =
 returns-8 : tie.Need-returns-8
 returns-8 c =
     let a = c .before .before .before .before .before .before .before .before .before .before .before .before .before .before .before .before .args in
-    let w = world (a .state .now) (a .registered .now) (a .failed .now) in
+    let w = buffers (a .state .now) (a .registered .now) (a .failed .now) in
     let e = c .before .before .before .before .before .before .before .before .before .before .before .refusal in
     let chunk-count = c .before .before .chunk-count in
     refuses _ _ _ (sym (laws.lengths-fit (a .registered .now) (a .failed .now) (chunk-count .result) (a .granularity) (entriesOf (a .ram .now)) _ (chunk-count .ensures) (c .before .lengths-fit .ensures)) ∙ c .if7 .left)

@@ -3,7 +3,7 @@ use borrow.Author.Needs.{needs}
 use mathlib.Core.Path.{refl, sym, _∙_}
 use borrow.Author.Tests.{eq-eqb, ne-eqb, not-true, not-false}
 use Rattle.laws.specs.Refusal.{refuses, passes}
-use Rattle.registrar_state.specs.World.{granularityOf, entriesIn}
+use Rattle.registrar_state.specs.Buffers.{granularityOf, entriesIn}
 use Rattle.registrar_state.proofs.Laws as laws
 use Rattle.registrar_state.proofs.call_refusal.Statement.{statement}
 use Rattle.registrar_state.proofs.call_refusal.Tie as tie

@@ -1,6 +1,6 @@
 -- `registrar_state::register_stop` meets its contract. Assumes nothing.
 use borrow.Author.Needs.{needs}
-use Rattle.registrar_state.specs.World.{world}
+use Rattle.registrar_state.specs.Buffers.{buffers}
 use Rattle.registrar_state.proofs.Laws as laws
 use Rattle.registrar_state.proofs.register_stop.Statement.{statement}
 use Rattle.registrar_state.proofs.register_stop.Tie as tie
@@ -18,7 +18,7 @@ returns : tie.Need-returns
 returns c =
     let a = c .before .before .before .before .before .before .args in
     let ram-of = c .before .before .ram-of in
-    (laws.stop-planned (world (a .state .now) (a .registered .now) (a .failed .now)) (ram-of .result .now) (ram-of .ensures) (c .stop-from .result) (a .from) _ (c .stop-from .ensures .0), c .stop-from .ensures .1)
+    (laws.stop-planned (buffers (a .state .now) (a .registered .now) (a .failed .now)) (ram-of .result .now) (ram-of .ensures) (c .stop-from .result) (a .from) _ (c .stop-from .ensures .0), c .stop-from .ensures .1)
 
 pub register-stop-spec : {M : Type 1} → statement M
 register-stop-spec =

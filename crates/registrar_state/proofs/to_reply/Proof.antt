@@ -1,7 +1,7 @@
 -- `registrar_state::to_reply` meets its contract. Assumes nothing.
 use borrow.Author.Needs.{needs}
 use mathlib.Core.Path.{sym, ap, _∙_}
-use Rattle.registrar_state.specs.World.{flatOf}
+use Rattle.registrar_state.specs.Buffers.{flatOf}
 use Rattle.registrar_state.proofs.to_reply.Statement.{statement}
 use Rattle.registrar_state.proofs.to_reply.Tie as tie
 

@@ -5,7 +5,7 @@ use lib.ListN.{length}
 use Rattle.mapping.specs.Maps.{maps}
 use Rattle.protector_state.specs.State.{settingsOf}
 use Rattle.protector_state.specs.Changing.{isChanging}
-use Rattle.call_refusals.specs.World.{world, lengthsIn}
+use Rattle.call_refusals.specs.Buffers.{buffers, lengthsIn}
 use Rattle.protector.specs.Calls.{answerDone, visibilityDone, changeDone, afterDone, doneIn}
 use Rattle.protector.proofs.Laws.{call-refused, call-taken}
 use Rattle.call_refusals.proofs.Laws.{pages-fit, tables-fit}
@@ -27,7 +27,7 @@ returns : tie.Need-returns
 unfolding answerDone
 returns c =
     let a = c .before .before .before .before .before .before .before .before .before .before .before .before .before .args in
-    let w = world (maps (a .private .now) (a .shared .now) (a .read .now) (a .write .now) (a .kernel .now) (a .user .now)) (a .state .now) (a .pages .now) (a .tables .now) in
+    let w = buffers (maps (a .private .now) (a .shared .now) (a .read .now) (a .write .now) (a .kernel .now) (a .user .now)) (a .state .now) (a .pages .now) (a .tables .now) in
     call-refused w _ _ (c .before .before .answer-refusal .ensures) (cond (isChanging (a .state .now)) (changeDone w) (visibilityDone w)) (c .refused .result) (c .before .if1 .taken) (c .refused .ensures)
 
 is-changing-requires : tie.Need-is-changing-requires
@@ -38,7 +38,7 @@ answer-done-requires c κs =
     let c11 = c .before .before .before .before .before .before .before .before .before .before .before in let c12 = c11 .before in
     let a = c12 .before .before .before .before .before .before .before .before .before .before .before .args in (
       laws.answer-passed (a .state .now) _ _ (c11 .if1 .left) false (c12 .answer-refusal .ensures),
-      tables-fit (a .state .now) (lengthsIn (world (maps (a .private .now) (a .shared .now) (a .read .now) (a .write .now) (a .kernel .now) (a .user .now)) (a .state .now) (a .pages .now) (a .tables .now)))
+      tables-fit (a .state .now) (lengthsIn (buffers (maps (a .private .now) (a .shared .now) (a .read .now) (a .write .now) (a .kernel .now) (a .user .now)) (a .state .now) (a .pages .now) (a .tables .now)))
           (laws.answer-fits (a .state .now) _ _ (c11 .if1 .left) false (c12 .answer-refusal .ensures)),
     )
 
@@ -72,7 +72,7 @@ returns-2 c =
     let c12 = c .before .before .before .before .before .before .before .before .before .before .before .before in
     let c21 = c12 .before .before .before .before .before .before .before .before .before in let c22 = c21 .before in let c24 = c22 .before .before in let c25 = c24 .before in
     let a = c25 .before .before .before .before .before .before .before .before .before .before .before .args in
-    let w = world (maps (a .private .now) (a .shared .now) (a .read .now) (a .write .now) (a .kernel .now) (a .user .now)) (a .state .now) (a .pages .now) (a .tables .now) in
+    let w = buffers (maps (a .private .now) (a .shared .now) (a .read .now) (a .write .now) (a .kernel .now) (a .user .now)) (a .state .now) (a .pages .now) (a .tables .now) in
     call-taken w _ _ (c25 .answer-refusal .ensures) (cond (isChanging (a .state .now)) (changeDone w) (visibilityDone w)) _ (c24 .if1 .left)
     (chose _ _ (changeDone w) (visibilityDone w) _ (c22 .is-changing .ensures) (c21 .if2 .taken)
     (laws.changed w (afterDone (a .private .now) (a .state .now) (a .pages .now) (a .tables .now)) _ _ _ _ _ _ _ (c12 .answer-done .ensures)))
@@ -82,7 +82,7 @@ answer-done-requires-2 c κs =
     let c11 = c .before .before .before .before .before .before .before .before .before .before .before in let c12 = c11 .before in
     let a = c12 .before .before .before .before .before .before .before .before .before .before .before .args in (
       laws.answer-passed (a .state .now) _ _ (c11 .if1 .left) false (c12 .answer-refusal .ensures),
-      pages-fit (a .state .now) (lengthsIn (world (maps (a .private .now) (a .shared .now) (a .read .now) (a .write .now) (a .kernel .now) (a .user .now)) (a .state .now) (a .pages .now) (a .tables .now)))
+      pages-fit (a .state .now) (lengthsIn (buffers (maps (a .private .now) (a .shared .now) (a .read .now) (a .write .now) (a .kernel .now) (a .user .now)) (a .state .now) (a .pages .now) (a .tables .now)))
           (laws.answer-fits (a .state .now) _ _ (c11 .if1 .left) false (c12 .answer-refusal .ensures)),
     )
 
@@ -116,7 +116,7 @@ returns-3 c =
     let c14 = c .before .before .before .before .before .before .before .before .before .before .before .before .before .before in
     let c23 = c14 .before .before .before .before .before .before .before .before .before in let c24 = c23 .before in let c26 = c24 .before .before in let c27 = c26 .before in
     let a = c27 .before .before .before .before .before .before .before .before .before .before .before .args in
-    let w = world (maps (a .private .now) (a .shared .now) (a .read .now) (a .write .now) (a .kernel .now) (a .user .now)) (a .state .now) (a .pages .now) (a .tables .now) in
+    let w = buffers (maps (a .private .now) (a .shared .now) (a .read .now) (a .write .now) (a .kernel .now) (a .user .now)) (a .state .now) (a .pages .now) (a .tables .now) in
     call-taken w _ _ (c27 .answer-refusal .ensures) (cond (isChanging (a .state .now)) (changeDone w) (visibilityDone w)) _ (c26 .if1 .left)
     (chose-not _ _ (changeDone w) (visibilityDone w) _ (c24 .is-changing .ensures) (c23 .if2 .left)
     (laws.carried w (a .pages .now) (settingsOf (a .state .now)) (doneIn (a .state .now) (a .pages .now)) _ _ _ _ refl refl (c14 .answer-done2 .ensures .0)

@@ -10,7 +10,7 @@ use Rattle.visibility_steps.specs.declared.Request.{Request}
 use Rattle.visibility_steps.specs.Steps.{failedOf}
 use Rattle.protector_state.specs.State.{settingsOf, phaseIn}
 use Rattle.protector_state.specs.Changing.{isChanging}
-use Rattle.call_refusals.specs.World.{world, lengthsIn}
+use Rattle.call_refusals.specs.Buffers.{buffers, lengthsIn}
 use Rattle.protector.specs.Calls.{answerFailed, visibilityFailed, changeFailed, afterFailed}
 use Rattle.protector.proofs.Laws.{call-refused, call-taken}
 use Rattle.call_refusals.proofs.Laws.{tables-fit}
@@ -32,7 +32,7 @@ returns : tie.Need-returns
 unfolding answerFailed
 returns c =
     let a = c .before .before .before .before .before .before .before .before .before .before .before .before .before .args in
-    let w = world (maps (a .private .now) (a .shared .now) (a .read .now) (a .write .now) (a .kernel .now) (a .user .now)) (a .state .now) (a .pages .now) (a .tables .now) in
+    let w = buffers (maps (a .private .now) (a .shared .now) (a .read .now) (a .write .now) (a .kernel .now) (a .user .now)) (a .state .now) (a .pages .now) (a .tables .now) in
     call-refused w _ _ (c .before .before .answer-refusal .ensures) (cond (isChanging (a .state .now)) (changeFailed w) (visibilityFailed w (a .code) (a .processed)))
     (c .refused .result) (c .before .if1 .taken) (c .refused .ensures)
 
@@ -44,7 +44,7 @@ answer-failed-requires c κs =
     let c9 = c .before .before .before .before .before .before .before .before .before in let c10 = c9 .before in
     let a = c10 .before .before .before .before .before .before .before .before .before .before .before .args in (
       laws.answer-passed (a .state .now) _ _ (c9 .if1 .left) true (c10 .answer-refusal .ensures),
-      tables-fit (a .state .now) (lengthsIn (world (maps (a .private .now) (a .shared .now) (a .read .now) (a .write .now) (a .kernel .now) (a .user .now)) (a .state .now) (a .pages .now) (a .tables .now)))
+      tables-fit (a .state .now) (lengthsIn (buffers (maps (a .private .now) (a .shared .now) (a .read .now) (a .write .now) (a .kernel .now) (a .user .now)) (a .state .now) (a .pages .now) (a .tables .now)))
           (laws.answer-fits (a .state .now) _ _ (c9 .if1 .left) true (c10 .answer-refusal .ensures)),
     )
 
@@ -72,7 +72,7 @@ returns-2 c =
     let c12 = c .before .before .before .before .before .before .before .before .before .before .before .before in
     let c19 = c12 .before .before .before .before .before .before .before in let c20 = c19 .before in let c22 = c20 .before .before in let c23 = c22 .before in
     let a = c23 .before .before .before .before .before .before .before .before .before .before .before .args in
-    let w = world (maps (a .private .now) (a .shared .now) (a .read .now) (a .write .now) (a .kernel .now) (a .user .now)) (a .state .now) (a .pages .now) (a .tables .now) in
+    let w = buffers (maps (a .private .now) (a .shared .now) (a .read .now) (a .write .now) (a .kernel .now) (a .user .now)) (a .state .now) (a .pages .now) (a .tables .now) in
     call-taken w _ _ (c23 .answer-refusal .ensures) (cond (isChanging (a .state .now)) (changeFailed w) (visibilityFailed w (a .code) (a .processed))) _ (c22 .if1 .left)
     (chose _ _ (changeFailed w) (visibilityFailed w (a .code) (a .processed)) _ (c20 .is-changing .ensures) (c19 .if2 .taken)
     (laws.changed w (afterFailed (a .state .now)) _ _ _ _ _ _ _ (c12 .answer-failed .ensures)))
@@ -129,7 +129,7 @@ returns-3 c =
     let c23 = c14 .before .before .before .before .before .before .before .before .before in let c25 = c23 .before .before in let c27 = c25 .before .before in
     let c29 = c27 .before .before in let c31 = c29 .before .before in let c32 = c31 .before in let c34 = c32 .before .before in let c35 = c34 .before in
     let a = c35 .before .before .before .before .before .before .before .before .before .before .before .args in
-    let w = world (maps (a .private .now) (a .shared .now) (a .read .now) (a .write .now) (a .kernel .now) (a .user .now)) (a .state .now) (a .pages .now) (a .tables .now) in
+    let w = buffers (maps (a .private .now) (a .shared .now) (a .read .now) (a .write .now) (a .kernel .now) (a .user .now)) (a .state .now) (a .pages .now) (a .tables .now) in
     call-taken w _ _ (c35 .answer-refusal .ensures) (cond (isChanging (a .state .now)) (changeFailed w) (visibilityFailed w (a .code) (a .processed))) _ (c34 .if1 .left)
     (chose-not _ _ (changeFailed w) (visibilityFailed w (a .code) (a .processed)) _ (c32 .is-changing .ensures) (c31 .if2 .left)
     (laws.carried w (a .pages .now) (c29 .settings .result) (c23 .failed .result) _ _ _ (c14 .apply-step .result) (c29 .settings .ensures)

@@ -1,7 +1,7 @@
 -- `underhill_mem::protector_build` meets its contract. Assumes nothing.
 use borrow.Author.Needs.{needs}
 use Rattle.mapping.specs.Maps.{maps}
-use Rattle.call_refusals.specs.World.{world}
+use Rattle.call_refusals.specs.Buffers.{buffers}
 use Rattle.protector.specs.Calls.{buildOf, buildTaken}
 use Rattle.protector.proofs.Laws.{call-refused, call-taken}
 use Rattle.underhill_mem.proofs.protector_build.Statement.{statement}
@@ -18,7 +18,7 @@ returns : tie.Need-returns
 unfolding buildOf
 returns c =
     let a = c .before .before .before .before .before .before .before .before .before .before .before .before .before .args in
-    let w = world (maps (a .private .now) (a .shared .now) (a .read .now) (a .write .now) (a .kernel .now) (a .user .now)) (a .state .now) (a .pages .now) (a .tables .now) in
+    let w = buffers (maps (a .private .now) (a .shared .now) (a .read .now) (a .write .now) (a .kernel .now) (a .user .now)) (a .state .now) (a .pages .now) (a .tables .now) in
     call-refused w _ _ (c .before .before .build-refusal .ensures) (buildTaken w (a .ram .now) (a .isolation) (a .tracked) (a .release)) (c .refused .result) (c .before .if1 .taken)
     (c .refused .ensures)
 
@@ -31,7 +31,7 @@ build-state-requires c κs =
     let c21 = c20 .before in
     let a = c21 .before .before .before .before .before .before .before .before .before .before .before .args in
     laws.build-passed (a .ram .now) (a .isolation) (a .tracked) (a .release)
-    (world (maps (a .private .now) (a .shared .now) (a .read .now) (a .write .now) (a .kernel .now) (a .user .now)) (a .state .now) (a .pages .now) (a .tables .now))
+    (buffers (maps (a .private .now) (a .shared .now) (a .read .now) (a .write .now) (a .kernel .now) (a .user .now)) (a .state .now) (a .pages .now) (a .tables .now))
     (c21 .build-refusal .result) (c20 .if1 .left) (c21 .build-refusal .ensures)
 
 clear-requires : tie.Need-clear-requires
@@ -77,7 +77,7 @@ returns-2 c =
     let c25 = c11 .before .before .before .before .before .before .before .before .before .before .before .before .before .before in
     let c32 = c25 .before .before .before .before .before .before .before in let c33 = c32 .before in
     let a = c33 .before .before .before .before .before .before .before .before .before .before .before .args in
-    let w = world (maps (a .private .now) (a .shared .now) (a .read .now) (a .write .now) (a .kernel .now) (a .user .now)) (a .state .now) (a .pages .now) (a .tables .now) in
+    let w = buffers (maps (a .private .now) (a .shared .now) (a .read .now) (a .write .now) (a .kernel .now) (a .user .now)) (a .state .now) (a .pages .now) (a .tables .now) in
     call-taken w _ _ (c33 .build-refusal .ensures)
     (buildTaken w (a .ram .now) (a .isolation) (a .tracked) (a .release)) _ (c32 .if1 .left)
     (laws.build-made w (a .ram .now) (a .isolation) (a .tracked) (a .release) _ _ _ _ _ (c25 .build .ensures) (c11 .build-state .ensures) (c7 .clear .ensures)

@@ -4,7 +4,7 @@ use lib.ListN.{length}
 use Rattle.mapping.specs.Maps.{maps}
 use Rattle.permissions.specs.declared.GuestVtl.{GuestVtl}
 use Rattle.permissions.specs.Flags.{vtlOf, boolOf}
-use Rattle.call_refusals.specs.World.{world, lengthsIn}
+use Rattle.call_refusals.specs.Buffers.{buffers, lengthsIn}
 use Rattle.protector.specs.Calls.{visibilityOf, visibilityTaken}
 use Rattle.protector.proofs.Laws.{call-refused, call-taken}
 use Rattle.call_refusals.proofs.Laws.{pages-fit}
@@ -25,7 +25,7 @@ returns : tie.Need-returns
 unfolding visibilityOf
 returns c =
     let a = c .before .before .before .before .before .before .before .before .before .before .before .before .before .before .args in
-    let w = world (maps (a .private .now) (a .shared .now) (a .read .now) (a .write .now) (a .kernel .now) (a .user .now)) (a .state .now) (a .pages .now) (a .tables .now) in
+    let w = buffers (maps (a .private .now) (a .shared .now) (a .read .now) (a .write .now) (a .kernel .now) (a .user .now)) (a .state .now) (a .pages .now) (a .tables .now) in
     call-refused w _ _ (c .before .before .visibility-refusal .ensures) (visibilityTaken w (vtlOf (a .vtl)) (boolOf (a .visibility)) (a .list .now)) (c .refused .result) (c .before .if1 .taken) (c .refused .ensures)
 
 settings-requires : tie.Need-settings-requires
@@ -46,7 +46,7 @@ store-requires : tie.Need-store-requires
 store-requires c κs =
     let a = c .before .before .before .before .before .before .before .before .before .before .before .before .before .before .before .before .before .before .before .before .before .before .args in
     let p = laws.visibility-passed (a .state .now) _ _ (c .before .before .before .before .before .before .before .before .before .if1 .left) (a .tables .now) (a .vtl) (a .visibility) (a .list .now) (c .before .before .before .before .before .before .before .before .before .before .visibility-refusal .ensures) in
-    (pages-fit (a .state .now) (lengthsIn (world (maps (a .private .now) (a .shared .now) (a .read .now) (a .write .now) (a .kernel .now) (a .user .now)) (a .state .now) (a .pages .now) (a .tables .now))) (p .1), p .2)
+    (pages-fit (a .state .now) (lengthsIn (buffers (maps (a .private .now) (a .shared .now) (a .read .now) (a .write .now) (a .kernel .now) (a .user .now)) (a .state .now) (a .pages .now) (a .tables .now))) (p .1), p .2)
 
 page-count-requires : tie.Need-page-count-requires
 page-count-requires c κs = search needs
@@ -89,7 +89,7 @@ returns-2 c =
     let c23 = c14 .before .before .before .before .before .before .before .before .before in let c26 = c23 .before .before .before in let c29 = c26 .before .before .before in
     let c32 = c29 .before .before .before in let c33 = c32 .before in let c34 = c33 .before in let c36 = c34 .before .before in let c37 = c36 .before in
     let a = c37 .before .before .before .before .before .before .before .before .before .before .before .before .args in
-    let w = world (maps (a .private .now) (a .shared .now) (a .read .now) (a .write .now) (a .kernel .now) (a .user .now)) (a .state .now) (a .pages .now) (a .tables .now) in
+    let w = buffers (maps (a .private .now) (a .shared .now) (a .read .now) (a .write .now) (a .kernel .now) (a .user .now)) (a .state .now) (a .pages .now) (a .tables .now) in
     call-taken w _ _ (c37 .visibility-refusal .ensures) (visibilityTaken w (vtlOf (a .vtl)) (boolOf (a .visibility)) (a .list .now)) _ (c36 .if1 .left)
     (laws.visibility-made w (c33 .vtl-of .result) (boolOf (a .visibility)) (a .list .now) (c34 .settings .result) (c32 .checks-permissions .result) (c29 .stop-at .result)
     (c26 .store .result) (c23 .page-count .result) _ _ _ _ (c34 .settings .ensures) (c32 .checks-permissions .ensures) (c29 .stop-at .ensures) (c26 .store .ensures .0)

@@ -28,7 +28,7 @@ returns c =
     let b = c .before .before .before .before .before .bytes-if in
     let d = c .before .before .before .asked in
     let r = c .failed in
-    answered-failed (a .world) (a .c) (a .at) (b .result) (d .result) (r .result) (b .ensures .0) (d .ensures) (c .before .if1 .taken) (r .ensures)
+    answered-failed (a .buffers) (a .c) (a .at) (b .result) (d .result) (r .result) (b .ensures .0) (d .ensures) (c .before .if1 .taken) (r .ensures)
 
 done-requires : tie.Need-done-requires
 done-requires c κs = search needs
@@ -39,7 +39,7 @@ returns-2 c =
     let b = c .before .before .before .before .before .bytes-if in
     let d = c .before .before .before .asked in
     let r = c .done in
-    answered-done (a .world) (a .c) (a .at) (b .result) (d .result) (r .result) (b .ensures .0) (d .ensures) (c .before .if1 .left) (r .ensures)
+    answered-done (a .buffers) (a .c) (a .at) (b .result) (d .result) (r .result) (b .ensures .0) (d .ensures) (c .before .if1 .left) (r .ensures)
 
 pub answer-spec : {M : Type 1} → statement M
 answer-spec =

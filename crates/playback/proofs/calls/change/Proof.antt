@@ -1,7 +1,7 @@
 -- `playback::calls::change` meets its contract. Assumes nothing.
 use mathlib.Core.Path.{ap, _∙_}
 use Prim.Native.Nat.{ℕ}
-use Rattle.playback.specs.World.{after, lentOf}
+use Rattle.playback.specs.Buffers.{after, lentOf}
 use Rattle.playback.specs.Calls.{changeIn}
 use borrow.Author.Needs.{needs}
 use Rattle.playback.proofs.calls.change.Statement.{statement}
@@ -19,7 +19,7 @@ change-in-requires c κs = search needs
 returns : tie.Need-returns
 returns c =
     let a = c .before .before .before .before .args in
-    c .change-in .ensures ∙ ap (λ (k : ℕ). after k (a .world) (changeIn (lentOf k (a .world)) (a .c) (a .list .now))) (c .before .bytes-if .ensures .0)
+    c .change-in .ensures ∙ ap (λ (k : ℕ). after k (a .buffers) (changeIn (lentOf k (a .buffers)) (a .c) (a .list .now))) (c .before .bytes-if .ensures .0)
 
 pub change-spec : {M : Type 1} → statement M
 change-spec = tie.close (tie.spec array-read-bytes-if bytes-if-requires change-in-requires returns)

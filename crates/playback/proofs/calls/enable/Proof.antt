@@ -12,7 +12,7 @@ protector-set-vtl1-protections-enabled-requires : tie.Need-protector-set-vtl1-pr
 protector-set-vtl1-protections-enabled-requires c κs = search needs
 
 returns : tie.Need-returns
-returns c = ap (enabledOf (c .before .before .before .before .args .world)) (c .before .protector-set-vtl1-protections-enabled .ensures)
+returns c = ap (enabledOf (c .before .before .before .before .args .buffers)) (c .before .protector-set-vtl1-protections-enabled .ensures)
 
 pub enable-spec : {M : Type 1} → statement M
 enable-spec =

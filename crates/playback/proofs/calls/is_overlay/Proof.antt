@@ -1,6 +1,6 @@
 -- `playback::calls::is_overlay` meets its contract. Assumes nothing.
 use mathlib.Core.Path.{ap, _∙_}
-use Rattle.playback.specs.World.{valued}
+use Rattle.playback.specs.Buffers.{valued}
 use borrow.Author.Needs.{needs}
 use Rattle.playback.proofs.calls.is_overlay.Statement.{statement}
 use Rattle.playback.proofs.calls.is_overlay.Tie as tie
@@ -18,7 +18,7 @@ valued-requires : tie.Need-valued-requires
 valued-requires c κs = search needs
 
 returns : tie.Need-returns
-returns c = c .valued .ensures ∙ ap (valued (c .before .before .before .before .before .before .args .world)) (c .before .protector-is-overlay-page .ensures)
+returns c = c .valued .ensures ∙ ap (valued (c .before .before .before .before .before .before .args .buffers)) (c .before .protector-is-overlay-page .ensures)
 
 pub is-overlay-spec : {M : Type 1} → statement M
 is-overlay-spec =

@@ -15,7 +15,7 @@ protector-lock-gpns-requires : tie.Need-protector-lock-gpns-requires
 protector-lock-gpns-requires c κs = search needs
 
 returns : tie.Need-returns
-returns c = ap (keptIn (c .before .before .before .before .before .before .before .args .world)) (c .before .protector-lock-gpns .ensures)
+returns c = ap (keptIn (c .before .before .before .before .before .before .before .args .buffers)) (c .before .protector-lock-gpns .ensures)
 
 pub lock-spec : {M : Type 1} → statement M
 lock-spec =

@@ -2,7 +2,7 @@
 use mathlib.Core.Path.{sym, ap, _∙_}
 use Prim.Native.Nat.{ℕ}
 use borrow.Author.Needs.{needs, length-unmapped}
-use Rattle.playback.specs.World.{valued, lentOf}
+use Rattle.playback.specs.Buffers.{valued, lentOf}
 use Rattle.playback.specs.Calls.{lookIn}
 use Rattle.playback.proofs.Laws.{prefix-fits, prefix-long}
 use Rattle.playback.proofs.calls.look.Statement.{statement}
@@ -15,37 +15,37 @@ bytes-if-requires : tie.Need-bytes-if-requires
 bytes-if-requires c κs = search needs
 
 slice-aggregate-look-in : tie.Need-slice-aggregate-look-in
-slice-aggregate-look-in c = sym (length-unmapped ℕ (c .before .before .before .before .before .before .before .before .before .args .world .private) 64 (c .before .before .before .before .before .before .before .before .before .good .0 .1 .1 .0 .1 .0 .1))
+slice-aggregate-look-in c = sym (length-unmapped ℕ (c .before .before .before .before .before .before .before .before .before .args .buffers .private) 64 (c .before .before .before .before .before .before .before .before .before .good .0 .1 .1 .0 .1 .0 .1))
 
 slice-aggregate-look-in-2 : tie.Need-slice-aggregate-look-in-2
-slice-aggregate-look-in-2 c = sym (length-unmapped ℕ (c .before .before .before .before .before .before .before .before .before .before .args .world .shared) 64 (c .before .before .before .before .before .before .before .before .before .before .good .0 .1 .1 .1 .0 .1 .0 .1))
+slice-aggregate-look-in-2 c = sym (length-unmapped ℕ (c .before .before .before .before .before .before .before .before .before .before .args .buffers .shared) 64 (c .before .before .before .before .before .before .before .before .before .before .good .0 .1 .1 .1 .0 .1 .0 .1))
 
 array-share-prefix-read : tie.Need-array-share-prefix-read
-array-share-prefix-read c = prefix-fits (c .before .before .before .before .before .before .before .before .before .before .args .world .read) (c .before .before .bytes-if .result) 64 (c .before .before .before .before .before .before .before .before .before .before .good .0 .1 .1 .1 .1 .0 .1 .0 .1) (c .before .before .bytes-if .ensures .1)
+array-share-prefix-read c = prefix-fits (c .before .before .before .before .before .before .before .before .before .before .args .buffers .read) (c .before .before .bytes-if .result) 64 (c .before .before .before .before .before .before .before .before .before .before .good .0 .1 .1 .1 .1 .0 .1 .0 .1) (c .before .before .bytes-if .ensures .1)
 
 slice-aggregate-look-in-3 : tie.Need-slice-aggregate-look-in-3
-slice-aggregate-look-in-3 c = prefix-long (c .before .before .before .before .before .before .before .before .before .before .before .args .world .read) (c .before .before .before .bytes-if .result) 64 (c .before .before .before .before .before .before .before .before .before .before .before .good .0 .1 .1 .1 .1 .0 .1 .0 .1) (c .before .before .before .bytes-if .ensures .1)
+slice-aggregate-look-in-3 c = prefix-long (c .before .before .before .before .before .before .before .before .before .before .before .args .buffers .read) (c .before .before .before .bytes-if .result) 64 (c .before .before .before .before .before .before .before .before .before .before .before .good .0 .1 .1 .1 .1 .0 .1 .0 .1) (c .before .before .before .bytes-if .ensures .1)
 
 array-share-prefix-write : tie.Need-array-share-prefix-write
-array-share-prefix-write c = prefix-fits (c .before .before .before .before .before .before .before .before .before .before .before .args .world .write) (c .before .before .before .bytes-if .result) 64 (c .before .before .before .before .before .before .before .before .before .before .before .good .0 .1 .1 .1 .1 .1 .0 .1 .0 .1) (c .before .before .before .bytes-if .ensures .1)
+array-share-prefix-write c = prefix-fits (c .before .before .before .before .before .before .before .before .before .before .before .args .buffers .write) (c .before .before .before .bytes-if .result) 64 (c .before .before .before .before .before .before .before .before .before .before .before .good .0 .1 .1 .1 .1 .1 .0 .1 .0 .1) (c .before .before .before .bytes-if .ensures .1)
 
 slice-aggregate-look-in-4 : tie.Need-slice-aggregate-look-in-4
-slice-aggregate-look-in-4 c = prefix-long (c .before .before .before .before .before .before .before .before .before .before .before .before .args .world .write) (c .before .before .before .before .bytes-if .result) 64 (c .before .before .before .before .before .before .before .before .before .before .before .before .good .0 .1 .1 .1 .1 .1 .0 .1 .0 .1) (c .before .before .before .before .bytes-if .ensures .1)
+slice-aggregate-look-in-4 c = prefix-long (c .before .before .before .before .before .before .before .before .before .before .before .before .args .buffers .write) (c .before .before .before .before .bytes-if .result) 64 (c .before .before .before .before .before .before .before .before .before .before .before .before .good .0 .1 .1 .1 .1 .1 .0 .1 .0 .1) (c .before .before .before .before .bytes-if .ensures .1)
 
 array-share-prefix-kernel : tie.Need-array-share-prefix-kernel
-array-share-prefix-kernel c = prefix-fits (c .before .before .before .before .before .before .before .before .before .before .before .before .args .world .kernel) (c .before .before .before .before .bytes-if .result) 64 (c .before .before .before .before .before .before .before .before .before .before .before .before .good .0 .1 .1 .1 .1 .1 .1 .0 .1 .0 .1) (c .before .before .before .before .bytes-if .ensures .1)
+array-share-prefix-kernel c = prefix-fits (c .before .before .before .before .before .before .before .before .before .before .before .before .args .buffers .kernel) (c .before .before .before .before .bytes-if .result) 64 (c .before .before .before .before .before .before .before .before .before .before .before .before .good .0 .1 .1 .1 .1 .1 .1 .0 .1 .0 .1) (c .before .before .before .before .bytes-if .ensures .1)
 
 slice-aggregate-look-in-5 : tie.Need-slice-aggregate-look-in-5
-slice-aggregate-look-in-5 c = prefix-long (c .before .before .before .before .before .before .before .before .before .before .before .before .before .args .world .kernel) (c .before .before .before .before .before .bytes-if .result) 64 (c .before .before .before .before .before .before .before .before .before .before .before .before .before .good .0 .1 .1 .1 .1 .1 .1 .0 .1 .0 .1) (c .before .before .before .before .before .bytes-if .ensures .1)
+slice-aggregate-look-in-5 c = prefix-long (c .before .before .before .before .before .before .before .before .before .before .before .before .before .args .buffers .kernel) (c .before .before .before .before .before .bytes-if .result) 64 (c .before .before .before .before .before .before .before .before .before .before .before .before .before .good .0 .1 .1 .1 .1 .1 .1 .0 .1 .0 .1) (c .before .before .before .before .before .bytes-if .ensures .1)
 
 array-share-prefix-user : tie.Need-array-share-prefix-user
-array-share-prefix-user c = prefix-fits (c .before .before .before .before .before .before .before .before .before .before .before .before .before .args .world .user) (c .before .before .before .before .before .bytes-if .result) 64 (c .before .before .before .before .before .before .before .before .before .before .before .before .before .good .0 .1 .1 .1 .1 .1 .1 .1 .0 .1 .0 .1) (c .before .before .before .before .before .bytes-if .ensures .1)
+array-share-prefix-user c = prefix-fits (c .before .before .before .before .before .before .before .before .before .before .before .before .before .args .buffers .user) (c .before .before .before .before .before .bytes-if .result) 64 (c .before .before .before .before .before .before .before .before .before .before .before .before .before .good .0 .1 .1 .1 .1 .1 .1 .1 .0 .1 .0 .1) (c .before .before .before .before .before .bytes-if .ensures .1)
 
 slice-aggregate-look-in-6 : tie.Need-slice-aggregate-look-in-6
-slice-aggregate-look-in-6 c = prefix-long (c .before .before .before .before .before .before .before .before .before .before .before .before .before .before .args .world .user) (c .before .before .before .before .before .before .bytes-if .result) 64 (c .before .before .before .before .before .before .before .before .before .before .before .before .before .before .good .0 .1 .1 .1 .1 .1 .1 .1 .0 .1 .0 .1) (c .before .before .before .before .before .before .bytes-if .ensures .1)
+slice-aggregate-look-in-6 c = prefix-long (c .before .before .before .before .before .before .before .before .before .before .before .before .before .before .args .buffers .user) (c .before .before .before .before .before .before .bytes-if .result) 64 (c .before .before .before .before .before .before .before .before .before .before .before .before .before .before .good .0 .1 .1 .1 .1 .1 .1 .1 .0 .1 .0 .1) (c .before .before .before .before .before .before .bytes-if .ensures .1)
 
 slice-aggregate-look-in-7 : tie.Need-slice-aggregate-look-in-7
-slice-aggregate-look-in-7 c = sym (length-unmapped ℕ (c .before .before .before .before .before .before .before .before .before .before .before .before .before .before .before .args .world .state) 128 (c .before .before .before .before .before .before .before .before .before .before .before .before .before .before .before .good .0 .1 .1 .1 .1 .1 .1 .1 .1 .0 .1 .0 .1))
+slice-aggregate-look-in-7 c = sym (length-unmapped ℕ (c .before .before .before .before .before .before .before .before .before .before .before .before .before .before .before .args .buffers .state) 128 (c .before .before .before .before .before .before .before .before .before .before .before .before .before .before .before .good .0 .1 .1 .1 .1 .1 .1 .1 .1 .0 .1 .0 .1))
 
 look-in-requires : tie.Need-look-in-requires
 look-in-requires c κs = search needs
@@ -57,7 +57,7 @@ returns : tie.Need-returns
 returns c =
     let a = c .before .before .before .before .before .before .before .before .before .before .before .before .before .before .before .before .before .args in
     c .valued .ensures
-    ∙ ap (valued (a .world)) (c .before .look-in .ensures ∙ ap (λ (k : ℕ). lookIn (a .world .state) (lentOf k (a .world) .maps) (a .c)) (c .before .before .before .before .before .before .before .before .before .bytes-if .ensures .0))
+    ∙ ap (valued (a .buffers)) (c .before .look-in .ensures ∙ ap (λ (k : ℕ). lookIn (a .buffers .state) (lentOf k (a .buffers) .maps) (a .c)) (c .before .before .before .before .before .before .before .before .before .bytes-if .ensures .0))
 
 pub look-spec : {M : Type 1} → statement M
 look-spec =

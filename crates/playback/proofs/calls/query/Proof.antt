@@ -26,7 +26,7 @@ returns : tie.Need-returns
 returns c =
     let a = c .before .before .before .before .before .args in
     c .before .query-in .ensures
-    ∙ ap (λ (k : ℕ). queriedOf (a .world) (queryOf (a .world .state) (a .world .shared) (a .list .now) (take k (replicate 520 165)))) (c .before .before .before .min .ensures)
+    ∙ ap (λ (k : ℕ). queriedOf (a .buffers) (queryOf (a .buffers .state) (a .buffers .shared) (a .list .now) (take k (replicate 520 165)))) (c .before .before .before .min .ensures)
 
 pub query-spec : {M : Type 1} → statement M
 query-spec =

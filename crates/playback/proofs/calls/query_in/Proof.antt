@@ -1,7 +1,7 @@
 -- `playback::calls::query_in` meets its contract. Assumes nothing.
 use mathlib.Core.Path.{ap, _∙_}
 use Prim.Native.Nat.{ℕ}
-use Rattle.playback.specs.World.{withThese}
+use Rattle.playback.specs.Buffers.{withThese}
 use Rattle.playback.specs.Calls.{queriedOf}
 use borrow.Author.Needs.{needs}
 use Rattle.playback.proofs.calls.query_in.Statement.{statement}
@@ -24,7 +24,7 @@ same-length c = search needs
 
 returns : tie.Need-returns
 returns c =
-    let w = c .before .before .before .before .before .before .before .before .before .before .before .before .args .world in
+    let w = c .before .before .before .before .before .before .before .before .before .before .before .before .args .buffers in
     let q = c .before .before .before .before .protector-query-host-visibility in
     ap (λ (h : ℕ). withThese w (w .state) (w .tables) (q .result) h) (c .bytes .ensures) ∙ ap (queriedOf w) (q .ensures)
 

@@ -1,6 +1,6 @@
 -- `playback::calls::setting` meets its contract. Assumes nothing.
 use mathlib.Core.Path.{ap, _∙_}
-use Rattle.playback.specs.World.{valued}
+use Rattle.playback.specs.Buffers.{valued}
 use borrow.Author.Needs.{needs}
 use Rattle.playback.proofs.calls.setting.Statement.{statement}
 use Rattle.playback.proofs.calls.setting.Tie as tie
@@ -15,7 +15,7 @@ valued-requires : tie.Need-valued-requires
 valued-requires c κs = search needs
 
 returns : tie.Need-returns
-returns c = c .valued .ensures ∙ ap (valued (c .before .before .before .before .args .world)) (c .before .setting-in .ensures)
+returns c = c .valued .ensures ∙ ap (valued (c .before .before .before .before .args .buffers)) (c .before .setting-in .ensures)
 
 pub setting-spec : {M : Type 1} → statement M
 setting-spec =

@@ -15,7 +15,7 @@ protector-unlock-gpns-requires : tie.Need-protector-unlock-gpns-requires
 protector-unlock-gpns-requires c κs = search needs
 
 returns : tie.Need-returns
-returns c = ap (keptIn (c .before .before .before .before .before .before .before .args .world)) (c .before .protector-unlock-gpns .ensures)
+returns c = ap (keptIn (c .before .before .before .before .before .before .before .args .buffers)) (c .before .protector-unlock-gpns .ensures)
 
 pub unlock-spec : {M : Type 1} → statement M
 unlock-spec =

@@ -27,13 +27,13 @@ permissions-requires c κs = search needs
 
 returns : tie.Need-returns
 returns c =
-    let w = c .before .before .before .before .before .before .before .before .before .args .world in
+    let w = c .before .before .before .before .before .before .before .before .before .args .buffers in
     let m : ℕ = c .before .before .bytes2 .result in
     maps-tracked w m (c .before .before .bytes2 .ensures ∙ ap (λ (h : ℕ). digestOf h (w .shared)) (c .before .before .before .before .bytes .ensures)) (c .permissions .result) (c .before .if1 .taken) (c .permissions .ensures)
 
 returns-2 : tie.Need-returns-2
 returns-2 c =
-    let w = c .before .before .before .before .before .before .before .before .args .world in
+    let w = c .before .before .before .before .before .before .before .before .args .buffers in
     let m : ℕ = c .before .bytes2 .result in
     maps-untracked w m (c .before .bytes2 .ensures ∙ ap (λ (h : ℕ). digestOf h (w .shared)) (c .before .before .before .bytes .ensures)) (c .if1 .left)
 

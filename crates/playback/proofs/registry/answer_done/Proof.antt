@@ -1,6 +1,6 @@
 -- `playback::registry::answer_done` meets its contract. Assumes nothing.
 use mathlib.Core.Path.{ap}
-use Rattle.registrar_state.specs.World.{Outcome}
+use Rattle.registrar_state.specs.Buffers.{Outcome}
 use Rattle.playback.specs.Registry.{after}
 use borrow.Author.Needs.{needs}
 use Rattle.playback.proofs.registry.answer_done.Statement.{statement}

@@ -1,7 +1,7 @@
 -- `playback::registry::start` meets its contract. Assumes nothing.
 use mathlib.Core.Path.{refl, ap, _∙_}
 use Prim.Native.Nat.{ℕ}
-use Rattle.registrar_state.specs.World.{Outcome}
+use Rattle.registrar_state.specs.Buffers.{Outcome}
 use Rattle.recording.specs.Digest.{start}
 use Rattle.playback.specs.Registry.{startIn, after}
 use Rattle.playback.proofs.Laws.{is, is-not}

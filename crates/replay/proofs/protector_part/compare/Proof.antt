@@ -29,9 +29,9 @@ same-length c = search needs
 returns : tie.Need-returns
 returns c =
     let a = c .before .before .before .before .before .before .before .before .before .before .args in
-    let r = a .world .reply in
+    let r = a .buffers .reply in
     c .before .before .note .ensures
-    ∙ ap₂ (λ (x y : ℕ). notedOf (a .tally .now) (a .f .now) (x ∷ r .code ∷ r .index ∷ r .count ∷ a .world .asked ∷ y ∷ []) (r .number) (getD (a .world .state) 16 0 % 4 + 2)) (c .before .before .before .before .before .before .result-of .ensures) (c .before .before .before .before .before .left .ensures)
+    ∙ ap₂ (λ (x y : ℕ). notedOf (a .tally .now) (a .f .now) (x ∷ r .code ∷ r .index ∷ r .count ∷ a .buffers .asked ∷ y ∷ []) (r .number) (getD (a .buffers .state) 16 0 % 4 + 2)) (c .before .before .before .before .before .before .result-of .ensures) (c .before .before .before .before .before .left .ensures)
 
 pub compare-spec : {M : Type 1} → statement M
 compare-spec =

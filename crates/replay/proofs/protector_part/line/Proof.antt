@@ -56,9 +56,9 @@ returns c =
     let b = c .before .before .before .before .before .before .before .before .before .before .before .before .before .before .fill in
     let l = c .before .before .before .before .before .before .before .before .part in
     let v = c .before .before .before .before .before .put-often in (
-      protector-line (a .input .now) (a .step .next) (f .last .1 .1 .0) (f .result) (k .result) (m .last .0) (u .result .now) (m .result) (f .ensures .0) (f .ensures .1) (k .ensures) (m .ensures .0) (m .ensures .1) (u .ensures) (b .last .0) (l .result .now) (b .result .len) (b .ensures .0) (l .ensures) (a .step .world) (v .result) (v .ensures),
+      protector-line (a .input .now) (a .step .next) (f .last .1 .1 .0) (f .result) (k .result) (m .last .0) (u .result .now) (m .result) (f .ensures .0) (f .ensures .1) (k .ensures) (m .ensures .0) (m .ensures .1) (u .ensures) (b .last .0) (l .result .now) (b .result .len) (b .ensures .0) (l .ensures) (a .step .buffers) (v .result) (v .ensures),
       line-after (a .input .now) (a .step .next) (f .last .1 .1 .0) (f .result) (k .result) (b .result .next) (f .ensures .0) (f .ensures .1) (k .ensures) (b .ensures .1),
-      protector-compared (a .input .now) (a .step .next) (f .last .1 .1 .0) (f .result) (k .result) (m .last .0) (u .result .now) (m .result) (f .ensures .0) (f .ensures .1) (k .ensures) (m .ensures .0) (m .ensures .1) (u .ensures) (b .last .0) (l .result .now) (b .result .len) (b .ensures .0) (l .ensures) (a .step .world) (v .result) (a .tally .now) (c .before .before .compare .last .1 .1 .0) (v .ensures) (c .before .before .compare .ensures),
+      protector-compared (a .input .now) (a .step .next) (f .last .1 .1 .0) (f .result) (k .result) (m .last .0) (u .result .now) (m .result) (f .ensures .0) (f .ensures .1) (k .ensures) (m .ensures .0) (m .ensures .1) (u .ensures) (b .last .0) (l .result .now) (b .result .len) (b .ensures .0) (l .ensures) (a .step .buffers) (v .result) (a .tally .now) (c .before .before .compare .last .1 .1 .0) (v .ensures) (c .before .before .compare .ensures),
     )
 
 pub line-spec : {M : Type 1} → statement M

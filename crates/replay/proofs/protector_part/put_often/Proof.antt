@@ -3,7 +3,7 @@ use borrow.Author.Needs.{needs}
 use mathlib.Core.Path.{_≡_, refl, ap, _∙_}
 use native.Mathlib.Omega.{arith}
 use Prim.Native.Nat.{ℕ}
-use Rattle.playback.specs.declared.world.World.{World}
+use Rattle.playback.specs.declared.buffers.Buffers.{Buffers}
 use Rattle.replay.specs.Lines.{putOf, putTimes}
 use Rattle.replay.proofs.Laws.{times-next, times-none}
 use Rattle.replay.proofs.protector_part.put_often.Statement.{statement}
@@ -41,8 +41,8 @@ returns c =
     let a = c .before .before .before .before .before .before .args in
     let h = c .before .before .loop in
     c .put2 .ensures
-    ∙ ap (λ (w : World). putOf w (a .c) (a .list .now) (a .ram .now))
-    (times-none (h .v) (a .c) (a .list .now) (a .ram .now) (h .left) (omega arith) ∙ h .inv ∙ ap (λ (k : ℕ). putTimes k (a .world) (a .c) (a .list .now) (a .ram .now)) (c .before .before .before .times-before .ensures))
+    ∙ ap (λ (w : Buffers). putOf w (a .c) (a .list .now) (a .ram .now))
+    (times-none (h .v) (a .c) (a .list .now) (a .ram .now) (h .left) (omega arith) ∙ h .inv ∙ ap (λ (k : ℕ). putTimes k (a .buffers) (a .c) (a .list .now) (a .ram .now)) (c .before .before .before .times-before .ensures))
 
 pub put-often-spec : {M : Type 1} → statement M
 put-often-spec =

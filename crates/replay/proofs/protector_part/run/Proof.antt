@@ -4,14 +4,14 @@ use mathlib.Core.Path.{_≡_, refl, ap, ap₂, _∙_}
 use native.Mathlib.Omega.{arith}
 use lib.ListN.{length}
 use Rattle.recording.specs.declared.decode.Read.{Read}
-use Rattle.playback.specs.declared.world.World.{World}
+use Rattle.playback.specs.declared.buffers.Buffers.{Buffers}
 use Rattle.replay.specs.Lines.{tallyAfter, afterLines}
 use Rattle.replay.proofs.Laws.{lines-next, lines-none, after-next, after-none}
 use Rattle.replay.proofs.protector_part.run.Statement.{statement}
 use Rattle.replay.proofs.protector_part.run.Tie as tie
 
 abbrev Inv-loop : tie.InvT-loop
-Inv-loop input from tally₀ s₀ left₀ tally s left = (length tally ≡ length tally₀) × (tallyAfter left input (s .world) (s .next) tally ≡ tallyAfter left₀ input (s₀ .world) (s₀ .next) tally₀) × (afterLines left input (s .next) ≡ afterLines left₀ input (s₀ .next))
+Inv-loop input from tally₀ s₀ left₀ tally s left = (length tally ≡ length tally₀) × (tallyAfter left input (s .buffers) (s .next) tally ≡ tallyAfter left₀ input (s₀ .buffers) (s₀ .next) tally₀) × (afterLines left input (s .next) ≡ afterLines left₀ input (s₀ .next))
 
 abbrev μ-loop : tie.MeasureT-loop
 μ-loop input from tally₀ s₀ left₀ tally s left = left
@@ -40,7 +40,7 @@ loop-again c =
     let v = c .before .before .line in
     let a = c .before .before .before .before .before .before .before .before .before .before .args in (
       v .kept .1 .1 .0 ∙ h .inv .0,
-      lines-next (a .input .now) (h .s .world) (h .s .next) (h .tally) (h .left) (v .result .world) (v .result .next) (v .last .1 .1 .0) (omega arith) (v .ensures .0) (v .ensures .1) (v .ensures .2) ∙ h .inv .1,
+      lines-next (a .input .now) (h .s .buffers) (h .s .next) (h .tally) (h .left) (v .result .buffers) (v .result .next) (v .last .1 .1 .0) (omega arith) (v .ensures .0) (v .ensures .1) (v .ensures .2) ∙ h .inv .1,
       after-next (h .left) (a .input .now) (h .s .next) (v .result .next) (omega arith) (v .ensures .1) ∙ h .inv .2,
     )
 
@@ -51,8 +51,8 @@ returns : tie.Need-returns Inv-loop μ-loop
 returns c =
     let h = c .before .loop in
     let a = c .before .before .before .before .before .before .args in (
-      lines-none (a .input .now) (h .s .world) (h .s .next) (h .tally) (h .left) (omega arith) ∙ h .inv .1
-          ∙ ap₂ (λ (k : Read) (w : World). tallyAfter (k .value) (a .input .now) w (k .next) (a .tally .now)) (c .before .before .before .number .ensures) (c .before .before .nothing .ensures),
+      lines-none (a .input .now) (h .s .buffers) (h .s .next) (h .tally) (h .left) (omega arith) ∙ h .inv .1
+          ∙ ap₂ (λ (k : Read) (w : Buffers). tallyAfter (k .value) (a .input .now) w (k .next) (a .tally .now)) (c .before .before .before .number .ensures) (c .before .before .nothing .ensures),
       after-none (h .left) (a .input .now) (h .s .next) (omega arith) ∙ h .inv .2 ∙ ap (λ (k : Read). afterLines (k .value) (a .input .now) (k .next)) (c .before .before .before .number .ensures),
     )
 

@@ -1,7 +1,7 @@
 // What is lent to the protector's calls, and a recorded call.
 ghost use mathlib.Core.Path.{_≡_};
 ghost use Prim.Native.Nat.{_≤_};
-ghost use Rattle.playback.specs.World.{mapBytes, bytesIf, noWorld};
+ghost use Rattle.playback.specs.Buffers.{mapBytes, bytesIf, noBuffers};
 use abi::PAGES_WORDS;
 use abi::STATE_WORDS;
 use abi::TABLES_WORDS;
@@ -25,7 +25,7 @@ pub const CCA: u64 = 4;
 pub const CODES: u64 = 65536;
 
 // The runs of docs/ABI.md, the last reply, and the digest of what the call under way asked for.
-pub struct World {
+pub struct Buffers {
     pub private: [u8; MAP_BYTES],
     pub shared: [u8; MAP_BYTES],
     pub read: [u8; MAP_BYTES],
@@ -63,11 +63,11 @@ pub fn bytes_if(tracked: u64) -> usize
     0
 }
 
-// The world before the first build.
-pub fn nothing() -> World
-    ensures { λ r. ⌜ r ≡ noWorld ⌝ }
+// The buffers before the first build.
+pub fn nothing() -> Buffers
+    ensures { λ r. ⌜ r ≡ noBuffers ⌝ }
 {
-    World {
+    Buffers {
         private: [0; MAP_BYTES],
         shared: [0; MAP_BYTES],
         read: [0; MAP_BYTES],

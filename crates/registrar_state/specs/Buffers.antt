@@ -24,21 +24,21 @@ use Rattle.registrar_steps.specs.Steps.{ChunkState, chunkState, idle, isIdle, a
 use Rattle.registrar_state.specs.declared.Reply.{Reply}
 
 -- what is lent: the state block of 108 words, and the two bitmaps
-pub record World : Type 0 where
+pub record Buffers : Type 0 where
   pub state : List ℕ
   pub registered : List ℕ
   pub failed : List ℕ
 
-abbrev pub world : List ℕ → List ℕ → List ℕ → World
-world state registered failed = record { state = state; registered = registered; failed = failed }
+abbrev pub buffers : List ℕ → List ℕ → List ℕ → Buffers
+buffers state registered failed = record { state = state; registered = registered; failed = failed }
 
 -- what a call gives: all that is lent as it is then, and the reply
 pub record Outcome : Type 0 where
-  pub world : World
+  pub buffers : Buffers
   pub reply : Reply
 
 abbrev pub outcome : List ℕ → List ℕ → List ℕ → Reply → Outcome
-outcome state registered failed reply = record { world = world state registered failed; reply = reply }
+outcome state registered failed reply = record { buffers = buffers state registered failed; reply = reply }
 
 -- ---- the state block: the request under way in words 0 to 8, offset, granularity, number of entries, up to 32 entries
 
@@ -70,7 +70,7 @@ abbrev pub builtState : List ℕ → ℕ → ℕ → List ℕ
 builtState ram offset granularity =
     requestWords idle ++ (offset ∷ granularity ∷ length (entriesOf ram) ∷ ram) ++ replicate (ramLen - length ram) 0
 
-abbrev pub chunkStateIn : World → ChunkState
+abbrev pub chunkStateIn : Buffers → ChunkState
 chunkStateIn lent = chunkState (granularityOf (lent .state)) (entriesIn (lent .state)) (lent .registered) (lent .failed)
 
 -- ---- the reply: 01's number and values for each case of the answer
@@ -106,8 +106,8 @@ flatOf (UnalignedMemory unaligned count) = flatUnaligned unaligned count
 flatOf (Refused number) = simple number 0 0 0 0 0
 
 -- a call is refused by its number and changes nothing, or is answered where that is 0
-abbrev pub decided : World → ℕ → Outcome → Outcome
-decided lent number taken = cond (eqb number 0) taken (record { world = lent; reply = flatOf (Refused number) })
+abbrev pub decided : Buffers → ℕ → Outcome → Outcome
+decided lent number taken = cond (eqb number 0) taken (record { buffers = lent; reply = flatOf (Refused number) })
 
 -- ---- build
 
@@ -115,7 +115,7 @@ abbrev pub lengthsFit : ℕ → List MemoryRangeWithNode → List ℕ → List �
 lengthsFit granularity entries registered failed = eqb (length registered) (mapWords granularity entries) && eqb (length failed) (mapWords granularity entries)
 
 -- 1 for the layout and the offset, 2, then by number: 4 for the state block, 9 for the granularity; 4 for the bitmaps after it, since their length hangs on it
-unfoldable pub buildRefusal : World → List ℕ → ℕ → ℕ → ℕ
+unfoldable pub buildRefusal : Buffers → List ℕ → ℕ → ℕ → ℕ
 buildRefusal lent ram offset granularity =
     when (eqb (refusalOf ram) refusal.unfitLayout) refusal.unfitLayout
     (unless (eqb (offset % pageSize) 0) refusal.unfitLayout
@@ -126,7 +126,7 @@ buildRefusal lent ram offset granularity =
     (unless (lengthsFit granularity (entriesOf ram) (lent .registered) (lent .failed)) refusal.wrongLength
     0))))))
 
-unfoldable pub buildOf : World → List ℕ → ℕ → ℕ → Outcome
+unfoldable pub buildOf : Buffers → List ℕ → ℕ → ℕ → Outcome
 buildOf lent ram offset granularity =
     decided lent (buildRefusal lent ram offset granularity)
     (outcome (builtState ram offset granularity) (replicate (length (lent .registered)) 0) (replicate (length (lent .failed)) 0) (flatOf (Done 0)))
@@ -134,7 +134,7 @@ buildOf lent ram offset granularity =
 -- ---- register and register_all_aligned
 
 -- 4 for the state block, 19, 4 for the bitmaps
-abbrev pub callRefusal : World → ℕ → ℕ
+abbrev pub callRefusal : Buffers → ℕ → ℕ
 callRefusal lent rest =
     unless (eqb (length (lent .state)) registrarLen) refusal.wrongLength
     (unless (eqb (requestOf (lent .state) .kind) kind.none) refusal.busy
@@ -149,12 +149,12 @@ countIn state = cond (eqb (length state) registrarLen) (chunkCount (granularityO
 abbrev pub chunksFit : List ℕ → ℕ → ℕ → Bool
 chunksFit state first end = leb end first || leb end (chunkCount (granularityOf state) (entriesIn state))
 
-unfoldable pub registerRefusal : World → ℕ → ℕ → ℕ
+unfoldable pub registerRefusal : Buffers → ℕ → ℕ → ℕ
 registerRefusal lent address len =
     let granularity : ℕ = granularityOf (lent .state) in
     callRefusal lent (unless (chunksFit (lent .state) (firstChunk granularity address) (endChunk granularity address len)) refusal.unfitChunk 0)
 
-unfoldable pub allRefusal : World → ℕ → ℕ → ℕ
+unfoldable pub allRefusal : Buffers → ℕ → ℕ → ℕ
 allRefusal lent alignment ignore =
     callRefusal lent (unless (leb ignore 1) refusal.unfitNumber (unless (leb (granularityOf (lent .state)) alignment && isPower alignment) refusal.unfitChunk 0))
 
@@ -162,31 +162,31 @@ allRefusal lent alignment ignore =
 abbrev pub marked : ℕ → ℕ → List ℕ → List ℕ
 marked from to map = written wordBits (between from to) true map
 
-abbrev pub carriedOut : World → Plan → Outcome
+abbrev pub carriedOut : Buffers → Plan → Outcome
 carriedOut lent plan =
     outcome (withRequest (plan .request) (lent .state)) (marked (plan .from) (plan .to) (lent .registered)) (lent .failed) (flatOf (plan .answer))
 
-abbrev pub registerPlan : World → ℕ → ℕ → Plan
+abbrev pub registerPlan : Buffers → ℕ → ℕ → Plan
 registerPlan lent address len =
     let granularity : ℕ = granularityOf (lent .state) in
     registerFrom (chunkStateIn lent) (offsetOf (lent .state)) 0 (firstChunk granularity address) (endChunk granularity address len)
 
-abbrev pub allPlan : World → ℕ → ℕ → Plan
+abbrev pub allPlan : Buffers → ℕ → ℕ → Plan
 allPlan lent alignment ignore = allFrom (chunkStateIn lent) (offsetOf (lent .state)) 0 alignment ignore 0 (spans (entriesIn (lent .state)))
 
 -- nothing is left of an earlier request, and the chunks from first to before end are registered
 abbrev pub isKnown : List ℕ → List ℕ → ℕ → ℕ → Bool
 isKnown state registered first end = isIdle (requestOf state) && leb end (firstNot (bitAt wordBits registered) first end)
 
-unfoldable pub registerOf : World → ℕ → ℕ → Outcome
+unfoldable pub registerOf : Buffers → ℕ → ℕ → Outcome
 registerOf lent address len = decided lent (registerRefusal lent address len) (carriedOut lent (registerPlan lent address len))
 
-unfoldable pub allOf : World → ℕ → ℕ → Outcome
+unfoldable pub allOf : Buffers → ℕ → ℕ → Outcome
 allOf lent alignment ignore = decided lent (allRefusal lent alignment ignore) (carriedOut lent (allPlan lent alignment ignore))
 
 -- ---- the answer
 
-unfoldable pub answerRefusal : World → ℕ
+unfoldable pub answerRefusal : Buffers → ℕ
 answerRefusal lent =
     unless (eqb (length (lent .state)) registrarLen) refusal.wrongLength
     (unless (lengthsFit (granularityOf (lent .state)) (entriesIn (lent .state)) (lent .registered) (lent .failed)) refusal.wrongLength
@@ -194,7 +194,7 @@ answerRefusal lent =
     0))
 
 -- failed: the chunks under way are marked failed, and 23 tells where the range starts
-unfoldable pub failedOf : World → Outcome
+unfoldable pub failedOf : Buffers → Outcome
 failedOf lent =
     let request : Request = requestOf (lent .state) in
     decided lent (answerRefusal lent)
@@ -212,15 +212,15 @@ abbrev pub takenTo : List ℕ → ℕ
 takenTo state = cond (hasRest state) (requestOf state .from) (requestOf state .to)
 
 -- then that RAM is asked for, or the call goes on after the chunks that were under way
-abbrev pub donePlan : World → Plan
+abbrev pub donePlan : Buffers → Plan
 donePlan lent =
     let request : Request = requestOf (lent .state) in
     cond (hasRest (lent .state)) (asks (offsetOf (lent .state)) 0 0 (pieceOf (request .count) (request .from) (request .to) (request .until) (restOf (lent .state))))
     (cond (eqb (request .kind) kind.register) (registerFrom (chunkStateIn lent) (offsetOf (lent .state)) (request .count) (request .to) (request .until))
     (allFrom (chunkStateIn lent) (offsetOf (lent .state)) (request .count) (request .alignment) (request .ignore) (request .to) (spans (entriesIn (lent .state)))))
 
-abbrev pub afterTaken : World → World
-afterTaken lent = world (lent .state) (marked (requestOf (lent .state) .from) (takenTo (lent .state)) (lent .registered)) (lent .failed)
+abbrev pub afterTaken : Buffers → Buffers
+afterTaken lent = buffers (lent .state) (marked (requestOf (lent .state) .from) (takenTo (lent .state)) (lent .registered)) (lent .failed)
 
-unfoldable pub doneOf : World → Outcome
+unfoldable pub doneOf : Buffers → Outcome
 doneOf lent = decided lent (answerRefusal lent) (carriedOut (afterTaken lent) (donePlan (afterTaken lent)))

@@ -25,7 +25,7 @@ use Rattle.protector_state.specs.declared.Reply.{Reply}
 use Rattle.protector_state.specs.State.{firstPhases, phaseOf, phaseIn, requestOf, withRequest, entriesIn}
 use Rattle.protector_state.specs.Reply.{modifies}
 use Rattle.protector_state.specs.Changing.{stageNumber, isChanging, withChange}
-use Rattle.call_refusals.specs.World.{World, world, statusOf, statusIn, takes}
+use Rattle.call_refusals.specs.Buffers.{Buffers, buffers, statusOf, statusIn, takes}
 use Rattle.visibility_claims.specs.Whole.{BackendAnswer}
 use Rattle.visibility_claims.proofs.Calls.{phase-read, request-read, no-change}
 use Rattle.visibility_claims.proofs.Ends.{change-entries}
@@ -35,7 +35,7 @@ use Rattle.history.proofs.Bits.{clash}
 use Rattle.history.proofs.Right.{opened, isHalted, isQuiet, Names, Right}
 use Rattle.history.proofs.Steps.{after}
 
-pub record Stands (es : List MemoryRangeWithNode) (w : World) (o : Observed) : Type 0 where
+pub record Stands (es : List MemoryRangeWithNode) (w : Buffers) (o : Observed) : Type 0 where
   pub layout : entriesIn (w .state) ≡ es
   pub right : Right (isRam es) (w .maps .private) (w .maps .shared) (phaseIn (w .state)) (requestOf (w .state)) (w .pages) (o .halted) (o .listed) (sharedIn o)
   pub halts : o .halted ≡ eqb (statusIn (w .state)) refusal.halted
@@ -260,7 +260,7 @@ changing-shut s h = between-phase (getD s 0 0) (leb-true 13 _ (and-left _ _ h))
 
 module _ (es : List MemoryRangeWithNode) (m : Maps) (s t tables : List ℕ) (o : Observed) where
   pub stands-step : (p : Phase) (q : Request) → q .n ≤ 512 → entriesIn s ≡ es → Right (isRam es) (m .private) (m .shared) p q t (o .halted) (o .listed) (sharedIn o) → o .halted ≡ isHalted p
-      → isWaiting o ≡ eqb (statusOf p) refusal.busy → Names p q t (o .op) → (opened p ≡ true → o .table ≡ t) → Stands es (world m (withRequest p q s) t tables) o
+      → isWaiting o ≡ eqb (statusOf p) refusal.busy → Names p q t (o .op) → (opened p ≡ true → o .table ≡ t) → Stands es (buffers m (withRequest p q s) t tables) o
   stands-step p q few e r h a n d =
       let p₀ : Phase = p in
       let c : phaseIn (withRequest p q s) ≡ p = phase-read p in
@@ -277,7 +277,7 @@ module _ (es : List MemoryRangeWithNode) (m : Maps) (s t tables : List ℕ) (o :
 
   -- of a change other than of visibility
   pub stands-change : (g : Stage) (q : Change) → entriesIn s ≡ es → ((p : Phase) (q : Request) → opened p ≡ false → Right (isRam es) (m .private) (m .shared) p q t (o .halted) (o .listed) (sharedIn o))
-      → o .halted ≡ stops g → isWaiting o ≡ goes g → isQuiet (o .op) ≡ true → Stands es (world m (withChange g q s) t tables) o
+      → o .halted ≡ stops g → isWaiting o ≡ goes g → isQuiet (o .op) ≡ true → Stands es (buffers m (withChange g q s) t tables) o
   stands-change g q e r h a n =
       record {
         layout = change-entries g q s ∙ e;

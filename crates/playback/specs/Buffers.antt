@@ -1,4 +1,4 @@
--- What is lent of a world, and a world after a call.
+-- What is lent of the buffers, and the buffers after a call.
 use mathlib.Core.Bool.{cond}
 use mathlib.Core.List.{List, _++_}
 use Prim.Native.Nat.{ℕ, _%_}
@@ -10,8 +10,8 @@ use Rattle.mapping.specs.Maps.{maps}
 use Rattle.protector_state.specs.declared.Reply.{Reply}
 use Rattle.protector_state.specs.Reply.{finished}
 use Rattle.protector_state.specs.declared.Value.{Value}
-use Rattle.call_refusals.specs.World as lent
-use Rattle.playback.specs.declared.world.World.{World}
+use Rattle.call_refusals.specs.Buffers as lent
+use Rattle.playback.specs.declared.buffers.Buffers.{Buffers}
 
 -- layouts end at page 512: the bytes of a map
 abbrev pub mapBytes : ℕ
@@ -40,61 +40,61 @@ codes = 65536
 abbrev pub bytesIf : ℕ → ℕ
 bytesIf tracked = cond (eqb tracked 1) mapBytes 0
 
-abbrev pub bytesIn : World → ℕ
-bytesIn world = bytesIf (getD (world .state) place.tracked 0)
+abbrev pub bytesIn : Buffers → ℕ
+bytesIn buffers = bytesIf (getD (buffers .state) place.tracked 0)
 
 -- what is lent, n bytes of each permission map
-abbrev pub lentOf : ℕ → World → lent.World
-lentOf n world =
-    lent.world (maps (world .private) (world .shared) (take n (world .read)) (take n (world .write)) (take n (world .kernel)) (take n (world .user))) (world .state) (world .pages) (world .tables)
+abbrev pub lentOf : ℕ → Buffers → lent.Buffers
+lentOf n buffers =
+    lent.buffers (maps (buffers .private) (buffers .shared) (take n (buffers .read)) (take n (buffers .write)) (take n (buffers .kernel)) (take n (buffers .user))) (buffers .state) (buffers .pages) (buffers .tables)
 
 -- after a call that was lent so: what was lent as it is then, and the reply
-abbrev pub after : ℕ → World → lent.Outcome → World
-after n world o =
+abbrev pub after : ℕ → Buffers → lent.Outcome → Buffers
+after n buffers o =
     record {
-      private = o .world .maps .private;
-      shared = o .world .maps .shared;
-      read = o .world .maps .permissions .read ++ drop n (world .read);
-      write = o .world .maps .permissions .write ++ drop n (world .write);
-      kernel = o .world .maps .permissions .kernel ++ drop n (world .kernel);
-      user = o .world .maps .permissions .user ++ drop n (world .user);
-      state = o .world .state;
-      pages = o .world .pages;
-      tables = o .world .tables;
+      private = o .buffers .maps .private;
+      shared = o .buffers .maps .shared;
+      read = o .buffers .maps .permissions .read ++ drop n (buffers .read);
+      write = o .buffers .maps .permissions .write ++ drop n (buffers .write);
+      kernel = o .buffers .maps .permissions .kernel ++ drop n (buffers .kernel);
+      user = o .buffers .maps .permissions .user ++ drop n (buffers .user);
+      state = o .buffers .state;
+      pages = o .buffers .pages;
+      tables = o .buffers .tables;
       reply = o .reply;
-      asked = world .asked;
+      asked = buffers .asked;
     }
 
 -- another state block, other tables, reply and digest
-abbrev pub withThese : World → List ℕ → List ℕ → Reply → ℕ → World
-withThese world state tables r h =
+abbrev pub withThese : Buffers → List ℕ → List ℕ → Reply → ℕ → Buffers
+withThese buffers state tables r h =
     record {
-      private = world .private;
-      shared = world .shared;
-      read = world .read;
-      write = world .write;
-      kernel = world .kernel;
-      user = world .user;
+      private = buffers .private;
+      shared = buffers .shared;
+      read = buffers .read;
+      write = buffers .write;
+      kernel = buffers .kernel;
+      user = buffers .user;
       state = state;
-      pages = world .pages;
+      pages = buffers .pages;
       tables = tables;
       reply = r;
       asked = h;
     }
 
 -- a reply, and an answer that is one value, as a reply with the value in the place of the index
-abbrev pub replied : World → Reply → World
-replied world r = withThese world (world .state) (world .tables) r (world .asked)
+abbrev pub replied : Buffers → Reply → Buffers
+replied buffers r = withThese buffers (buffers .state) (buffers .tables) r (buffers .asked)
 
-abbrev pub valued : World → Value → World
-valued world v = replied world (finished (v .number) 0 (v .value) 0)
+abbrev pub valued : Buffers → Value → Buffers
+valued buffers v = replied buffers (finished (v .number) 0 (v .value) 0)
 
-abbrev pub withAsked : World → ℕ → World
-withAsked world h = withThese world (world .state) (world .tables) (world .reply) h
+abbrev pub withAsked : Buffers → ℕ → Buffers
+withAsked buffers h = withThese buffers (buffers .state) (buffers .tables) (buffers .reply) h
 
 -- before the first build
-abbrev pub noWorld : World
-noWorld =
+abbrev pub noBuffers : Buffers
+noBuffers =
     record {
       private = replicate mapBytes 0;
       shared = replicate mapBytes 0;

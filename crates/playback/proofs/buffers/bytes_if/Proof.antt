@@ -1,9 +1,9 @@
--- `playback::world::bytes_if` meets its contract. Assumes nothing.
+-- `playback::buffers::bytes_if` meets its contract. Assumes nothing.
 use mathlib.Core.Path.{refl}
 use native.Mathlib.Omega.{arith}
 use Rattle.playback.proofs.Laws.{is, is-not}
-use Rattle.playback.proofs.world.bytes_if.Statement.{statement}
-use Rattle.playback.proofs.world.bytes_if.Tie as tie
+use Rattle.playback.proofs.buffers.bytes_if.Statement.{statement}
+use Rattle.playback.proofs.buffers.bytes_if.Tie as tie
 
 returns : tie.Need-returns
 returns c = (is (c .before .args .tracked) 1 64 0 64 (c .if1 .taken) refl, omega arith)

@@ -23,22 +23,22 @@ use Rattle.protector_state.specs.Changing.{stageIn, isChanging}
 use Rattle.call_refusals.specs.declared.Lengths.{Lengths}
 
 -- the six maps, the state block, the table of the request's pages, and the tables of overlays and locks
-pub record World : Type 0 where
+pub record Buffers : Type 0 where
   pub maps : Maps
   pub state : List ℕ
   pub pages : List ℕ
   pub tables : List ℕ
 
-abbrev pub world : Maps → List ℕ → List ℕ → List ℕ → World
-world m s p t = record { maps = m; state = s; pages = p; tables = t }
+abbrev pub buffers : Maps → List ℕ → List ℕ → List ℕ → Buffers
+buffers m s p t = record { maps = m; state = s; pages = p; tables = t }
 
 -- what a call gives: all that is lent as it is then, and the reply
 pub record Outcome : Type 0 where
-  pub world : World
+  pub buffers : Buffers
   pub reply : Reply
 
 abbrev pub outcome : Maps → List ℕ → List ℕ → List ℕ → Reply → Outcome
-outcome m s p t r = record { world = world m s p t; reply = r }
+outcome m s p t r = record { buffers = buffers m s p t; reply = r }
 
 -- ---- the tables: overlays of VTL0 and VTL1, 641 words each, then locks of VTL0 and VTL1, 1,089 words each
 
@@ -60,10 +60,10 @@ lengthsFit len tracked l = mapsFit len tracked (l .maps) && (eqb (l .pages) page
 abbrev pub fitsIn : List ℕ → Lengths → Bool
 fitsIn s l = lengthsFit (mapLen (entriesIn s)) (settingsOf s .tracked) l
 
-abbrev pub lengthsIn : World → Lengths
+abbrev pub lengthsIn : Buffers → Lengths
 lengthsIn w = record { maps = lengthsOf (w .maps); pages = length (w .pages); tables = length (w .tables) }
 
-abbrev pub fits : World → Bool
+abbrev pub fits : Buffers → Bool
 fits w = fitsIn (w .state) (lengthsIn w)
 
 -- ---- 20 where halted, 19 while an operation waits for its answer
