@@ -7,7 +7,7 @@ use native.Mathlib.Omega.{arith}
 use Rattle.laws.specs.Bools.{digit, digit-le, lt-or-le}
 use Rattle.laws.specs.Ranges.{between, between-same, between-false}
 use Rattle.bitmap.specs.Pages.{edges, tally}
-use Rattle.bitmap.proofs.Runs.{edges-all, edges-two}
+use Rattle.bitmap.proofs.Runs.{edges-none, edges-short, edges-ends}
 
 tally-same : (n : ℕ) (f g : ℕ → Bool) → ((q : ℕ) → f q ≡ g q) → tally n f ≡ tally n g
 unfolding tally
@@ -35,13 +35,27 @@ tally-between (suc n) a b =
     (λ (y : b ≤ 0). let f = between-false a b 0 (λ l t. omega arith) in let d = ap digit f in omega (arith, d, e, h)) (lt-or-le 0 b))
     (lt-or-le 0 a)
 
-pub edges-few : (n a b : ℕ) → tally n (edges 8 a b) ≤ 14
-edges-few n a b =
-    ⊎-elim (λ (h : (a + 7) / 8 < b / 8).
-    let back : ℕ → Bool = between (b / 8 * 8) b in
-    let front : ℕ → Bool = between a ((a + 7) / 8 * 8) in
-    let e = tally-same n (edges 8 a b) (λ q. back q || front q) (λ q. edges-two a b q h) in
-    omega (arith, e, tally-or n back front, tally-between n (b / 8 * 8) b, tally-between n a ((a + 7) / 8 * 8)))
-    (λ (h : b / 8 ≤ (a + 7) / 8).
-    let e = tally-same n (between a b) (edges 8 a b) (λ q. edges-all a b q h) in omega (arith, e, tally-between n a b))
-    (lt-or-le ((a + 7) / 8) (b / 8))
+tally-none : (n : ℕ) (f : ℕ → Bool) → ((q : ℕ) → f q ≡ false) → tally n f ≡ 0
+unfolding tally
+tally-none zero f h = refl
+tally-none (suc n) f h = let d = ap digit (h zero) in let r = tally-none n (λ q. f (suc q)) (λ q. h (suc q)) in omega (arith, d, r)
+
+-- of a run's pages in one byte at most seven, since eight fill it
+edge-few : (n a l : ℕ) → a ≤ l → a / 8 ≡ l / 8 → tally n (edges 8 a (l + 1)) ≤ 7
+edge-few n a l o h =
+    ⊎-elim (λ (s : l - a < 7).
+    let e = tally-same n (between a (l + 1)) (edges 8 a (l + 1)) (λ q. edges-short a l q o s) in omega (arith, e, tally-between n a (l + 1)))
+    (λ (s : 7 ≤ l - a).
+    let e = tally-none n (edges 8 a (l + 1)) (λ q. edges-none a (l + 1) q (omega arith) (omega arith)) in omega (arith, e))
+    (lt-or-le (l - a) 7)
+
+-- the run from a to l
+pub edges-few : (n a l : ℕ) → a ≤ l → tally n (edges 8 a (l + 1)) ≤ 14
+edges-few n a l o =
+    ⊎-elim (λ (h : a / 8 < l / 8).
+    let back : ℕ → Bool = edges 8 (l / 8 * 8) (l + 1) in
+    let front : ℕ → Bool = edges 8 a (a / 8 * 8 + 7 + 1) in
+    let e = tally-same n (edges 8 a (l + 1)) (λ q. back q || front q) (λ q. edges-ends a l q h) in
+    omega (arith, e, tally-or n back front, edge-few n (l / 8 * 8) l (omega arith) (omega arith), edge-few n a (a / 8 * 8 + 7) (omega arith) (omega arith)))
+    (λ (h : l / 8 ≤ a / 8). let e = edge-few n a l o (omega arith) in omega (arith, e))
+    (lt-or-le (a / 8) (l / 8))

@@ -3,20 +3,34 @@ use mathlib.Core.Bool.{true, false}
 use mathlib.Core.List.{[], _∷_}
 use mathlib.Core.Path.{_≡_, refl}
 use Rattle.laws.specs.Ranges.{between}
-use Rattle.bitmap.specs.Pages.{bitAt, word, writtenFrom, written, one, whole, edges, tally}
+use Rattle.bitmap.specs.Pages.{bitAt, word, writtenFrom, written, one, filled, edges, tally}
 
 -- pages 3 to 22 of four bytes: bits 3 to 7, all eight, bits 0 to 6
 run-of-20 : written 8 (between 3 23) true (0 ∷ 0 ∷ 0 ∷ 0 ∷ []) ≡ 0xf8 ∷ 0xff ∷ 0x7f ∷ 0 ∷ []
 unfolding word writtenFrom
 run-of-20 = refl
 
-whole-of-20 : written 8 (whole 8 3 23) true (0 ∷ 0 ∷ 0 ∷ 0 ∷ []) ≡ 0 ∷ 0xff ∷ 0 ∷ 0 ∷ []
+filled-of-20 : written 8 (filled 8 3 23) true (0 ∷ 0 ∷ 0 ∷ 0 ∷ []) ≡ 0 ∷ 0xff ∷ 0 ∷ 0 ∷ []
 unfolding word writtenFrom
-whole-of-20 = refl
+filled-of-20 = refl
 
 edges-of-20 : written 8 (edges 8 3 23) false (0xff ∷ 0xff ∷ 0xff ∷ 0xff ∷ []) ≡ 0x07 ∷ 0xff ∷ 0x80 ∷ 0xff ∷ []
 unfolding word writtenFrom
 edges-of-20 = refl
+
+-- pages 0 to 7 fill a byte: no single page is written
+edges-of-8 : written 8 (edges 8 0 8) true (0 ∷ 0 ∷ []) ≡ 0 ∷ 0 ∷ []
+unfolding word writtenFrom
+edges-of-8 = refl
+
+filled-of-8 : written 8 (filled 8 0 8) true (0 ∷ 0 ∷ []) ≡ 0xff ∷ 0 ∷ []
+unfolding word writtenFrom
+filled-of-8 = refl
+
+-- pages 1 to 14 fill none: fourteen single pages
+edges-of-14 : written 8 (edges 8 1 15) true (0 ∷ 0 ∷ []) ≡ 0xfe ∷ 0x7f ∷ []
+unfolding word writtenFrom
+edges-of-14 = refl
 
 -- chunk 70 is bit 6 of word 1
 chunk-70 : written 64 (one 70) true (0 ∷ 1 ∷ []) ≡ 0 ∷ 65 ∷ []

@@ -181,9 +181,9 @@ module _ (w : ℕ) (P : ℕ → Bool) where
       stays false b e = e
 
 -- ---- a word stored whole
-pub filled : (w : ℕ) (s : Bool) (m : List ℕ) (i : ℕ) → i < length m → getD m i 0 < 2 ^ w
+pub full-stored : (w : ℕ) (s : Bool) (m : List ℕ) (i : ℕ) → i < length m → getD m i 0 < 2 ^ w
     → set m i (digit s * (2 ^ w - 1)) ≡ written w (words w i (i + 1)) s m
-filled w s m i l h =
+full-stored w s m i l h =
     stored w (words w i (i + 1)) s m i (digit s * (2 ^ w - 1)) l (div-eq-of-lt (full-lt w s) ∙ sym (div-eq-of-lt h))
     (λ k d. full-bit w s k d
     ∙ ap (λ (b : Bool). cond b s (bit (getD m i 0) k))

@@ -10,9 +10,9 @@ use lib.ListN.{length, getD, set}
 use Rattle.laws.specs.Bools.{or-swap}
 use Rattle.laws.specs.Bools.{digit}
 use Rattle.laws.specs.Ranges.{between, between-false, between-same, between-join}
-use Rattle.bitmap.specs.Pages.{written, one, words, whole, edges}
-use Rattle.bitmap.proofs.Map.{none, both, alike, length-written, filled, written-lt}
-use Rattle.bitmap.proofs.Runs.{between-more, whole-and-edges, whole-bytes, edges-all, edges-two}
+use Rattle.bitmap.specs.Pages.{written, one, words, filled, edges}
+use Rattle.bitmap.proofs.Map.{none, both, alike, length-written, full-stored, written-lt}
+use Rattle.bitmap.proofs.Runs.{between-more, filled-and-edges, filled-bytes, edges-short, edges-none, edges-ends}
 
 module _ (w : ℕ) (s : Bool) (m : List ℕ) where
   -- none, one more, and the end, which is past `to` only where `from` is
@@ -38,7 +38,7 @@ module _ (w : ℕ) (s : Bool) (m : List ℕ) where
   words-step a i l h d u e =
       let P = words w a i in
       ap (λ (t : List ℕ). set t i (digit s * (2 ^ w - 1))) e
-      ∙ filled w s (written w P s m) i (subst (λ (n : ℕ). i < n) (sym (length-written w P s m)) d) (written-lt w P s m i d u)
+      ∙ full-stored w s (written w P s m) i (subst (λ (n : ℕ). i < n) (sym (length-written w P s m)) d) (written-lt w P s m i d u)
       ∙ both w (words w i (i + 1)) P (words w a (i + 1)) s m (λ q. between-join a i (i + 1) (q / w) h (omega arith))
 
   -- the words stop at the map's end
@@ -49,27 +49,31 @@ module _ (w : ℕ) (s : Bool) (m : List ℕ) where
       let e = digits-div j d in
       between-same a i ((j * w + k) / w) a b ((j * w + k) / w) (λ x y. (x, omega arith)) (λ x y. (x, omega arith)))
 
--- ---- a run as its edges and its whole words: either order gives the same map
+-- ---- a run as its edges and the words that it fills: either order gives the same map
 
 module _ (w a b : ℕ) (s : Bool) (m : List ℕ) (pos : zero < w) where
-  pub edges-then-whole : written w (whole w a b) s (written w (edges w a b) s m) ≡ written w (between a b) s m
-  edges-then-whole = both w (whole w a b) (edges w a b) (between a b) s m (λ q. whole-and-edges w a b q pos)
+  pub edges-then-filled : written w (filled w a b) s (written w (edges w a b) s m) ≡ written w (between a b) s m
+  edges-then-filled = both w (filled w a b) (edges w a b) (between a b) s m (λ q. filled-and-edges w a b q pos)
 
-  pub whole-then-edges : written w (edges w a b) s (written w (whole w a b) s m) ≡ written w (between a b) s m
-  whole-then-edges =
-      both w (edges w a b) (whole w a b) (between a b) s m (λ q. whole-and-edges w a b q pos ∙ or-swap (whole w a b q) (edges w a b q))
+  pub filled-then-edges : written w (edges w a b) s (written w (filled w a b) s m) ≡ written w (between a b) s m
+  filled-then-edges =
+      both w (edges w a b) (filled w a b) (between a b) s m (λ q. filled-and-edges w a b q pos ∙ or-swap (filled w a b q) (edges w a b q))
 
-  pub either-order : written w (whole w a b) s (written w (edges w a b) s m) ≡ written w (edges w a b) s (written w (whole w a b) s m)
-  either-order = edges-then-whole ∙ sym whole-then-edges
+  pub either-order : written w (filled w a b) s (written w (edges w a b) s m) ≡ written w (edges w a b) s (written w (filled w a b) s m)
+  either-order = edges-then-filled ∙ sym filled-then-edges
 
 -- ---- in words of 8: what the code calls
-module _ (a b : ℕ) (s : Bool) (m : List ℕ) where
-  pub whole-written : written 8 (words 8 ((a + 7) / 8) (b / 8)) s m ≡ written 8 (whole 8 a b) s m
-  whole-written = alike 8 (words 8 ((a + 7) / 8) (b / 8)) (whole 8 a b) s m (λ j k l d. whole-bytes a b (j * 8 + k))
+module _ (s : Bool) (m : List ℕ) where
+  pub filled-written : (a b : ℕ) → written 8 (words 8 ((a + 7) / 8) (b / 8)) s m ≡ written 8 (filled 8 a b) s m
+  filled-written a b = alike 8 (words 8 ((a + 7) / 8) (b / 8)) (filled 8 a b) s m (λ j k l d. filled-bytes a b (j * 8 + k))
 
-  pub edges-all-written : b / 8 ≤ (a + 7) / 8 → written 8 (between a b) s m ≡ written 8 (edges 8 a b) s m
-  edges-all-written h = alike 8 (between a b) (edges 8 a b) s m (λ j k l d. edges-all a b (j * 8 + k) h)
+  -- in one byte: nothing where the run fills it, else its pages
+  pub edge-none : (a l : ℕ) → a ≤ l → a / 8 ≡ l / 8 → l - a ≡ 7 → m ≡ written 8 (edges 8 a (l + 1)) s m
+  edge-none a l o e h = none 8 (edges 8 a (l + 1)) s m (λ j k b d. edges-none a (l + 1) (j * 8 + k) (omega arith) (omega arith))
 
-  pub edges-two-written : (a + 7) / 8 < b / 8
-      → written 8 (between (b / 8 * 8) b) s (written 8 (between a ((a + 7) / 8 * 8)) s m) ≡ written 8 (edges 8 a b) s m
-  edges-two-written h = both 8 (between (b / 8 * 8) b) (between a ((a + 7) / 8 * 8)) (edges 8 a b) s m (λ q. edges-two a b q h)
+  pub edge-all : (a l : ℕ) → a ≤ l → l - a < 7 → written 8 (between a (l + 1)) s m ≡ written 8 (edges 8 a (l + 1)) s m
+  edge-all a l o h = alike 8 (between a (l + 1)) (edges 8 a (l + 1)) s m (λ j k b d. edges-short a l (j * 8 + k) o h)
+
+  pub edges-written : (a l : ℕ) → a / 8 < l / 8
+      → written 8 (edges 8 (l / 8 * 8) (l + 1)) s (written 8 (edges 8 a (a / 8 * 8 + 7 + 1)) s m) ≡ written 8 (edges 8 a (l + 1)) s m
+  edges-written a l h = both 8 (edges 8 (l / 8 * 8) (l + 1)) (edges 8 a (a / 8 * 8 + 7 + 1)) (edges 8 a (l + 1)) s m (λ q. edges-ends a l q h)

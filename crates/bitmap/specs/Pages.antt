@@ -38,13 +38,13 @@ one p q = eqb q p
 abbrev pub words : ℕ → ℕ → ℕ → ℕ → Bool
 words w a b q = between a b (q / w)
 
--- of the pages from a to before b, those whose word lies among them with all its pages
-abbrev pub whole : ℕ → ℕ → ℕ → ℕ → Bool
-whole w a b q = leb a (q / w * w) && leb (q / w * w + w) b
+-- of the pages from a to before b, those in words that this run fills (02, (iv))
+abbrev pub filled : ℕ → ℕ → ℕ → ℕ → Bool
+filled w a b q = leb a (q / w * w) && leb (q / w * w + w) b
 
--- and the others
+-- and those in words that it doesn't fill
 abbrev pub edges : ℕ → ℕ → ℕ → ℕ → Bool
-edges w a b q = between a b q && not (whole w a b q)
+edges w a b q = between a b q && not (filled w a b q)
 
 -- how many of the first n pages are of f
 unfoldable pub tally : ℕ → (ℕ → Bool) → ℕ

@@ -5,7 +5,7 @@ ghost use mathlib.Core.Bool.{cond};
 ghost use Prim.Native.Nat.{_+_, _*_, _/_, _≤_};
 ghost use Rattle.laws.specs.Bools.{digit};
 ghost use Rattle.laws.specs.Ranges.{between};
-ghost use Rattle.bitmap.specs.Pages.{bitAt, written, one, words, whole, edges, bit, tally};
+ghost use Rattle.bitmap.specs.Pages.{bitAt, written, one, words, filled, edges, bit, tally};
 
 // The byte whose pages all have the state.
 pub fn full(state: bool) -> u8
@@ -46,15 +46,17 @@ pub fn set_page(map: &mut [u8], gpn: u64, state: bool)
     }
 }
 
-// The pages from `from` to before `to`, one after the other.
-fn set_pages(map: &mut [u8], from: u64, to: u64, state: bool)
-    ensures { λ _. ⌜ now (map .exit) ≡ written 8 (between from to) state (now (map .entry)) ⌝ }
+// The pages from `first` to `last`, with it, one after the other.
+fn set_pages(map: &mut [u8], first: u64, last: u64, state: bool)
+    requires { ⌜ first ≤ last ⌝ }
+    ensures { λ _. ⌜ now (map .exit) ≡ written 8 (between first (last + 1)) state (now (map .entry)) ⌝ }
 {
-    let mut gpn = from;
-    while gpn < to {
+    let mut gpn = first;
+    while gpn < last {
         set_page(map, gpn, state);
         gpn += 1;
     }
+    set_page(map, last, state);
 }
 
 // The first byte whose pages begin at `gpn` or after it.
@@ -64,37 +66,46 @@ fn byte_up(gpn: u64) -> u64
     if gpn % 8 == 0 { gpn / 8 } else { gpn / 8 + 1 }
 }
 
-// Of the pages from `from` to before `to`, those whose byte lies in that run with all its pages.
-fn update_whole(map: &mut [u8], from: u64, to: u64, state: bool)
-    ensures { λ _. ⌜ now (map .exit) ≡ written 8 (whole 8 from to) state (now (map .entry)) ⌝ }
+// The byte after those whose pages end at `gpn` or before it.
+fn byte_after(gpn: u64) -> u64
+    ensures { λ r. ⌜ r ≡ (gpn + 1) / 8 ⌝ }
 {
-    fill_bytes(map, byte_up(from), to / 8, state);
+    if gpn % 8 == 7 { gpn / 8 + 1 } else { gpn / 8 }
 }
 
-// Of the same pages, the others: at most seven at each end.
-fn update_edges(map: &mut [u8], from: u64, to: u64, state: bool)
-    ensures { λ _. ⌜ now (map .exit) ≡ written 8 (edges 8 from to) state (now (map .entry)) ⌝ }
+// A run's pages in one of its bytes, from `first` to `last`: none where they fill it.
+fn update_edge(map: &mut [u8], first: u64, last: u64, state: bool)
+    requires { ⌜ (first ≤ last) × (first / 8 ≡ last / 8) ⌝ }
+    ensures { λ _. ⌜ now (map .exit) ≡ written 8 (edges 8 first (last + 1)) state (now (map .entry)) ⌝ }
 {
-    let a = byte_up(from);
-    let b = to / 8;
-    if a < b {
-        set_pages(map, from, a * 8, state);
-        set_pages(map, b * 8, to, state);
-    } else {
-        set_pages(map, from, to, state);
+    if last - first == 7 {
+        return;
     }
+    set_pages(map, first, last, state);
 }
 
-// The pages from `from` to before `to`; nothing past the end.
-pub fn update(map: &mut [u8], from: u64, to: u64, state: bool)
-    ensures { λ _. ⌜ now (map .exit) ≡ written 8 (between from to) state (now (map .entry)) ⌝ }
+// Of the pages from `first` to `last`, those in bytes that this run doesn't fill: at most seven at each end.
+fn update_edges(map: &mut [u8], first: u64, last: u64, state: bool)
+    requires { ⌜ first ≤ last ⌝ }
+    ensures { λ _. ⌜ now (map .exit) ≡ written 8 (edges 8 first (last + 1)) state (now (map .entry)) ⌝ }
 {
-    update_whole(map, from, to, state);
-    update_edges(map, from, to, state);
+    if first / 8 == last / 8 {
+        update_edge(map, first, last, state);
+        return;
+    }
+    update_edge(map, first, first / 8 * 8 + 7, state);
+    update_edge(map, last / 8 * 8, last, state);
 }
 
-// The pages from `first` to `last`, with it; nothing past the end.
-pub fn set_run(map: &mut [u8], first: u64, last: u64, state: bool)
+// Of the same pages, the rest: the bytes that the run fills, each stored whole.
+fn update_filled(map: &mut [u8], first: u64, last: u64, state: bool)
+    ensures { λ _. ⌜ now (map .exit) ≡ written 8 (filled 8 first (last + 1)) state (now (map .entry)) ⌝ }
+{
+    fill_bytes(map, byte_up(first), byte_after(last), state);
+}
+
+// The pages from `first` to `last`, with it; nothing past the end. The single pages at both ends come before the bytes between.
+pub fn update(map: &mut [u8], first: u64, last: u64, state: bool)
     requires { ⌜ first ≤ last ⌝ }
     ensures { λ _. ⌜ now (map .exit) ≡ written 8 (between first (last + 1)) state (now (map .entry)) ⌝ }
 {
@@ -102,8 +113,8 @@ pub fn set_run(map: &mut [u8], first: u64, last: u64, state: bool)
         set_page(map, first, state);
         return;
     }
-    update(map, first, last, state);
-    set_page(map, last, state);
+    update_edges(map, first, last, state);
+    update_filled(map, first, last, state);
 }
 
 // The state of a page: not set past the end.

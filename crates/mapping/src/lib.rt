@@ -4,6 +4,7 @@ ghost use mathlib.Core.Bool.{true};
 ghost use mathlib.Core.Path.{_≡_};
 ghost use Prim.Native.Nat.{_+_, _≤_};
 ghost use lib.ListN.{length, replicate};
+ghost use Rattle.laws.specs.Ranges.{between};
 ghost use Rattle.bitmap.specs.Pages.{written};
 ghost use Rattle.layout.specs.Layout.{entriesOf, isRam};
 ghost use Rattle.mapping.specs.Maps.{perms, maps, fresh, built, permissionLen, marksFit, permissionsFit, mapsFit, flagsAt, permitted};
@@ -70,6 +71,16 @@ fn clear(map: &mut [u8])
     bitmap::fill_bytes(map, 0, len, false);
 }
 
+// The pages from `from` to before `to` set.
+fn set_entry(map: &mut [u8], from: u64, to: u64)
+    ensures { λ _. ⌜ now (map .exit) ≡ written 8 (between from to) true (now (map .entry)) ⌝ }
+{
+    if to <= from {
+        return;
+    }
+    bitmap::update(map, from, to - 1, true);
+}
+
 // Every RAM page set.
 fn set_ram(map: &mut [u8], ram: &[u64])
     ensures { λ _. ⌜ now (map .exit) ≡ written 8 (isRam (entriesOf (now (ram .entry)))) true (now (map .entry)) ⌝ }
@@ -78,7 +89,7 @@ fn set_ram(map: &mut [u8], ram: &[u64])
     let mut i: u64 = 0;
     while i < n {
         let e = layout::entry_at(ram, i);
-        bitmap::update(map, layout::page_up(e.start), layout::page_up(e.end), true);
+        set_entry(map, layout::page_up(e.start), layout::page_up(e.end));
         i += 1;
     }
 }
@@ -147,10 +158,10 @@ pub fn update_permission_bitmaps(
         update_page(read, write, kernel, user, first, flags);
         return;
     }
-    bitmap::set_run(read, first, last, flags.readable);
-    bitmap::set_run(write, first, last, flags.writable);
-    bitmap::set_run(kernel, first, last, flags.kernel_executable);
-    bitmap::set_run(user, first, last, flags.user_executable);
+    bitmap::update(read, first, last, flags.readable);
+    bitmap::update(write, first, last, flags.writable);
+    bitmap::update(kernel, first, last, flags.kernel_executable);
+    bitmap::update(user, first, last, flags.user_executable);
 }
 
 // What the permission maps hold of a page.

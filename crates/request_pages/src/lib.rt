@@ -141,7 +141,7 @@ pub fn set_places(map: &mut [u8], t: &[u64], from: u64, to: u64, state: bool)
     let mut i = from;
     while i < stop {
         let end = run_end(t, to, i);
-        bitmap::set_run(
+        bitmap::update(
             map,
             numbers::word_at(t, i),
             numbers::word_at(t, end - 1),

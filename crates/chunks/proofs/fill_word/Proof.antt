@@ -6,7 +6,7 @@ use mathlib.Core.Bool.{true}
 use lib.ListN.{set}
 use Rattle.abi.specs.Lengths.{wordBits}
 use Rattle.chunks.proofs.Laws as laws
-use Rattle.bitmap.proofs.Map.{filled}
+use Rattle.bitmap.proofs.Map.{full-stored}
 use Rattle.chunks.proofs.fill_word.Statement.{statement}
 use Rattle.chunks.proofs.fill_word.Tie as tie
 
@@ -23,7 +23,7 @@ same-length : tie.Need-same-length
 same-length c = search needs
 
 returns : tie.Need-returns
-returns c = ap (set (c .before .before .before .args .map .now) (c .before .before .before .args .word)) (c .full .ensures) ∙ filled wordBits true (c .before .before .before .args .map .now) (c .before .before .before .args .word) (omega arith) (c .before .before .slice-known .given (c .before .before .before .args .word) .fits)
+returns c = ap (set (c .before .before .before .args .map .now) (c .before .before .before .args .word)) (c .full .ensures) ∙ full-stored wordBits true (c .before .before .before .args .map .now) (c .before .before .before .args .word) (omega arith) (c .before .before .slice-known .given (c .before .before .before .args .word) .fits)
 
 returns-2 : tie.Need-returns-2
 returns-2 c = laws.word-past (c .before .before .args .map .now) (c .before .before .args .word) (omega arith)

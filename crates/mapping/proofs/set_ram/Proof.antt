@@ -33,8 +33,8 @@ page-up-requires c κs = search needs
 page-up-requires-2 : tie.Need-page-up-requires-2 Inv-loop μ-loop
 page-up-requires-2 c κs = search needs
 
-update-requires : tie.Need-update-requires Inv-loop μ-loop
-update-requires c κs = search needs
+set-entry-requires : tie.Need-set-entry-requires Inv-loop μ-loop
+set-entry-requires c κs = search needs
 
 add-i : tie.Need-add-i Inv-loop μ-loop
 add-i c = search needs
@@ -49,7 +49,7 @@ loop-again c =
     let es = entriesOf (c12 .args .ram .now) in (
       search needs,
       ram-step es (u .loop .i) (u .loop .map) _ _ _ _ (omega (arith, c9 .entry-count .ensures)) (c6 .entry-at .ensures) (c4 .page-up .ensures)
-          (c .before .before .before .page-up2 .ensures) (c .before .before .update .ensures) ∙ u .loop .inv .1,
+          (c .before .before .before .page-up2 .ensures) (c .before .before .set-entry .ensures) ∙ u .loop .inv .1,
     )
 
 same-length : tie.Need-same-length Inv-loop μ-loop
@@ -69,7 +69,7 @@ set-ram-spec =
     entry-at-requires
     page-up-requires
     page-up-requires-2
-    update-requires
+    set-entry-requires
     add-i
     loop-less
     loop-again

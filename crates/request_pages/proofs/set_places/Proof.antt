@@ -37,8 +37,8 @@ sub-word-at c =
 word-at-requires-2 : tie.Need-word-at-requires-2 Inv-loop μ-loop
 word-at-requires-2 c κs = search needs
 
-set-run-requires : tie.Need-set-run-requires Inv-loop μ-loop
-set-run-requires c κs =
+update-requires : tie.Need-update-requires Inv-loop μ-loop
+update-requires c κs =
     let a = c .before .before .before .before .before .before .before .before .before .args in
     let h = c .before .before .before .before .before .loop in
     let stop = c .before .before .before .before .before .before .min .ensures in
@@ -59,7 +59,7 @@ loop-again c =
     let stop = c .before .before .before .before .before .before .before .before .before .min .ensures in (
       search needs,
       laws.put-run (a .t .now) (a .to) (h .i) _ _ _ (omega arith) (omega arith) (c .before .before .before .before .before .before .run-end .ensures)
-          (c .before .before .before .before .word-at .ensures) (c .before .before .before .word-at2 .ensures) (a .state) (h .map) _ (c .before .before .set-run .ensures)
+          (c .before .before .before .before .word-at .ensures) (c .before .before .before .word-at2 .ensures) (a .state) (h .map) _ (c .before .before .update .ensures)
           ∙ h .inv .1,
     )
 
@@ -84,7 +84,7 @@ set-places-spec =
     word-at-requires
     sub-word-at
     word-at-requires-2
-    set-run-requires
+    update-requires
     loop-less
     loop-again
     same-length
