@@ -22,6 +22,12 @@ module _ (w : ℕ) (s : Bool) (m : List ℕ) where
   pub run-step : (a p : ℕ) (l l′ : List ℕ) → a ≤ p → l ≡ written w (between a p) s m → l′ ≡ written w (one p) s l → l′ ≡ written w (between a (p + 1)) s m
   run-step a p l l′ h e f = f ∙ ap (written w (one p) s) e ∙ both w (one p) (between a p) (between a (p + 1)) s m (λ q. between-more a p q h)
 
+  -- the same, by how many there are
+  pub run-next : (a k : ℕ) (l l′ : List ℕ) → l ≡ written w (between a (a + k)) s m → l′ ≡ written w (one (a + k)) s l → l′ ≡ written w (between a (a + (k + 1))) s m
+  run-next a k l l′ e f =
+      let next : a + k + 1 ≡ a + (k + 1) = omega arith in
+      run-step a (a + k) l l′ (omega arith) e f ∙ ap (λ (p : ℕ). written w (between a p) s m) next
+
   pub run-one : (p : ℕ) (l : List ℕ) → l ≡ written w (one p) s m → l ≡ written w (between p (p + 1)) s m
   run-one p l e = run-step p p m l (omega arith) (run-none p) e
 
@@ -68,7 +74,7 @@ module _ (s : Bool) (m : List ℕ) where
   filled-written a b = alike 8 (words 8 ((a + 7) / 8) (b / 8)) (filled 8 a b) s m (λ j k l d. filled-bytes a b (j * 8 + k))
 
   -- in one byte: nothing where the run fills it, else its pages
-  pub edge-none : (a l : ℕ) → a ≤ l → a / 8 ≡ l / 8 → l - a ≡ 7 → m ≡ written 8 (edges 8 a (l + 1)) s m
+  pub edge-none : (a l : ℕ) → a ≤ l → a / 8 ≡ l / 8 → l - a + 1 ≡ 8 → m ≡ written 8 (edges 8 a (l + 1)) s m
   edge-none a l o e h = none 8 (edges 8 a (l + 1)) s m (λ j k b d. edges-none a (l + 1) (j * 8 + k) (omega arith) (omega arith))
 
   pub edge-all : (a l : ℕ) → a ≤ l → l - a < 7 → written 8 (between a (l + 1)) s m ≡ written 8 (edges 8 a (l + 1)) s m

@@ -46,19 +46,6 @@ pub fn set_page(map: &mut [u8], gpn: u64, state: bool)
     }
 }
 
-// The pages from `first` to `last`, with it, one after the other.
-fn set_pages(map: &mut [u8], first: u64, last: u64, state: bool)
-    requires { ⌜ first ≤ last ⌝ }
-    ensures { λ _. ⌜ now (map .exit) ≡ written 8 (between first (last + 1)) state (now (map .entry)) ⌝ }
-{
-    let mut gpn = first;
-    while gpn < last {
-        set_page(map, gpn, state);
-        gpn += 1;
-    }
-    set_page(map, last, state);
-}
-
 // The first byte whose pages begin at `gpn` or after it.
 fn byte_up(gpn: u64) -> u64
     ensures { λ r. ⌜ r ≡ (gpn + 7) / 8 ⌝ }
@@ -73,15 +60,20 @@ fn byte_after(gpn: u64) -> u64
     if gpn % 8 == 7 { gpn / 8 + 1 } else { gpn / 8 }
 }
 
-// A run's pages in one of its bytes, from `first` to `last`: none where they fill it.
+// A run's pages in one of its bytes, from `first` to `last`, one after the other: none where they fill it.
 fn update_edge(map: &mut [u8], first: u64, last: u64, state: bool)
     requires { ⌜ (first ≤ last) × (first / 8 ≡ last / 8) ⌝ }
     ensures { λ _. ⌜ now (map .exit) ≡ written 8 (edges 8 first (last + 1)) state (now (map .entry)) ⌝ }
 {
-    if last - first == 7 {
+    let count = last - first + 1;
+    if count == 8 {
         return;
     }
-    set_pages(map, first, last, state);
+    let mut k: u64 = 0;
+    while k < count {
+        set_page(map, first + k, state);
+        k += 1;
+    }
 }
 
 // Of the pages from `first` to `last`, those in bytes that this run doesn't fill: at most seven at each end.
@@ -89,11 +81,11 @@ fn update_edges(map: &mut [u8], first: u64, last: u64, state: bool)
     requires { ⌜ first ≤ last ⌝ }
     ensures { λ _. ⌜ now (map .exit) ≡ written 8 (edges 8 first (last + 1)) state (now (map .entry)) ⌝ }
 {
-    if first / 8 == last / 8 {
-        update_edge(map, first, last, state);
+    let end = numbers::min(last, first / 8 * 8 + 7);
+    update_edge(map, first, end, state);
+    if last <= end {
         return;
     }
-    update_edge(map, first, first / 8 * 8 + 7, state);
     update_edge(map, last / 8 * 8, last, state);
 }
 
@@ -105,6 +97,15 @@ fn update_filled(map: &mut [u8], first: u64, last: u64, state: bool)
 }
 
 // The pages from `first` to `last`, with it; nothing past the end. The single pages at both ends come before the bytes between.
+pub fn update_run(map: &mut [u8], first: u64, last: u64, state: bool)
+    requires { ⌜ first ≤ last ⌝ }
+    ensures { λ _. ⌜ now (map .exit) ≡ written 8 (between first (last + 1)) state (now (map .entry)) ⌝ }
+{
+    update_edges(map, first, last, state);
+    update_filled(map, first, last, state);
+}
+
+// The same, where a run may be one page.
 pub fn update(map: &mut [u8], first: u64, last: u64, state: bool)
     requires { ⌜ first ≤ last ⌝ }
     ensures { λ _. ⌜ now (map .exit) ≡ written 8 (between first (last + 1)) state (now (map .entry)) ⌝ }
@@ -113,8 +114,7 @@ pub fn update(map: &mut [u8], first: u64, last: u64, state: bool)
         set_page(map, first, state);
         return;
     }
-    update_edges(map, first, last, state);
-    update_filled(map, first, last, state);
+    update_run(map, first, last, state);
 }
 
 // The state of a page: not set past the end.

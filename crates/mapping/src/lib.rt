@@ -158,10 +158,10 @@ pub fn update_permission_bitmaps(
         update_page(read, write, kernel, user, first, flags);
         return;
     }
-    bitmap::update(read, first, last, flags.readable);
-    bitmap::update(write, first, last, flags.writable);
-    bitmap::update(kernel, first, last, flags.kernel_executable);
-    bitmap::update(user, first, last, flags.user_executable);
+    bitmap::update_run(read, first, last, flags.readable);
+    bitmap::update_run(write, first, last, flags.writable);
+    bitmap::update_run(kernel, first, last, flags.kernel_executable);
+    bitmap::update_run(user, first, last, flags.user_executable);
 }
 
 // What the permission maps hold of a page.

@@ -28,17 +28,17 @@ returns c =
     let a = k .before .before .before .before .before .before .before .before .before .before .args in
     k .update-page .ensures ∙ ap (λ (x : ℕ). permitted (a .first) (x + 1) (a .flags) (perms (a .read .now) (a .write .now) (a .kernel .now) (a .user .now))) (k .before .before .before .before .before .if1 .taken)
 
-update-requires : tie.Need-update-requires
-update-requires c κs = search needs
+update-run-requires : tie.Need-update-run-requires
+update-run-requires c κs = search needs
 
-update-requires-2 : tie.Need-update-requires-2
-update-requires-2 c κs = search needs
+update-run-requires-2 : tie.Need-update-run-requires-2
+update-run-requires-2 c κs = search needs
 
-update-requires-3 : tie.Need-update-requires-3
-update-requires-3 c κs = search needs
+update-run-requires-3 : tie.Need-update-run-requires-3
+update-run-requires-3 c κs = search needs
 
-update-requires-4 : tie.Need-update-requires-4
-update-requires-4 c κs = search needs
+update-run-requires-4 : tie.Need-update-run-requires-4
+update-run-requires-4 c κs = search needs
 
 same-length-5 : tie.Need-same-length-5
 same-length-5 c = search needs
@@ -57,7 +57,7 @@ returns-2 c =
     let k = c .before .before .before .before .before .before .before .before .before .before in
     let a = k .before .before .before .before .before .before .before .before .before .before .before .args in
     permitted-is (a .first) (a .last + 1) (a .flags) (a .read .now) (a .write .now) (a .kernel .now) (a .user .now) _ _ _ _
-    (k .before .before .before .before .update .ensures) (k .update2 .ensures) (c .before .before .before .before .before .before .update3 .ensures) (c .before .before .update4 .ensures)
+    (k .before .before .before .before .update-run .ensures) (k .update-run2 .ensures) (c .before .before .before .before .before .before .update-run3 .ensures) (c .before .before .update-run4 .ensures)
 
 pub update-permission-bitmaps-spec : {M : Type 1} → statement M
 update-permission-bitmaps-spec =
@@ -69,10 +69,10 @@ update-permission-bitmaps-spec =
     same-length-3
     same-length-4
     returns
-    update-requires
-    update-requires-2
-    update-requires-3
-    update-requires-4
+    update-run-requires
+    update-run-requires-2
+    update-run-requires-3
+    update-run-requires-4
     same-length-5
     same-length-6
     same-length-7

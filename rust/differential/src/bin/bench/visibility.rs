@@ -16,6 +16,8 @@ struct Shape {
     pages: u64,
     /// From one page to the next: 1 for one run, 2 for as many runs as pages.
     step: u64,
+    /// From the end of a list to the start of the next: where 8, runs begin with a byte of the maps.
+    apart: u64,
     /// From one page of the list to the next in the order of pages, modulo their number: 1 where
     /// they ascend.
     turn: u64,
@@ -25,11 +27,12 @@ struct Shape {
     rounds: u32,
 }
 
-const SHAPES: [Shape; 5] = [
+const SHAPES: [Shape; 7] = [
     Shape {
         name: "1 page",
         pages: 1,
         step: 1,
+        apart: 3,
         turn: 1,
         lists: 200,
         rounds: 401,
@@ -38,6 +41,16 @@ const SHAPES: [Shape; 5] = [
         name: "16 pages, one run",
         pages: 16,
         step: 1,
+        apart: 3,
+        turn: 1,
+        lists: 100,
+        rounds: 301,
+    },
+    Shape {
+        name: "16 pages, two bytes",
+        pages: 16,
+        step: 1,
+        apart: 8,
         turn: 1,
         lists: 100,
         rounds: 301,
@@ -46,6 +59,7 @@ const SHAPES: [Shape; 5] = [
         name: "16 pages, 16 runs",
         pages: 16,
         step: 2,
+        apart: 3,
         turn: 1,
         lists: 40,
         rounds: 201,
@@ -54,6 +68,16 @@ const SHAPES: [Shape; 5] = [
         name: "512 pages, one run",
         pages: 512,
         step: 1,
+        apart: 3,
+        turn: 1,
+        lists: 10,
+        rounds: 201,
+    },
+    Shape {
+        name: "512 pages, 64 bytes",
+        pages: 512,
+        step: 1,
+        apart: 8,
         turn: 1,
         lists: 10,
         rounds: 201,
@@ -62,6 +86,7 @@ const SHAPES: [Shape; 5] = [
         name: "512 pages, 512 runs",
         pages: 512,
         step: 2,
+        apart: 3,
         turn: 1,
         lists: 2,
         rounds: 101,
@@ -73,6 +98,7 @@ const NO_ORDER: Shape = Shape {
     name: "512 pages, in no order",
     pages: 512,
     step: 1,
+    apart: 3,
     turn: 201,
     lists: 2,
     rounds: 101,
@@ -141,7 +167,7 @@ fn row(
 
 /// Lists of pages that lie apart.
 fn lists(shape: &Shape) -> Vec<Vec<u64>> {
-    let span = shape.pages * shape.step + 3;
+    let span = shape.pages * shape.step + shape.apart;
     let page = |p: u64| p * shape.turn % shape.pages * shape.step;
     let list = |i: u64| (0..shape.pages).map(move |p| i * span + page(p));
     (0..shape.lists.into()).map(|i| list(i).collect()).collect()
