@@ -12,6 +12,9 @@ use protocol::parse::exactly;
 use protocol::serve;
 use protocol::show;
 
+/// The requests of document 02 that have landed, ascending.
+const REQUESTS: [&str; 1] = ["iv"];
+
 /// A conversation: at most one protector and one registrar.
 #[derive(Default)]
 pub struct Session {
@@ -67,6 +70,7 @@ impl Session {
             "lend" => self.lend(args),
             "step" => self.set_step(args),
             "trace" => self.set_trace(args),
+            "requests" => requests(args),
             _ => self.of_protector(name, args, run),
         }
     }
@@ -117,6 +121,11 @@ impl Session {
         self.trace = parse::bit(on)?;
         plain("ok")
     }
+}
+
+fn requests(args: &[&str]) -> Parsed<String> {
+    let [] = exactly(args)?;
+    plain(&format!("ok {}", REQUESTS.join(",")))
 }
 
 /// A line that asked for nothing.
