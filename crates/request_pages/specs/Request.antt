@@ -23,11 +23,11 @@ pickPlaces P i (p ∷ ps) = cond (P p) (i ∷ pickPlaces P (suc i) ps) (pickPlac
 
 -- xs laid over the start of a run of words
 abbrev pub over : List ℕ → List ℕ → List ℕ
-over xs t = xs ++ drop (length xs) t
+over xs words = xs ++ drop (length xs) words
 
--- the table t once the pages of ps that P holds of are stored in it: what they don't use is as it was
+-- the table once the pages of ps that P holds of are stored in it: what they don't use is as it was
 unfoldable pub tableOf : (ℕ → Bool) → List ℕ → List ℕ → List ℕ
-tableOf P ps t = over (pick P ps) (take placesStart t) ++ over (pickPlaces P 0 ps) (drop placesStart t)
+tableOf P ps table = over (pick P ps) (take placesStart table) ++ over (pickPlaces P 0 ps) (drop placesStart table)
 
 -- where sharing stops ("From the state" 15): how many pages come before the first that P doesn't hold of
 unfoldable pub stopAt : (ℕ → Bool) → List ℕ → ℕ
@@ -42,16 +42,16 @@ isReadableAndWritable read write asked p = cond asked (bitAt 8 read p && bitAt 8
 abbrev pub wanted : List ℕ → Bool → ℕ → Bool
 wanted shared share p = cond (bitAt 8 shared p) (not share) share
 
--- the place after the run that starts at place a, among the first n
+-- the place after the run that starts at place `at`, among the first `count`
 unfoldable pub runEnd : List ℕ → ℕ → ℕ → ℕ
-runEnd t n a = a + runAt t n a .count
+runEnd pages count at = at + runAt pages count at .count
 
--- the map m with s for each page at the places from `from` to before `to`
+-- the map with this state for each page at the places from `from` to before `to`
 unfoldable pub put : List ℕ → ℕ → ℕ → Bool → List ℕ → List ℕ
-put t from to s m = written 8 (among (part t to from)) s m
+put pages from to state map = written 8 (among (part pages to from)) state map
 
 -- the permission maps with these flags there
 abbrev pub putFlags : List ℕ → ℕ → ℕ → HvMapGpaFlags → Permissions → Permissions
-putFlags t from to f m =
-    perms (put t from to (f .readable) (m .read)) (put t from to (f .writable) (m .write)) (put t from to (f .«kernel_executable») (m .kernel))
-    (put t from to (f .«user_executable») (m .user))
+putFlags pages from to flags maps =
+    perms (put pages from to (flags .readable) (maps .read)) (put pages from to (flags .writable) (maps .write))
+    (put pages from to (flags .«kernel_executable») (maps .kernel)) (put pages from to (flags .«user_executable») (maps .user))

@@ -16,7 +16,7 @@ returns : tie.Need-returns
 returns c = search needs
 
 returns-2 : tie.Need-returns-2
-returns-2 c = sym (List·getD-eq-default (c .before .before .args .t .now) 0 (omega arith))
+returns-2 c = sym (List·getD-eq-default (c .before .before .args .pages .now) 0 (omega arith))
 
 pub place-at-spec : {M : Type 1} → statement M
 place-at-spec = tie.close (tie.spec add-word-at word-at-requires returns returns-2)

@@ -11,11 +11,11 @@ run-at-requires c κs = search needs
 add-result : tie.Need-add-result
 add-result c =
     let a = c .before .before .before .args in
-    omega (arith, end-of (a .t .now) (a .n) (a .at) _ (c .before .run-at .ensures), end-max (a .t .now) (a .n) (a .at))
+    omega (arith, end-of (a .pages .now) (a .count) (a .at) _ (c .before .run-at .ensures), end-max (a .pages .now) (a .count) (a .at))
 
 returns : tie.Need-returns
 returns c =
-    let a = c .before .before .before .args in end-of (a .t .now) (a .n) (a .at) _ (c .before .run-at .ensures)
+    let a = c .before .before .before .args in end-of (a .pages .now) (a .count) (a .at) _ (c .before .run-at .ensures)
 
 pub run-end-spec : {M : Type 1} → statement M
 run-end-spec = tie.close (tie.spec run-at-requires add-result returns)

@@ -32,7 +32,7 @@ sub-word-at c =
     let a = c .before .before .before .before .before .before .before .before .args in
     let h = c .before .before .before .before .loop in
     let before-to : h .i < a .to = omega (arith, c .before .before .before .before .before .min .ensures) in
-    omega (arith, c .before .before .run-end .ensures, laws.end-after (a .t .now) (a .to) (h .i) before-to)
+    omega (arith, c .before .before .run-end .ensures, laws.end-after (a .pages .now) (a .to) (h .i) before-to)
 
 word-at-requires-2 : tie.Need-word-at-requires-2 Inv-loop μ-loop
 word-at-requires-2 c κs = search needs
@@ -42,7 +42,7 @@ update-requires c κs =
     let a = c .before .before .before .before .before .before .before .before .before .args in
     let h = c .before .before .before .before .before .loop in
     let stop = c .before .before .before .before .before .before .min .ensures in
-    laws.last-above (a .t .now) (a .to) (h .i) _ _ _ (omega arith) (omega arith) (c .before .before .before .run-end .ensures)
+    laws.last-above (a .pages .now) (a .to) (h .i) _ _ _ (omega arith) (omega arith) (c .before .before .before .run-end .ensures)
     (c .before .word-at .ensures) (c .word-at2 .ensures)
 
 loop-less : tie.Need-loop-less Inv-loop μ-loop
@@ -50,7 +50,7 @@ loop-less c =
     let a = c .before .before .before .before .before .before .before .before .before .before .before .before .args in
     let h = c .before .before .before .before .before .before .before .before .loop in
     let before-to : h .i < a .to = omega (arith, c .before .before .before .before .before .before .before .before .before .min .ensures) in
-    omega (arith, c .before .before .before .before .before .before .run-end .ensures, laws.end-after (a .t .now) (a .to) (h .i) before-to)
+    omega (arith, c .before .before .before .before .before .before .run-end .ensures, laws.end-after (a .pages .now) (a .to) (h .i) before-to)
 
 loop-again : tie.Need-loop-again Inv-loop μ-loop
 loop-again c =
@@ -58,7 +58,7 @@ loop-again c =
     let h = c .before .before .before .before .before .before .before .before .loop in
     let stop = c .before .before .before .before .before .before .before .before .before .min .ensures in (
       search needs,
-      laws.put-run (a .t .now) (a .to) (h .i) _ _ _ (omega arith) (omega arith) (c .before .before .before .before .before .before .run-end .ensures)
+      laws.put-run (a .pages .now) (a .to) (h .i) _ _ _ (omega arith) (omega arith) (c .before .before .before .before .before .before .run-end .ensures)
           (c .before .before .before .before .word-at .ensures) (c .before .before .before .word-at2 .ensures) (a .state) (h .map) _ (c .before .before .update .ensures)
           ∙ h .inv .1,
     )
@@ -70,7 +70,7 @@ returns : tie.Need-returns Inv-loop μ-loop
 returns c =
     let a = c .before .before .before .before .before .args in
     let h = c .before .loop in
-    sym (laws.put-past (a .t .now) (a .to) (h .i) (a .state) (h .map) (omega (arith, c .before .before .min .ensures))) ∙ h .inv .1
+    sym (laws.put-past (a .pages .now) (a .to) (h .i) (a .state) (h .map) (omega (arith, c .before .before .min .ensures))) ∙ h .inv .1
 
 pub set-places-spec : {M : Type 1} → statement M
 set-places-spec =

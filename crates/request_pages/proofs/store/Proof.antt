@@ -26,7 +26,7 @@ min-requires c κs = search needs
 
 loop-holds : tie.Need-loop-holds Inv-loop μ-loop
 unfolding pick
-loop-holds c = (omega arith, refl, laws.table-none _ (c .before .before .before .before .before .args .t .now))
+loop-holds c = (omega arith, refl, laws.table-none _ (c .before .before .before .before .before .args .pages .now))
 
 page-at-requires : tie.Need-page-at-requires Inv-loop μ-loop
 page-at-requires c κs = search needs
@@ -45,7 +45,7 @@ store-one-requires c κs =
     let few : h .i < 512 = omega (arith, laws.pages-few (s .args .list .now) (s .pre .1)) in
     let l = length-take (h .i) ps in (
       omega (arith, h .inv .1, laws.length-pick P (take (h .i) ps)),
-      ap length (h .inv .2) ∙ laws.length-table P (take (h .i) ps) (s .args .t .now) (s .pre .0) (omega arith),
+      ap length (h .inv .2) ∙ laws.length-table P (take (h .i) ps) (s .args .pages .now) (s .pre .0) (omega arith),
     )
 
 add-i : tie.Need-add-i Inv-loop μ-loop
@@ -68,8 +68,8 @@ loop-again c =
     let in-list : h .i < length ps = omega arith in
     let few : h .i < 512 = omega (arith, laws.pages-few (s .args .list .now) (s .pre .1)) in (
       omega arith,
-      laws.count-more P ps (h .i) (h .k) _ _ in-list e w (h .inv .1) (one .result) (one .ensures .0),
-      laws.table-more P ps (h .i) (h .k) _ _ in-list e w (h .inv .1) (h .t) (s .args .t .now) (one .last .0) (s .pre .0) few (h .inv .2)
+      laws.count-more P ps (h .i) (h .stored) _ _ in-list e w (h .inv .1) (one .result) (one .ensures .0),
+      laws.table-more P ps (h .i) (h .stored) _ _ in-list e w (h .inv .1) (h .pages) (s .args .pages .now) (one .last .0) (s .pre .0) few (h .inv .2)
           (one .ensures .1),
     )
 
@@ -80,7 +80,7 @@ same-length c =
     let ps = pagesOf (s .args .list .now) in
     let few : length (take (h .i) ps) ≤ 512 = omega (arith, length-take (h .i) ps, laws.pages-few (s .args .list .now) (s .pre .1)) in
     ap length (h .inv .2)
-    ∙ laws.length-table (wanted (s .args .shared .now) (s .args .share)) (take (h .i) ps) (s .args .t .now) (s .pre .0) few
+    ∙ laws.length-table (wanted (s .args .shared .now) (s .args .share)) (take (h .i) ps) (s .args .pages .now) (s .pre .0) few
     ∙ sym (s .pre .0)
 
 returns : tie.Need-returns Inv-loop μ-loop
@@ -93,7 +93,7 @@ returns c =
     let m = c .before .before .before .page-count .ensures in
     let all : take (h .i) ps ≡ take (a .stop) ps = laws.take-stop (h .i) (a .stop) ps (omega arith) (omega arith) in (
       h .inv .1 ∙ ap (λ (l : List ℕ). length (pick P l)) all,
-      h .inv .2 ∙ ap (λ (l : List ℕ). tableOf P l (a .t .now)) all,
+      h .inv .2 ∙ ap (λ (l : List ℕ). tableOf P l (a .pages .now)) all,
     )
 
 pub store-spec : {M : Type 1} → statement M

@@ -23,7 +23,7 @@ page-count-requires : tie.Need-page-count-requires Inv-loop μ-loop
 page-count-requires c κs = search needs
 
 loop-holds : tie.Need-loop-holds Inv-loop μ-loop
-loop-holds c = (omega arith, laws.table-none _ (c .before .before .before .args .t .now))
+loop-holds c = (omega arith, laws.table-none _ (c .before .before .before .args .pages .now))
 
 page-at-requires : tie.Need-page-at-requires Inv-loop μ-loop
 page-at-requires c κs = search needs
@@ -33,7 +33,7 @@ store-one-requires c κs =
     let s = c .before .before .before .before .before .before .before in
     let h = c .before .before .before .loop in
     let few = laws.pages-few (s .args .list .now) (s .pre .1) in
-    (omega (arith, c .before .before .before .before .page-count .ensures, few), ap (length {A = ℕ}) (h .inv .1) ∙ laws.all-long (pagesOf (s .args .list .now)) (s .args .t .now) (h .i) (s .pre .0) few)
+    (omega (arith, c .before .before .before .before .page-count .ensures, few), ap (length {A = ℕ}) (h .inv .1) ∙ laws.all-long (pagesOf (s .args .list .now)) (s .args .pages .now) (h .i) (s .pre .0) few)
 
 add-i : tie.Need-add-i Inv-loop μ-loop
 add-i c = search needs
@@ -47,20 +47,20 @@ loop-again c =
     let h = c .before .before .before .before .before .before .loop in
     let count = c .before .before .before .before .before .before .before .page-count .ensures in
     let few = laws.pages-few (s .args .list .now) (s .pre .1) in
-    (omega arith, laws.all-more (pagesOf (s .args .list .now)) (h .i) _ (h .t) (s .args .t .now) _ (omega arith) (c .before .before .before .before .page-at .ensures) (s .pre .0) (omega (arith, few)) (h .inv .1) (c .before .before .store-one .ensures .1))
+    (omega arith, laws.all-more (pagesOf (s .args .list .now)) (h .i) _ (h .pages) (s .args .pages .now) _ (omega arith) (c .before .before .before .before .page-at .ensures) (s .pre .0) (omega (arith, few)) (h .inv .1) (c .before .before .store-one .ensures .1))
 
 same-length : tie.Need-same-length Inv-loop μ-loop
 same-length c =
     let s = c .before .before .before .before .before in
     let h = c .before .loop in
-    ap (length {A = ℕ}) (h .inv .1) ∙ laws.all-long (pagesOf (s .args .list .now)) (s .args .t .now) (h .i) (s .pre .0) (laws.pages-few (s .args .list .now) (s .pre .1)) ∙ sym (s .pre .0)
+    ap (length {A = ℕ}) (h .inv .1) ∙ laws.all-long (pagesOf (s .args .list .now)) (s .args .pages .now) (h .i) (s .pre .0) (laws.pages-few (s .args .list .now) (s .pre .1)) ∙ sym (s .pre .0)
 
 returns : tie.Need-returns Inv-loop μ-loop
 returns c =
     let s = c .before .before .before .before .before in
     let h = c .before .loop in
     let ps = pagesOf (s .args .list .now) in
-    h .inv .1 ∙ ap (λ (qs : List ℕ). tableOf (λ p. true) qs (s .args .t .now)) (take-all (h .i) ps (omega (arith, c .before .before .page-count .ensures)))
+    h .inv .1 ∙ ap (λ (qs : List ℕ). tableOf (λ p. true) qs (s .args .pages .now)) (take-all (h .i) ps (omega (arith, c .before .before .page-count .ensures)))
 
 pub store-all-spec : {M : Type 1} → statement M
 store-all-spec =

@@ -6,20 +6,20 @@ use lib.ListN.{length-set}
 use Rattle.request_pages.proofs.store_one.Statement.{statement}
 use Rattle.request_pages.proofs.store_one.Tie as tie
 
-mul-t : tie.Need-mul-t
-mul-t c = search needs
+mul-pages : tie.Need-mul-pages
+mul-pages c = search needs
 
-slice-write-t : tie.Need-slice-write-t
-slice-write-t c = search needs
+slice-write-pages : tie.Need-slice-write-pages
+slice-write-pages c = search needs
 
-add-t : tie.Need-add-t
-add-t c = search needs
+add-pages : tie.Need-add-pages
+add-pages c = search needs
 
-mul-t-2 : tie.Need-mul-t-2
-mul-t-2 c = search needs
+mul-pages-2 : tie.Need-mul-pages-2
+mul-pages-2 c = search needs
 
-slice-write-t-2 : tie.Need-slice-write-t-2
-slice-write-t-2 c = simp length-set (omega arith)
+slice-write-pages-2 : tie.Need-slice-write-pages-2
+slice-write-pages-2 c = simp length-set (omega arith)
 
 add-result : tie.Need-add-result
 add-result c = search needs
@@ -37,11 +37,11 @@ pub store-one-spec : {M : Type 1} → statement M
 store-one-spec =
     tie.close
     (tie.spec
-    mul-t
-    slice-write-t
-    add-t
-    mul-t-2
-    slice-write-t-2
+    mul-pages
+    slice-write-pages
+    add-pages
+    mul-pages-2
+    slice-write-pages-2
     add-result
     same-length
     returns

@@ -36,7 +36,7 @@ sub-word-at c =
     let a = c4 .before .before .before .before .before .before .args in
     let h = c3 .loop in
     let before-to : h .i < a .to = omega (arith, c4 .min .ensures) in
-    omega (arith, c .before .run-end .ensures, laws.end-after (a .t .now) (a .to) (h .i) before-to)
+    omega (arith, c .before .run-end .ensures, laws.end-after (a .pages .now) (a .to) (h .i) before-to)
 
 word-at-requires-2 : tie.Need-word-at-requires-2 Inv-loop μ-loop
 word-at-requires-2 c κs = search needs
@@ -47,7 +47,7 @@ update-permission-bitmaps-requires c κs =
     let a = c8 .before .before .before .before .before .before .before .args in
     let h = c8 .loop in
     let stop = c8 .before .min .ensures in
-    laws.last-above (a .t .now) (a .to) (h .i) _ _ _ (omega arith) (omega arith) (c4 .before .before .run-end .ensures) (c4 .before .word-at .ensures) (c4 .word-at2 .ensures)
+    laws.last-above (a .pages .now) (a .to) (h .i) _ _ _ (omega arith) (omega arith) (c4 .before .before .run-end .ensures) (c4 .before .word-at .ensures) (c4 .word-at2 .ensures)
 
 loop-less : tie.Need-loop-less Inv-loop μ-loop
 loop-less c =
@@ -56,7 +56,7 @@ loop-less c =
     let a = c17 .before .before .before .before .before .before .before .args in
     let h = c17 .loop in
     let before-to : h .i < a .to = omega (arith, c17 .before .min .ensures) in
-    omega (arith, c15 .run-end .ensures, laws.end-after (a .t .now) (a .to) (h .i) before-to)
+    omega (arith, c15 .run-end .ensures, laws.end-after (a .pages .now) (a .to) (h .i) before-to)
 
 loop-again : tie.Need-loop-again Inv-loop μ-loop
 loop-again c =
@@ -69,7 +69,7 @@ loop-again c =
       search needs,
       search needs,
       search needs,
-      laws.flags-run (a .t .now) (a .to) (h .i) _ _ _ (omega arith) (omega arith) (c15 .run-end .ensures) (c13 .before .word-at .ensures) (c13 .word-at2 .ensures) (a .flags)
+      laws.flags-run (a .pages .now) (a .to) (h .i) _ _ _ (omega arith) (omega arith) (c15 .run-end .ensures) (c13 .before .word-at .ensures) (c13 .word-at2 .ensures) (a .flags)
           (perms (h .read) (h .write) (h .kernel) (h .user)) _ (c8 .update-permission-bitmaps .ensures) ∙ h .inv .4,
     )
 
@@ -89,7 +89,7 @@ returns : tie.Need-returns Inv-loop μ-loop
 returns c =
     let a = c .before .before .before .before .before .before .before .before .args in
     let h = c .before .loop in
-    sym (laws.flags-past (a .t .now) (a .to) (h .i) (a .flags) (perms (h .read) (h .write) (h .kernel) (h .user)) (omega (arith, c .before .before .min .ensures, c .loop-test .left))) ∙ h .inv .4
+    sym (laws.flags-past (a .pages .now) (a .to) (h .i) (a .flags) (perms (h .read) (h .write) (h .kernel) (h .user)) (omega (arith, c .before .before .min .ensures, c .loop-test .left))) ∙ h .inv .4
 
 pub update-permissions-spec : {M : Type 1} → statement M
 update-permissions-spec =

@@ -10,13 +10,13 @@ sub-word-at : tie.Need-sub-word-at
 sub-word-at c =
     let c6 = c .before .before .before .before .before .before in
     let s = c6 in
-    laws.run-some (s .args .t .now) (s .args .n) (s .args .at) (s .pre .0) (s .pre .1) (s .args .run) (s .pre .2)
+    laws.run-some (s .args .pages .now) (s .args .count) (s .args .at) (s .pre .0) (s .pre .1) (s .args .run) (s .pre .2)
 
 add-word-at : tie.Need-add-word-at
 add-word-at c =
     let c6 = c .before .before .before .before .before .before in
     let s = c6 in
-    omega (arith, laws.run-inside (s .args .t .now) (s .args .n) (s .args .at) (s .pre .0) (s .pre .1) (s .args .run) (s .pre .2), s .fits)
+    omega (arith, laws.run-inside (s .args .pages .now) (s .args .count) (s .args .at) (s .pre .0) (s .pre .1) (s .args .run) (s .pre .2), s .fits)
 
 word-at-requires : tie.Need-word-at-requires
 word-at-requires c κs = search needs
@@ -25,7 +25,7 @@ update-permission-bitmaps-requires : tie.Need-update-permission-bitmaps-requires
 update-permission-bitmaps-requires c κs =
     let c4 = c .before .before .before .before in let c11 = c4 .before .before .before .before .before .before .before in
     let s = c11 in
-    laws.run-above (s .args .t .now) (s .args .n) (s .args .at) (s .pre .0) (s .pre .1) (s .args .run) _ (s .pre .2) (c4 .word-at .ensures)
+    laws.run-above (s .args .pages .now) (s .args .count) (s .args .at) (s .pre .0) (s .pre .1) (s .args .run) _ (s .pre .2) (c4 .word-at .ensures)
 
 same-length : tie.Need-same-length
 same-length c = search needs
@@ -43,7 +43,7 @@ returns : tie.Need-returns
 returns c =
     let c8 = c .before .before .before .before .before .before .before .before in let c13 = c8 .before .before .before .before .before in let c20 = c13 .before .before .before .before .before .before .before in
     let s = c20 in
-    laws.flags-at (s .args .t .now) (s .args .n) (s .args .at) (s .pre .0) (s .pre .1) (s .args .run) _ (s .pre .2) (c13 .word-at .ensures) (s .args .flags)
+    laws.flags-at (s .args .pages .now) (s .args .count) (s .args .at) (s .pre .0) (s .pre .1) (s .args .run) _ (s .pre .2) (c13 .word-at .ensures) (s .args .flags)
     (perms (s .args .read .now) (s .args .write .now) (s .args .kernel .now) (s .args .user .now)) _ (c8 .update-permission-bitmaps .ensures)
 
 pub update-permissions-at-spec : {M : Type 1} → statement M
