@@ -79,13 +79,13 @@ fn is_whole(map: &[u8], state: bool, p: u64, end: u64) -> bool
     requires { ⌜ p < end ⌝ }
     ensures { λ r. ⌜ (r ≡ true → (p + 8 ≤ end) × (span (is state (now (map .entry))) p 8 ≡ 8)) ⌝ }
 {
+    if byte_at(map, p / 8) != bitmap::full(state) {
+        return false;
+    }
     if p % 8 != 0 {
         return false;
     }
-    if end - p < 8 {
-        return false;
-    }
-    byte_at(map, p / 8) == bitmap::full(state)
+    8 <= end - p
 }
 
 // How many pages are passed where the eight of a byte have the state: these, or all that are left where the byte is past the map.

@@ -12,7 +12,7 @@ use Rattle.overlay_table.specs.declared.OverlayPage.{OverlayPage}
 use Rattle.overlay_table.specs.declared.OverlayKey.{OverlayKey}
 use Rattle.overlay_table.specs.declared.Found.{Found}
 use Rattle.overlay_table.specs.declared.Found.the-variants.{At, Nothing}
-use Rattle.overlay_table.specs.Search.{isOf, pick, findFrom, key, keysFrom, loaded}
+use Rattle.overlay_table.specs.Search.{isOf, pick, findFrom, keyOf, keyAt, keysFrom, loaded, placeFor}
 use Rattle.overlay_table.specs.Overlays.{wordsOf, used, placeFrom, entry, entryAt, addCode, addWords}
 
 module _ (t : List ℕ) (o p q : ℕ) where
@@ -31,32 +31,45 @@ module _ (t : List ℕ) (o p q : ℕ) where
   place-end zero h = refl
   place-end (suc k) h = absurd (omega arith)
 
+-- ---- the search by a key
+
+-- the search of pages and the search of keys agree
+pub agrees : (t : List ℕ) (p k o : ℕ) → placeFor t k o (keyOf p) ≡ placeFrom t k o p
+unfolding placeFrom placeFor
+agrees t p zero o = refl
+agrees t p (suc k) o = ap (cond (eqb p (getD t o 0)) o) (agrees t p k (o + 5))
+
 -- some entries, then the others
-module _ (t : List ℕ) (p : ℕ) where
-  pub split-hit : (few k o : ℕ) → few ≤ k → (placeFrom t few o p ≡ 0 → ⊥) → placeFrom t few o p ≡ placeFrom t k o p
-  unfolding placeFrom
+module _ (t : List ℕ) (x : OverlayKey) where
+  pub for-end : (k o : ℕ) → k ≤ 0 → placeFor t k o x ≡ 0
+  unfolding placeFor
+  for-end zero o h = refl
+  for-end (suc k) o h = absurd (omega arith)
+
+  pub split-hit : (few k o : ℕ) → few ≤ k → (placeFor t few o x ≡ 0 → ⊥) → placeFor t few o x ≡ placeFor t k o x
+  unfolding placeFor
   split-hit zero k o h n = absurd (n refl)
   split-hit (suc f) zero o h n = absurd (omega arith)
-  split-hit (suc f) (suc k) o h n = go (eqb p (getD t o 0)) n (split-hit f k (o + 5) (omega arith))
+  split-hit (suc f) (suc k) o h n = go (isOf (keyAt t o) x) n (split-hit f k (o + 5) (omega arith))
     where
-      go : (b : Bool) → (cond b o (placeFrom t f (o + 5) p) ≡ 0 → ⊥) → ((placeFrom t f (o + 5) p ≡ 0 → ⊥) → placeFrom t f (o + 5) p ≡ placeFrom t k (o + 5) p)
-          → cond b o (placeFrom t f (o + 5) p) ≡ cond b o (placeFrom t k (o + 5) p)
+      go : (b : Bool) → (cond b o (placeFor t f (o + 5) x) ≡ 0 → ⊥) → ((placeFor t f (o + 5) x ≡ 0 → ⊥) → placeFor t f (o + 5) x ≡ placeFor t k (o + 5) x)
+          → cond b o (placeFor t f (o + 5) x) ≡ cond b o (placeFor t k (o + 5) x)
       go true n m = refl
       go false n m = m n
 
-  pub split-miss : (few k o : ℕ) → few ≤ k → 0 < o → placeFrom t few o p ≡ 0 → placeFrom t k o p ≡ placeFrom t (k - few) (o + 5 * few) p
-  unfolding placeFrom
-  split-miss zero k o h n z = let a : k ≡ k - 0 = omega arith in let b : o ≡ o + 5 * 0 = omega arith in ap₂ (λ (x y : ℕ). placeFrom t x y p) a b
+  pub split-miss : (few k o : ℕ) → few ≤ k → 0 < o → placeFor t few o x ≡ 0 → placeFor t k o x ≡ placeFor t (k - few) (o + 5 * few) x
+  unfolding placeFor
+  split-miss zero k o h n z = let a : k ≡ k - 0 = omega arith in let b : o ≡ o + 5 * 0 = omega arith in ap₂ (λ (y w : ℕ). placeFor t y w x) a b
   split-miss (suc f) zero o h n z = absurd (omega arith)
-  split-miss (suc f) (suc k) o h n z = go (eqb p (getD t o 0)) z (split-miss f k (o + 5) (omega arith) (omega arith))
+  split-miss (suc f) (suc k) o h n z = go (isOf (keyAt t o) x) z (split-miss f k (o + 5) (omega arith) (omega arith))
     where
-      go : (b : Bool) → cond b o (placeFrom t f (o + 5) p) ≡ 0 → (placeFrom t f (o + 5) p ≡ 0 → placeFrom t k (o + 5) p ≡ placeFrom t (k - f) (o + 5 + 5 * f) p)
-          → cond b o (placeFrom t k (o + 5) p) ≡ placeFrom t (suc k - suc f) (o + 5 * suc f) p
+      go : (b : Bool) → cond b o (placeFor t f (o + 5) x) ≡ 0 → (placeFor t f (o + 5) x ≡ 0 → placeFor t k (o + 5) x ≡ placeFor t (k - f) (o + 5 + 5 * f) x)
+          → cond b o (placeFor t k (o + 5) x) ≡ placeFor t (suc k - suc f) (o + 5 * suc f) x
       go true z m = absurd (omega (arith, z))
       go false z m =
           let a : k - f ≡ suc k - suc f = omega arith in
           let b : o + 5 + 5 * f ≡ o + 5 * suc f = omega arith in
-          m z ∙ ap₂ (λ (x y : ℕ). placeFrom t x y p) a b
+          m z ∙ ap₂ (λ (y w : ℕ). placeFor t y w x) a b
 
 -- ---- entries that are loaded
 
@@ -69,29 +82,29 @@ abbrev index : Found → ℕ
 index (At i) = i
 index Nothing = 0
 
--- the search of words and the search of entries agree
-agrees : (t : List ℕ) (p o k i : ℕ) → placeFrom t k (o + 5 * i) p ≡ placeIn o (findFrom (keysFrom t k (o + 5 * i)) p i)
-unfolding placeFrom findFrom keysFrom
-agrees t p o zero i = refl
-agrees t p o (suc k) i = go (eqb p (getD t (o + 5 * i) 0)) (agrees t p o k (i + 1))
+-- the search of words and the search of entries
+listed : (t : List ℕ) (x : OverlayKey) (o k i : ℕ) → placeFor t k (o + 5 * i) x ≡ placeIn o (findFrom (keysFrom t k (o + 5 * i)) x i)
+unfolding placeFor findFrom keysFrom
+listed t x o zero i = refl
+listed t x o (suc k) i = go (isOf (keyAt t (o + 5 * i)) x) (listed t x o k (i + 1))
   where
-    go : (b : Bool) → placeFrom t k (o + 5 * (i + 1)) p ≡ placeIn o (findFrom (keysFrom t k (o + 5 * (i + 1))) p (i + 1))
-        → cond b (o + 5 * i) (placeFrom t k (o + 5 * i + 5) p) ≡ placeIn o (pick b (At i) (findFrom (keysFrom t k (o + 5 * i + 5)) p (i + 1)))
+    go : (b : Bool) → placeFor t k (o + 5 * (i + 1)) x ≡ placeIn o (findFrom (keysFrom t k (o + 5 * (i + 1))) x (i + 1))
+        → cond b (o + 5 * i) (placeFor t k (o + 5 * i + 5) x) ≡ placeIn o (pick b (At i) (findFrom (keysFrom t k (o + 5 * i + 5)) x (i + 1)))
     go true m = refl
     go false m = let d : o + 5 * i + 5 ≡ o + 5 * (i + 1) = omega arith in rw d m
 
-few-index : (es : List OverlayKey) (p i : ℕ) → index (findFrom es p i) ≤ i + length es
+few-index : (es : List OverlayKey) (x : OverlayKey) (i : ℕ) → index (findFrom es x i) ≤ i + length es
 unfolding findFrom
-few-index [] p i = omega arith
-few-index (e ∷ es) p i = go (isOf e p) (few-index es p (i + 1))
+few-index [] x i = omega arith
+few-index (e ∷ es) x i = go (isOf e x) (few-index es x (i + 1))
   where
-    go : (b : Bool) → index (findFrom es p (i + 1)) ≤ i + 1 + length es → index (pick b (At i) (findFrom es p (i + 1))) ≤ i + suc (length es)
+    go : (b : Bool) → index (findFrom es x (i + 1)) ≤ i + 1 + length es → index (pick b (At i) (findFrom es x (i + 1))) ≤ i + suc (length es)
     go true m = omega arith
     go false m = omega arith
 
 module _ (t : List ℕ) (o : ℕ) where
-  more : (a b : ℕ) (xs ys : List OverlayKey) → a ≡ b → xs ≡ ys → key (getD t a 0) ∷ xs ≡ key (getD t b 0) ∷ ys
-  more a b xs ys d e = ap₂ (λ (k : ℕ) (zs : List OverlayKey). key (getD t k 0) ∷ zs) d e
+  more : (a b : ℕ) (xs ys : List OverlayKey) → a ≡ b → xs ≡ ys → keyAt t a ∷ xs ≡ keyAt t b ∷ ys
+  more a b xs ys d e = ap₂ (λ (k : ℕ) (zs : List OverlayKey). keyAt t k ∷ zs) d e
 
   e0 : o + 5 * 0 ≡ o
   e0 = omega arith
@@ -115,20 +128,20 @@ module _ (t : List ℕ) (o : ℕ) where
   taken (suc (suc (suc (suc zero)))) h = more _ _ _ _ e0 (more _ _ _ _ e1 (more _ _ _ _ e2 (more _ _ _ _ e3 refl)))
   taken (suc (suc (suc (suc (suc k))))) h = absurd (omega arith)
 
-  module _ (p few : ℕ) (es : List OverlayKey) (r : Found) (h : few ≤ 4) (is : es ≡ loaded t o few) (f : r ≡ findFrom (take few es) p 0) where
-    few-place : placeIn o r ≡ placeFrom t few o p
+  module _ (x : OverlayKey) (few : ℕ) (es : List OverlayKey) (r : Found) (h : few ≤ 4) (is : es ≡ loaded t o few) (f : r ≡ findFrom (take few es) x 0) where
+    few-place : placeIn o r ≡ placeFor t few o x
     few-place =
-        ap (placeIn o) (f ∙ ap (λ (x : List OverlayKey). findFrom (take few x) p 0) is ∙ ap (λ (x : List OverlayKey). findFrom x p 0) (taken few h))
-        ∙ subst (λ (k : ℕ). placeIn o (findFrom (keysFrom t few k) p 0) ≡ placeFrom t few k p) e0 (sym (agrees t p o few 0))
+        ap (placeIn o) (f ∙ ap (λ (zs : List OverlayKey). findFrom (take few zs) x 0) is ∙ ap (λ (zs : List OverlayKey). findFrom zs x 0) (taken few h))
+        ∙ subst (λ (k : ℕ). placeIn o (findFrom (keysFrom t few k) x 0) ≡ placeFor t few k x) e0 (sym (listed t x o few 0))
 
-    pub few-at : (i : ℕ) → r ≡ At i → o + 5 * i ≡ placeFrom t few o p
+    pub few-at : (i : ℕ) → r ≡ At i → o + 5 * i ≡ placeFor t few o x
     few-at i e = ap (placeIn o) (sym e) ∙ few-place
 
-    pub few-none : r ≡ Nothing → 0 ≡ placeFrom t few o p
+    pub few-none : r ≡ Nothing → 0 ≡ placeFor t few o x
     few-none e = ap (placeIn o) (sym e) ∙ few-place
 
     pub few-fits : (i : ℕ) → r ≡ At i → i ≤ few
-    few-fits i e = subst (λ (x : Found). index x ≤ few) (sym f ∙ e) (omega (arith, few-index (take few es) p 0, length-take few es))
+    few-fits i e = subst (λ (y : Found). index y ≤ few) (sym f ∙ e) (omega (arith, few-index (take few es) x 0, length-take few es))
 
 -- ---- one entry more, by the code's writes
 module _ (t : List ℕ) (e : OverlayPage) (n : ℕ) (is : n ≡ used t) where

@@ -13,9 +13,9 @@ use Rattle.overlay_table.specs.declared.OverlayKey.{OverlayKey}
 use Rattle.overlay_table.specs.declared.Found.{Found}
 use Rattle.overlay_table.specs.declared.Found.the-variants.{At, Nothing}
 
-step-is : (ys : List OverlayKey) (page i : ℕ) → i < length ys → findFrom (dropL i ys) page i ≡ pick (isOf (getD ys i none) page) (At i) (findFrom (dropL (i + 1) ys) page (i + 1))
+step-is : (ys : List OverlayKey) (key : OverlayKey) (i : ℕ) → i < length ys → findFrom (dropL i ys) key i ≡ pick (isOf (getD ys i none) key) (At i) (findFrom (dropL (i + 1) ys) key (i + 1))
 unfolding findFrom
-step-is ys page i l = rw (drop-cons ys i none l, add-one i)
+step-is ys key i l = rw (drop-cons ys i none l, add-one i)
 
 on-true : (t : Bool) (a b : Found) → Holds t → pick t a b ≡ a
 on-true true a b h = refl
@@ -25,12 +25,12 @@ on-false : (t : Bool) (a b : Found) → Holds (not t) → pick t a b ≡ b
 on-false true a b h = absurd h
 on-false false a b h = refl
 
-pub seen : (ys : List OverlayKey) (page i : ℕ) → i < length ys → Holds (isOf (getD ys i none) page) → At i ≡ findFrom (dropL i ys) page i
-seen ys page i l hit = sym (step-is ys page i l ∙ on-true (isOf (getD ys i none) page) (At i) (findFrom (dropL (i + 1) ys) page (i + 1)) hit)
+pub seen : (ys : List OverlayKey) (key : OverlayKey) (i : ℕ) → i < length ys → Holds (isOf (getD ys i none) key) → At i ≡ findFrom (dropL i ys) key i
+seen ys key i l hit = sym (step-is ys key i l ∙ on-true (isOf (getD ys i none) key) (At i) (findFrom (dropL (i + 1) ys) key (i + 1)) hit)
 
-pub past : (ys : List OverlayKey) (page i : ℕ) → i < length ys → Holds (not (isOf (getD ys i none) page)) → findFrom (dropL (i + 1) ys) page (i + 1) ≡ findFrom (dropL i ys) page i
-past ys page i l miss = sym (step-is ys page i l ∙ on-false (isOf (getD ys i none) page) (At i) (findFrom (dropL (i + 1) ys) page (i + 1)) miss)
+pub past : (ys : List OverlayKey) (key : OverlayKey) (i : ℕ) → i < length ys → Holds (not (isOf (getD ys i none) key)) → findFrom (dropL (i + 1) ys) key (i + 1) ≡ findFrom (dropL i ys) key i
+past ys key i l miss = sym (step-is ys key i l ∙ on-false (isOf (getD ys i none) key) (At i) (findFrom (dropL (i + 1) ys) key (i + 1)) miss)
 
-pub none-left : (ys : List OverlayKey) (page : ℕ) → findFrom (dropL (length ys) ys) page (length ys) ≡ Nothing
+pub none-left : (ys : List OverlayKey) (key : OverlayKey) → findFrom (dropL (length ys) ys) key (length ys) ≡ Nothing
 unfolding findFrom
-none-left ys page = rw drop-length
+none-left ys key = rw drop-length

@@ -2,21 +2,12 @@
 use native.Mathlib.Omega.{arith}
 use mathlib.Core.Path.{sym, _∙_}
 use Prim.Native.Nat.{_-_}
-use borrow.Author.Tests.{eqb-true}
+use borrow.Author.Tests.{leb-true}
 use Rattle.default_change.proofs.Split.{true-false}
 use Rattle.default_change.proofs.Bytes as laws
 use borrow.Author.Needs.{needs}
 use Rattle.default_change.proofs.is_whole.Statement.{statement}
 use Rattle.default_change.proofs.is_whole.Tie as tie
-
-returns : tie.Need-returns
-returns c = λ e. true-false (sym e)
-
-sub-if2 : tie.Need-sub-if2
-sub-if2 c = search needs
-
-returns-2 : tie.Need-returns-2
-returns-2 c = λ e. true-false (sym e)
 
 byte-at-requires : tie.Need-byte-at-requires
 byte-at-requires c κs = search needs
@@ -24,9 +15,23 @@ byte-at-requires c κs = search needs
 full-requires : tie.Need-full-requires
 full-requires c κs = search needs
 
+returns : tie.Need-returns
+returns c = λ e. true-false (sym e)
+
+returns-2 : tie.Need-returns-2
+returns-2 c = λ e. true-false (sym e)
+
+sub-result : tie.Need-sub-result
+sub-result c = search needs
+
 returns-3 : tie.Need-returns-3
-returns-3 c = λ e. let a = c .before .before .before .before .before .args in (omega (arith, c .before .before .if2 .left, c .before .before .before .before .before .pre), laws.whole-span (a .state) (a .map .now) (a .p) (c .before .before .before .if1 .left) (sym (c .before .byte-at .ensures) ∙ eqb-true _ _ e ∙ c .full .ensures))
+returns-3 c = λ e.
+    let c5 = c .before .before .before .before .before in
+    let a = c5 .args in (
+      omega (arith, leb-true 8 (a .end - a .p) e, c5 .pre),
+      laws.whole-span (a .state) (a .map .now) (a .p) (c .if2 .left) (sym (c .before .before .before .byte-at .ensures) ∙ c .before .if1 .left ∙ c .before .before .full .ensures),
+    )
 
 pub is-whole-spec : {M : Type 1} → statement M
 is-whole-spec =
-    tie.close (tie.spec returns sub-if2 returns-2 byte-at-requires full-requires returns-3)
+    tie.close (tie.spec byte-at-requires full-requires returns returns-2 sub-result returns-3)

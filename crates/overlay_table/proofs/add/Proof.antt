@@ -16,7 +16,7 @@ same-length c = search needs
 returns : tie.Need-returns
 returns c =
     let a = c .before .before .before .before .args in
-    laws.add-full (a .t .now) (a .e) _ (c .before .entry-count .ensures) (c .if1 .taken)
+    laws.add-full (a .table .now) (a .entry) _ (c .before .entry-count .ensures) (c .if1 .taken)
 
 mul-place : tie.Need-mul-place
 mul-place c = search needs
@@ -65,7 +65,7 @@ returns-2 c =
     let c6 = c .before .before .before .before .before .before in let c10 = c6 .before .before .before .before in let c14 = c10 .before .before .before .before in
     let c18 = c14 .before .before .before .before in let c22 = c18 .before .before .before .before in let c25 = c22 .before .before .before in
     let a = c25 .before .before .before .args in
-    laws.add-made (a .t .now) (a .e) _ (c25 .entry-count .ensures) (omega arith) _ _ _ _ _ _ _ refl (c22 .put .ensures) (c18 .put2 .ensures) (c14 .put3 .ensures)
+    laws.add-made (a .table .now) (a .entry) _ (c25 .entry-count .ensures) (omega arith) _ _ _ _ _ _ _ refl (c22 .put .ensures) (c18 .put2 .ensures) (c14 .put3 .ensures)
     (c10 .put4 .ensures) (c6 .put5 .ensures) (c .before .before .put6 .ensures)
 
 pub add-spec : {M : Type 1} → statement M

@@ -23,7 +23,7 @@ word-after-requires-4 c κs = search needs
 returns : tie.Need-returns
 returns c =
     let a = c .before .before .before .before .before .before .args in
-    laws.entry-read (a .t .now) (a .place) _ _ _ _ _ (c .before .before .before .before .word-at .ensures) (c .before .before .before .word-after .ensures) (c .before .before .word-after2 .ensures) (c .before .word-after3 .ensures) (c .word-after4 .ensures)
+    laws.entry-read (a .table .now) (a .place) _ _ _ _ _ (c .before .before .before .before .word-at .ensures) (c .before .before .before .word-after .ensures) (c .before .before .word-after2 .ensures) (c .before .word-after3 .ensures) (c .word-after4 .ensures)
 
 pub entry-at-spec : {M : Type 1} → statement M
 entry-at-spec =

@@ -11,20 +11,20 @@ load-requires c κs = search needs
 find-loaded-requires : tie.Need-find-loaded-requires
 find-loaded-requires c κs = search needs
 
-enum-known-i : tie.Need-enum-known-i
-enum-known-i c = search needs
+enum-known-index : tie.Need-enum-known-index
+enum-known-index c = search needs
 
 mul-result : tie.Need-mul-result
 mul-result c =
     let c6 = c .before .before .before .before .before .before in
     let a = c6 .args in
-    record { fits = omega (arith, laws.few-fits (a .t .now) (a .place) (a .gpn) (a .few) _ _ (c6 .pre .0) (c .before .before .before .before .load .ensures) (c .before .before .before .find-loaded .ensures) _ (c .before .i .given .1)) }
+    record { fits = omega (arith, laws.few-fits (a .table .now) (a .place) (a .key) (a .few) _ _ (c6 .pre .0) (c .before .before .before .before .load .ensures) (c .before .before .before .find-loaded .ensures) _ (c .before .index .given .1)) }
 
 add-result : tie.Need-add-result
 add-result c =
     let c6 = c .before .before .before .before .before .before in
     let a = c6 .args in
-    record { fits = omega (arith, laws.few-fits (a .t .now) (a .place) (a .gpn) (a .few) _ _ (c6 .pre .0) (c .before .before .before .before .load .ensures) (c .before .before .before .find-loaded .ensures) _ (c .before .i .given .1)) }
+    record { fits = omega (arith, laws.few-fits (a .table .now) (a .place) (a .key) (a .few) _ _ (c6 .pre .0) (c .before .before .before .before .load .ensures) (c .before .before .before .find-loaded .ensures) _ (c .before .index .given .1)) }
 
 enum-told : tie.Need-enum-told
 enum-told c = search needs
@@ -33,13 +33,13 @@ returns : tie.Need-returns
 returns c =
     let c6 = c .before .before .before .before .before .before in
     let a = c6 .args in
-    laws.few-at (a .t .now) (a .place) (a .gpn) (a .few) _ _ (c6 .pre .0) (c .before .before .before .before .load .ensures) (c .before .before .before .find-loaded .ensures) _ (c .before .i .given .1)
+    laws.few-at (a .table .now) (a .place) (a .key) (a .few) _ _ (c6 .pre .0) (c .before .before .before .before .load .ensures) (c .before .before .before .find-loaded .ensures) _ (c .before .index .given .1)
 
 returns-2 : tie.Need-returns-2
 returns-2 c =
     let c5 = c .before .before .before .before .before in
     let a = c5 .args in
-    laws.few-none (a .t .now) (a .place) (a .gpn) (a .few) _ _ (c5 .pre .0) (c .before .before .before .load .ensures) (c .before .before .find-loaded .ensures) (c .enum-told .given .1)
+    laws.few-none (a .table .now) (a .place) (a .key) (a .few) _ _ (c5 .pre .0) (c .before .before .before .load .ensures) (c .before .before .find-loaded .ensures) (c .enum-told .given .1)
 
 pub find-few-spec : {M : Type 1} → statement M
 find-few-spec =
@@ -47,7 +47,7 @@ find-few-spec =
     (tie.spec
     load-requires
     find-loaded-requires
-    enum-known-i
+    enum-known-index
     mul-result
     add-result
     enum-told

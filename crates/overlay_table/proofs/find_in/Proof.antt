@@ -37,7 +37,7 @@ use denote.RattleType.{owns}
 use denote.Laws.{Is, shows}
 use denote.Memory.{pointee}
 use denote.Plain.{Boolean, uint-vals, uint-tells, uint-makes}
-use denote.Builtin.{u64, usize}
+use denote.Builtin.{usize}
 use denote.Index.{place-is, elem-out, elem-back, looks-slice, shuts-slice}
 use denote.Ref.{RefT}
 use denote.Signature.{plain}
@@ -114,22 +114,22 @@ only [] = vunit
 only (v ∷ vs) = v
 
 abbrev stayed : Stays (f.ended .signature .params) (f.ended .kept)
-stayed = (stay-none-slice (0 ∷ []) tt (plain (λ _. R)) yes, (stay-none (λ _. usize) yes, (stay-none (λ _. u64) yes, tt)))
+stayed = (stay-none-slice (0 ∷ []) tt (plain (λ _. R)) yes, (stay-none (λ _. usize) yes, (stay-none (λ _. R) yes, tt)))
 
 module _ {M : Type 1} (𝓤 : URA M) (H : Heap 𝓤) (A : Atoms 𝓤) (mem : Memory → SProp 𝓤) (run : Routine → Fun 𝓤) where
   -- the contract that the proof cites
   abbrev Callee : Contract 𝓤
   Callee = tripleOf 𝓤 H A callee.signature (callee.spec 𝓤 H A mem run)
 
-module _ {M : Type 1} (𝓤 : URA M) (H : Heap 𝓤) (A : Atoms 𝓤) (W : Given 𝓤 H A) (mem : Memory → SProp 𝓤) (run : Routine → Fun 𝓤) (κ : Lft) (q : Share) (b o : ℕ) (γ : GName) (ys : List OverlayKey) (used page : ℕ) (room : Room R (length ys)) (used-ok : used < 2 ^ 64) (page-ok : page < 2 ^ 64) (within : used ≤ length ys) where
+module _ {M : Type 1} (𝓤 : URA M) (H : Heap 𝓤) (A : Atoms 𝓤) (W : Given 𝓤 H A) (mem : Memory → SProp 𝓤) (run : Routine → Fun 𝓤) (κ : Lft) (q : Share) (b o : ℕ) (γ : GName) (ys : List OverlayKey) (used : ℕ) (key : OverlayKey) (room : Room R (length ys)) (used-ok : used < 2 ^ 64) (key-is : P key (mach key ∷ [])) (within : used ≤ length ys) where
   abbrev n : ℕ
   n = length ys
 
-  abbrev x : RefT (List OverlayKey) × (ℕ × (ℕ × Unit {0}))
-  x = (record { ptr = (b, o); name = γ; now = ys }, (used, (page, tt)))
+  abbrev x : RefT (List OverlayKey) × (ℕ × (OverlayKey × Unit {0}))
+  x = (record { ptr = (b, o); name = γ; now = ys }, (used, (key, tt)))
 
   abbrev at : Vals f.signature (κ, tt)
-  at = (sliceVal (b, o) n ∷ [], (vint w64 used ∷ [], (vint w64 page ∷ [], tt)))
+  at = (sliceVal (b, o) n ∷ [], (vint w64 used ∷ [], (mach key ∷ [], tt)))
 
   -- the overlays that are searched
   abbrev zs : List OverlayKey
@@ -141,11 +141,11 @@ module _ {M : Type 1} (𝓤 : URA M) (H : Heap 𝓤) (A : Atoms 𝓤) (W : Given
   abbrev Post : Val → SProp 𝓤
   Post = walkOf 𝓤 H A f.ended stayed (f.clauses 𝓤 H A mem run) .post (((κ, tt), (q, tt), tt, x, at), tt)
 
-  exits : (r : Found) → Is S.the-row r (out r ∷ []) → r ≡ findFrom zs page 0 → ent 𝓤 (⋆ 𝓤 H A (‵ (flft κ q) ∷ ‵ Own ∷ [])) (Post (out r))
+  exits : (r : Found) → Is S.the-row r (out r ∷ []) → r ≡ findFrom zs key 0 → ent 𝓤 (⋆ 𝓤 H A (‵ (flft κ q) ∷ ‵ Own ∷ [])) (Post (out r))
   exits r g e =
       qed W (‵ (flft κ q) ∷ ‵ Own ∷ []) ∵
       suffices ! _ (ends-at 𝓤 H A f.ended stayed (f.clauses 𝓤 H A mem run) W (((κ, tt), (q, tt), tt, x, at), tt) (out r) r (tt, (tt, (tt, tt))) (tt, (tt, (tt, tt)))) $ says ! e $
-      nothing ! $ move ! (1 ∷ 0 ∷ []) $ join ! $ frame ! $ nothing ! $ owned ! u64 (Is u64) (uint-makes 𝓤 H A W w64) page _ (refl, page-ok) $ fjoin ! $ owned ! usize (Is usize) (uint-makes 𝓤 H A W w64) used _ (refl, used-ok) $ fjoin ! $ move ! (1 ∷ 0 ∷ []) $ fjoin ! $ frame ! $
+      nothing ! $ move ! (1 ∷ 0 ∷ []) $ join ! $ frame ! $ nothing ! $ owned ! R P (makes 𝓤 H A W) key _ key-is $ fjoin ! $ owned ! usize (Is usize) (uint-makes 𝓤 H A W w64) used _ (refl, used-ok) $ fjoin ! $ move ! (1 ∷ 0 ∷ []) $ fjoin ! $ frame ! $
       owned ! S.the-row (Is S.the-row) (EL.makes S.the-type S′.the-plain 𝓤 H A) r _ g $ done !
 
   len : length zs ≡ used
@@ -154,24 +154,24 @@ module _ {M : Type 1} (𝓤 : URA M) (H : Heap 𝓤) (A : Atoms 𝓤) (W : Given
   in-zs : (i : ℕ) → i < used → i < length zs
   in-zs i l = subst (λ (m : ℕ). i < m) (sym len) l
 
-  -- what the callee is passed: an element and the page
-  abbrev passed : OverlayKey → OverlayKey × (ℕ × Unit {0})
-  passed e = (e, (page, tt))
+  -- what the callee is passed: an element and the key
+  abbrev passed : OverlayKey → OverlayKey × (OverlayKey × Unit {0})
+  passed e = (e, (key, tt))
 
   abbrev to : OverlayKey → Callee 𝓤 H A mem run .Ghost
-  to e = ((tt, tt, tt, passed e, (mach e ∷ [], (vint w64 page ∷ [], tt))), tt)
+  to e = ((tt, tt, tt, passed e, (mach e ∷ [], (mach key ∷ [], tt))), tt)
 
   asked : (e : OverlayKey) → P e (mach e ∷ []) → ent 𝓤 (sem 𝓤 H A ftrue) (Callee 𝓤 H A mem run .pre (to e))
   asked e g =
-      qed W (‵ ftrue ∷ []) ∵ nothing ! $ owned ! u64 (Is u64) (uint-makes 𝓤 H A W w64) page _ (refl, page-ok) $ fjoin ! $ owned ! R P (makes 𝓤 H A W) e _ g $ fjoin ! $ nothing ! $ join ! $ frame ! $ done !
+      qed W (‵ ftrue ∷ []) ∵ nothing ! $ owned ! R P (makes 𝓤 H A W) key _ key-is $ fjoin ! $ owned ! R P (makes 𝓤 H A W) e _ g $ fjoin ! $ nothing ! $ join ! $ frame ! $ done !
 
   -- of its `ensured`, the clause alone: it has no `&mut`
-  said : (e : OverlayKey) (z : Bool) → ent 𝓤 (ensured 𝓤 H A callee.ended (callee.clauses 𝓤 H A mem run) tt (passed e) tt z) (fact 𝓤 (z ≡ isOf e page))
-  said e z = exE 𝓤 _ (λ ws. snd∗ 𝓤 (sem 𝓤 H A (lasts callee.ended tt (passed e) ws)) (fact 𝓤 (z ≡ isOf e page)))
+  said : (e : OverlayKey) (z : Bool) → ent 𝓤 (ensured 𝓤 H A callee.ended (callee.clauses 𝓤 H A mem run) tt (passed e) tt z) (fact 𝓤 (z ≡ isOf e key))
+  said e z = exE 𝓤 _ (λ ws. snd∗ 𝓤 (sem 𝓤 H A (lasts callee.ended tt (passed e) ws)) (fact 𝓤 (z ≡ isOf e key)))
 
   -- what holds whenever the loop's test is reached
   abbrev Turn : Type 0
-  Turn = (i : ℕ) × ((i ≤ used) × (findFrom (dropL i zs) page i ≡ findFrom zs page 0))
+  Turn = (i : ℕ) × ((i ≤ used) × (findFrom (dropL i zs) key i ≡ findFrom zs key 0))
 
   abbrev before : Turn → Turn → Type 0
   before t u = used - t .0 < used - u .0
@@ -184,14 +184,14 @@ module _ {M : Type 1} (𝓤 : URA M) (H : Heap 𝓤) (A : Atoms 𝓤) (W : Given
     Λ = 𝓣 .Λ
 
     abbrev En : Env 𝓤 H
-    En = (S′.mir, l₀) ∷ (slice, l₁) ∷ (word, l₂) ∷ (word, l₃) ∷ (word, l₄) ∷ (tyBool, l₅) ∷ (tyBool, l₆) ∷ (word, l₇) ∷ (tyPtr, l₈) ∷ (T′.mir, l₉) ∷ []
+    En = (S′.mir, l₀) ∷ (slice, l₁) ∷ (word, l₂) ∷ (T′.mir, l₃) ∷ (word, l₄) ∷ (tyBool, l₅) ∷ (tyBool, l₆) ∷ (word, l₇) ∷ (tyPtr, l₈) ∷ (T′.mir, l₉) ∷ []
 
     -- the locals, the last first, each with what frees it, and the token and the slice
     abbrev Ctx : Item 𝓤 → Item 𝓤 → Item 𝓤 → Item 𝓤 → Item 𝓤 → Item 𝓤 → Item 𝓤 → Item 𝓤 → Item 𝓤 → Item 𝓤 → List (Item 𝓤)
-    Ctx c₉ c₈ c₇ c₆ c₅ c₄ c₃ c₂ c₁ c₀ = c₉ ∷ ‵ (fdies T′.mir l₉) ∷ c₈ ∷ ‵ (fdies tyPtr l₈) ∷ c₇ ∷ ‵ (fdies word l₇) ∷ c₆ ∷ ‵ (fdies tyBool l₆) ∷ c₅ ∷ ‵ (fdies tyBool l₅) ∷ c₄ ∷ ‵ (fdies word l₄) ∷ c₃ ∷ ‵ (fdies word l₃) ∷ c₂ ∷ ‵ (fdies word l₂) ∷ c₁ ∷ ‵ (fdies slice l₁) ∷ c₀ ∷ ‵ (fdies S′.mir l₀) ∷ ‵ (flft κ q) ∷ ‵ Own ∷ []
+    Ctx c₉ c₈ c₇ c₆ c₅ c₄ c₃ c₂ c₁ c₀ = c₉ ∷ ‵ (fdies T′.mir l₉) ∷ c₈ ∷ ‵ (fdies tyPtr l₈) ∷ c₇ ∷ ‵ (fdies word l₇) ∷ c₆ ∷ ‵ (fdies tyBool l₆) ∷ c₅ ∷ ‵ (fdies tyBool l₅) ∷ c₄ ∷ ‵ (fdies word l₄) ∷ c₃ ∷ ‵ (fdies T′.mir l₃) ∷ c₂ ∷ ‵ (fdies word l₂) ∷ c₁ ∷ ‵ (fdies slice l₁) ∷ c₀ ∷ ‵ (fdies S′.mir l₀) ∷ ‵ (flft κ q) ∷ ‵ Own ∷ []
 
     abbrev AtTest : Turn → List (Item 𝓤)
-    AtTest t = Ctx (‵ (froom T′.mir l₉ 0)) (‵ (froom tyPtr l₈ 0)) (‵ (froom word l₇ 0)) (‵ (froom tyBool l₆ 0)) (‵ (froom tyBool l₅ 0)) (‵ (fat fullShare word l₄ 0 (vint w64 (t .0)))) (‵ (fat fullShare word l₃ 0 (vint w64 page))) (‵ (fat fullShare word l₂ 0 (vint w64 used))) (‵ (fat fullShare slice l₁ 0 (sliceVal (b, o) n))) (‵ (froom S′.mir l₀ 0))
+    AtTest t = Ctx (‵ (froom T′.mir l₉ 0)) (‵ (froom tyPtr l₈ 0)) (‵ (froom word l₇ 0)) (‵ (froom tyBool l₆ 0)) (‵ (froom tyBool l₅ 0)) (‵ (fat fullShare word l₄ 0 (vint w64 (t .0)))) (‵ (fat fullShare T′.mir l₃ 0 (mach key))) (‵ (fat fullShare word l₂ 0 (vint w64 used))) (‵ (fat fullShare slice l₁ 0 (sliceVal (b, o) n))) (‵ (froom S′.mir l₀ 0))
 
     abbrev Left : Out → SProp 𝓤
     Left = afterBlock 𝓤 H (afterSeq 𝓤 H (Wp 𝓤 H C Λ En mir.t-3 (atReturn 𝓤 H En Post)) (atReturn 𝓤 H En Post))
@@ -200,8 +200,8 @@ module _ {M : Type 1} (𝓤 : URA M) (H : Heap 𝓤) (A : Atoms 𝓤) (W : Given
     Again t = afterTurn 𝓤 H (Below 𝓤 H A before AtTest t) Left
 
     -- every local is freed, and the walk ends
-    leaves : (r : Found) → Is S.the-row r (out r ∷ []) → r ≡ findFrom zs page 0
-        → Sq W (Ctx (‵ (froom T′.mir l₉ 0)) (‵ (froom tyPtr l₈ 0)) (‵ (froom word l₇ 0)) (‵ (froom tyBool l₆ 0)) (‵ (froom tyBool l₅ 0)) (‵ (froom word l₄ 0)) (‵ (froom word l₃ 0)) (‵ (froom word l₂ 0)) (‵ (froom slice l₁ 0)) (‵ (froom S′.mir l₀ 0))) (frees En (prop (Post (out r))))
+    leaves : (r : Found) → Is S.the-row r (out r ∷ []) → r ≡ findFrom zs key 0
+        → Sq W (Ctx (‵ (froom T′.mir l₉ 0)) (‵ (froom tyPtr l₈ 0)) (‵ (froom word l₇ 0)) (‵ (froom tyBool l₆ 0)) (‵ (froom tyBool l₅ 0)) (‵ (froom word l₄ 0)) (‵ (froom T′.mir l₃ 0)) (‵ (froom word l₂ 0)) (‵ (froom slice l₁ 0)) (‵ (froom S′.mir l₀ 0))) (frees En (prop (Post (out r))))
     leaves r g e =
         move ! (18 ∷ 19 ∷ []) $ free1 ! $ move ! (16 ∷ 17 ∷ []) $ free1 ! $ move ! (14 ∷ 15 ∷ []) $ free1 ! $ move ! (12 ∷ 13 ∷ []) $ free1 ! $ move ! (10 ∷ 11 ∷ []) $ free1 ! $ move ! (8 ∷ 9 ∷ []) $ free1 ! $ move ! (6 ∷ 7 ∷ []) $ free1 ! $ move ! (4 ∷ 5 ∷ []) $ free1 ! $ move ! (2 ∷ 3 ∷ []) $ free1 ! $ free1 ! $ free0 ! $
         by ! (exits r g e)
@@ -227,18 +227,18 @@ module _ {M : Type 1} (𝓤 : URA M) (H : Heap 𝓤) (A : Atoms 𝓤) (W : Given
         nothing ! $ use1 W (raw (Callee 𝓤 H A mem run .pre (to elem))) (asked elem g) $
         calls-at ! (fmOf 𝓤 H (W .laws) 𝓣) (Callee 𝓤 H A mem run) known (to elem) (and-then ! (load ! (from ! (stop !)) (look ! 1 refl)) (and-then ! (load ! (from ! (stop !)) (look ! 13 refl)) (no-more !))) (λ v.
         use1 W (later (some (λ (z : Bool). (‵ ftrue ⊛ ‵ (Boolean .own z (v ∷ []))) ⊛ raw (ensured 𝓤 H A callee.ended (callee.clauses 𝓤 H A mem run) tt (passed elem) tt z)))) (id⊢ 𝓤 _) $ await ! tt $ pick ! (λ z.
-        split ! $ move ! (1 ∷ []) $ use1 W (raw (fact 𝓤 (z ≡ isOf elem page))) (said elem z) $ heard ! (z ≡ isOf elem page) (λ e. split ! $ drop ! $
+        split ! $ move ! (1 ∷ []) $ use1 W (raw (fact 𝓤 (z ≡ isOf elem key))) (said elem z) $ heard ! (z ≡ isOf elem key) (λ e. split ! $ drop ! $
         facts ! Boolean (Is Boolean) (shows 𝓤 H A Boolean) z (v ∷ []) (λ is.
         land ! (from ! (stop !)) (init ! 6 refl (subst (λ (u : Val). Holds (hasTy tyBool u) × WT u) (sym (ap only is)) (tt, tt))) $
         rewrite ! 6 (λ (u : Val). ‵ (fat fullShare tyBool l₆ 0 u)) (ap only is) refl $ rewrite ! 6 (λ (y : Bool). ‵ (fat fullShare tyBool l₆ 0 (vbool y))) e refl $
         first ! $ branches ! (load ! (from ! (stop !)) (look ! 6 refl))
         (λ hit. assigns ! (agg ! (and-then ! (lit ! tt) (and-then ! (load ! (from ! (stop !)) (look ! 10 refl)) (no-more !)))) (from ! (stop !)) (init ! 18 refl (EL.lawful S.the-type S′.the-laws 𝓤 H A W tt .typed (At (t .0)) _ (at-is (t .0) i-fits) .0)) $
         returns-within ! Post refl (look ! 18 refl) $ forget ! 0 refl $ forget ! 2 refl $ forget ! 4 refl $ forget ! 6 refl $ forget ! 8 refl $ forget ! 10 refl $ forget ! 12 refl $ forget ! 14 refl $ forget ! 16 refl $ forget ! 18 refl $
-        leaves (At (t .0)) (at-is (t .0) i-fits) (seen zs page (t .0) (in-zs (t .0) lu) (subst (λ (d : OverlayKey). Holds (isOf d page)) same hit) ∙ t .1 .1))
+        leaves (At (t .0)) (at-is (t .0) i-fits) (seen zs key (t .0) (in-zs (t .0) lu) (subst (λ (d : OverlayKey). Holds (isOf d key)) same hit) ∙ t .1 .1))
         (λ miss. skips ! $ exec ! C Λ En bump (anyQ (Again t)) $
         assigns-last ! (bin ! (load ! (from ! (stop !)) (look ! 10 refl)) (lit ! tt) (record { fits = next-fits (room .0) l })) (from ! (stop !)) (store ! 10 refl (tt, record { fits = next-fits (room .0) l })) $
         forget ! 0 refl $ forget ! 2 refl $ forget ! 4 refl $ forget ! 6 refl $ forget ! 8 refl $
-        again ! before AtTest t (t .0 + 1, (next-le lu, past zs page (t .0) (in-zs (t .0) lu) (subst (λ (d : OverlayKey). Holds (not (isOf d page))) same miss) ∙ t .1 .1)) (falls lu))))))))
+        again ! before AtTest t (t .0 + 1, (next-le lu, past zs key (t .0) (in-zs (t .0) lu) (subst (λ (d : OverlayKey). Holds (not (isOf d key))) same miss) ∙ t .1 .1)) (falls lu))))))))
       where
         elem : OverlayKey
         elem = getD ys (t .0) none
@@ -260,7 +260,7 @@ module _ {M : Type 1} (𝓤 : URA M) (H : Heap 𝓤) (A : Atoms 𝓤) (W : Given
         rewrite ! 8 (λ (z : Bool). ‵ (fat fullShare tyBool l₅ 0 (vbool z))) (le-ltb (t .0) used (omega arith)) refl $ leaves-loop ! (load ! (from ! (stop !)) (look ! 8 refl)) $ exec ! C Λ En mir.t-3 (atRet En Post) $
         assigns ! (agg ! (and-then ! (lit ! tt) (no-more !))) (from ! (stop !)) (init ! 18 refl (EL.lawful S.the-type S′.the-laws 𝓤 H A W tt .typed Nothing _ nothing-is .0)) $
         returns ! (look ! 18 refl) $ forget ! 8 refl $ forget ! 10 refl $ forget ! 12 refl $ forget ! 14 refl $ forget ! 16 refl $ forget ! 18 refl $
-        leaves Nothing nothing-is (sym (none-left zs page) ∙ sym (ap (λ (i : ℕ). findFrom (dropL i zs) page i) (e ∙ sym len)) ∙ t .1 .1)
+        leaves Nothing nothing-is (sym (none-left zs key) ∙ sym (ap (λ (i : ℕ). findFrom (dropL i zs) key i) (e ∙ sym len)) ∙ t .1 .1)
 
     turns : Triple 𝓤 (C #callee) (Callee 𝓤 H A mem run) → (t : Turn) → Sq W (AtTest t) (runs C Λ En mir.turn-1 (anyQ (Again t)))
     turns known t = ⊎-elim (ends t) (more known t) (eq-or-lt-of-le (t .1 .0))
@@ -270,11 +270,11 @@ module _ {M : Type 1} (𝓤 : URA M) (H : Heap 𝓤) (A : Atoms 𝓤) (W : Given
     rest known = first ! $ blocks ! $ loops ! 𝓣 before (InvImage·wf (λ (t : Turn). used - t .0) (Nat·lt-wfRel .wf)) AtTest (turns known) (0, (omega arith, refl))
 
   -- the MIR, up to the loop
-  walk : (𝓣 : Tables 𝓤 H) → Triple 𝓤 (𝓣 .C #callee) (Callee 𝓤 H A mem run) → ent 𝓤 (onEntry 𝓤 H A f.signature (κ, tt) (q, tt) x at) (WpFn 𝓤 H (𝓣 .C) (𝓣 .Λ) code.function (sliceVal (b, o) n ∷ vint w64 used ∷ vint w64 page ∷ []) Post)
+  walk : (𝓣 : Tables 𝓤 H) → Triple 𝓤 (𝓣 .C #callee) (Callee 𝓤 H A mem run) → ent 𝓤 (onEntry 𝓤 H A f.signature (κ, tt) (q, tt) x at) (WpFn 𝓤 H (𝓣 .C) (𝓣 .Λ) code.function (sliceVal (b, o) n ∷ vint w64 used ∷ mach key ∷ []) Post)
   walk 𝓣 known =
-      qed W ((‵ (flft κ q) ⊛ ‵ ftrue) ∷ ‵ (owns (ShrSlice (named 0) κ R ∷ usize ∷ u64 ∷ []) x at) ∷ []) ∵ enter ! (𝓣 .C) (𝓣 .Λ) code.function (sliceVal (b, o) n ∷ vint w64 used ∷ vint w64 page ∷ []) _ $
+      qed W ((‵ (flft κ q) ⊛ ‵ ftrue) ∷ ‵ (owns (ShrSlice (named 0) κ R ∷ usize ∷ R ∷ []) x at) ∷ []) ∵ enter ! (𝓣 .C) (𝓣 .Λ) code.function (sliceVal (b, o) n ∷ vint w64 used ∷ mach key ∷ []) _ $
       alloc1 ! (λ l₀. alloc1 ! (λ l₁. alloc1 ! (λ l₂. alloc1 ! (λ l₃. alloc1 ! (λ l₄. alloc1 ! (λ l₅. alloc1 ! (λ l₆. alloc1 ! (λ l₇. alloc1 ! (λ l₈. alloc1 ! (λ l₉. alloc0 ! $ params1 ! $
-      pass1 ! (init ! 16 refl (tt, (tt, (record { fits = room .0 }, tt)))) $ pass1 ! (init ! 14 refl (tt, record { fits = used-ok })) $ pass1 ! (init ! 12 refl (tt, record { fits = page-ok })) $ pass0 ! $
+      pass1 ! (init ! 16 refl (tt, (tt, (record { fits = room .0 }, tt)))) $ pass1 ! (init ! 14 refl (tt, record { fits = used-ok })) $ pass1 ! (init ! 12 refl (typed 𝓤 H A W key _ key-is)) $ pass0 ! $
       assigns ! (of-opd ! (lit ! tt)) (from ! (stop !)) (init ! 10 refl (tt, record { fits = lit< tt })) $
       move ! (21 ∷ []) $ fsplit ! $ move ! (22 ∷ []) $ split ! $
       -- [the token; true; the slice; the numbers'; _9; …; …]
@@ -283,11 +283,11 @@ module _ {M : Type 1} (𝓤 : URA M) (H : Heap 𝓤) (A : Atoms 𝓤) (W : Given
 
 module _ {M : Type 1} (𝓤 : URA M) (H : Heap 𝓤) (A : Atoms 𝓤) (W : Given 𝓤 H A) (mem : Memory → SProp 𝓤) (run : Routine → Fun 𝓤) where
   walks : (𝓣 : Tables 𝓤 H) → Triple 𝓤 (𝓣 .C #callee) (Callee 𝓤 H A mem run) → Walks 𝓤 H A f.ended stayed (WpFn 𝓤 H (𝓣 .C) (𝓣 .Λ) code.function) (f.clauses 𝓤 H A mem run)
-  walks 𝓣 known = walked 𝓤 H A f.ended stayed (f.clauses 𝓤 H A mem run) (WpFn 𝓤 H (𝓣 .C) (𝓣 .Λ) code.function) (λ κs. (slice-vals, (uint-vals w64, (uint-vals w64, tt)))) (λ κs. (shr-slice-tells (named 0) (κs .0) R, (uint-tells w64, (uint-tells w64, tt))))
-      (λ κs qs bounds a g are. needs 𝓤 _ _ (λ within. walk 𝓤 H A W mem run (κs .0) (qs .0) (a .0 .ptr .0) (a .0 .ptr .1) (a .0 .name) (a .0 .now) (a .1 .0) (a .1 .1 .0) (are .0 .0 .1) (are .1 .0 .1) (are .1 .1 .0 .1) within 𝓣 known))
+  walks 𝓣 known = walked 𝓤 H A f.ended stayed (f.clauses 𝓤 H A mem run) (WpFn 𝓤 H (𝓣 .C) (𝓣 .Λ) code.function) (λ κs. (slice-vals, (uint-vals w64, (vals, tt)))) (λ κs. (shr-slice-tells (named 0) (κs .0) R, (uint-tells w64, (tells, tt))))
+      (λ κs qs bounds a g are. needs 𝓤 _ _ (λ within. walk 𝓤 H A W mem run (κs .0) (qs .0) (a .0 .ptr .0) (a .0 .ptr .1) (a .0 .name) (a .0 .now) (a .1 .0) (a .1 .1 .0) (are .0 .0 .1) (are .1 .0 .1) (are .1 .1 .0) within 𝓣 known))
 
   meets : (𝓣 : Tables 𝓤 H) → Triple 𝓤 (𝓣 .C #callee) (Callee 𝓤 H A mem run) → Meets 𝓤 H A f.signature (WpFn 𝓤 H (𝓣 .C) (𝓣 .Λ) code.function) (f.spec 𝓤 H A mem run)
-  meets 𝓣 known = walk-meets 𝓤 H A f.ended stayed W (goes-none-slice 𝓤 H A W 1 (0 ∷ []) tt (plain (λ _. R)) yes, (goes-none 𝓤 H A W 1 (λ _. usize) yes (λ κs x f. refl), (goes-none 𝓤 H A W 1 (λ _. u64) yes (λ κs x f. refl), tt))) (f.clauses 𝓤 H A mem run) (WpFn 𝓤 H (𝓣 .C) (𝓣 .Λ) code.function) (WpFn-mono 𝓤 H (W .laws) 𝓣 code.function) (walks 𝓣 known)
+  meets 𝓣 known = walk-meets 𝓤 H A f.ended stayed W (goes-none-slice 𝓤 H A W 1 (0 ∷ []) tt (plain (λ _. R)) yes, (goes-none 𝓤 H A W 1 (λ _. usize) yes (λ κs x f. refl), (goes-none 𝓤 H A W 1 (λ _. R) yes (λ κs x f. refl), tt))) (f.clauses 𝓤 H A mem run) (WpFn 𝓤 H (𝓣 .C) (𝓣 .Λ) code.function) (WpFn-mono 𝓤 H (W .laws) 𝓣 code.function) (walks 𝓣 known)
 
 pub find-in-spec : {M : Type 1} → stated.statement M
 unfolding code.routine tablesOf

@@ -4,16 +4,16 @@ use native.Mathlib.Omega.{arith}
 use mathlib.Core.Path.{_≡_, refl, sym, _∙_}
 use Prim.Native.Nat.{_+_, _*_, _≤_, _<_}
 use lib.ListN.{length}
-use Rattle.overlay_table.specs.Overlays.{placeFrom}
+use Rattle.overlay_table.specs.Search.{placeFor}
 use Rattle.overlay_table.proofs.Laws as laws
 use Rattle.overlay_table.proofs.find_left.Statement.{statement}
 use Rattle.overlay_table.proofs.find_left.Tie as tie
 
 abbrev Inv-loop : tie.InvT-loop
-Inv-loop t from count gpn rest₀ place₀ rest place = (0 < place) × (place + 5 * rest ≤ length t) × (placeFrom t rest place gpn ≡ placeFrom t count from gpn)
+Inv-loop table from count key rest₀ place₀ rest place = (0 < place) × (place + 5 * rest ≤ length table) × (placeFor table rest place key ≡ placeFor table count from key)
 
 abbrev μ-loop : tie.MeasureT-loop
-μ-loop t from count gpn rest₀ place₀ rest place = rest
+μ-loop table from count key rest₀ place₀ rest place = rest
 
 loop-holds : tie.Need-loop-holds Inv-loop μ-loop
 loop-holds c = let r = c .before .pre in (r .0, r .1, refl)
@@ -25,7 +25,7 @@ returns : tie.Need-returns Inv-loop μ-loop
 returns c =
     let a = c .before .before .before .before .before .args in
     let h = c .before .before .before .loop in
-    c .before .find-few .ensures ∙ laws.split-hit (a .t .now) (a .gpn) 1 (h .rest) (h .place) (omega arith) (λ z. c .if1 .taken (c .before .find-few .ensures ∙ z)) ∙ h .inv .2
+    c .before .find-few .ensures ∙ laws.split-hit (a .table .now) (a .key) 1 (h .rest) (h .place) (omega arith) (λ z. c .if1 .taken (c .before .find-few .ensures ∙ z)) ∙ h .inv .2
 
 add-place : tie.Need-add-place Inv-loop μ-loop
 add-place c = search needs
@@ -42,14 +42,14 @@ loop-again c =
     let h = c .before .before .before .loop in (
       omega arith,
       omega arith,
-      sym (laws.split-miss (a .t .now) (a .gpn) 1 (h .rest) (h .place) (omega arith) (h .inv .0) (sym (c .before .find-few .ensures) ∙ c .if1 .left)) ∙ h .inv .2,
+      sym (laws.split-miss (a .table .now) (a .key) 1 (h .rest) (h .place) (omega arith) (h .inv .0) (sym (c .before .find-few .ensures) ∙ c .if1 .left)) ∙ h .inv .2,
     )
 
 returns-2 : tie.Need-returns-2 Inv-loop μ-loop
 returns-2 c =
     let a = c .before .before .before .args in
     let h = c .before .loop in
-    sym (laws.place-end (a .t .now) (h .place) (a .gpn) 0 (h .rest) (omega arith)) ∙ h .inv .2
+    sym (laws.for-end (a .table .now) (a .key) (h .rest) (h .place) (omega arith)) ∙ h .inv .2
 
 pub find-left-spec : {M : Type 1} → statement M
 find-left-spec =

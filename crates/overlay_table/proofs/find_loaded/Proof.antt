@@ -31,7 +31,7 @@ use denote.Laws.{Is, Tells, shows}
 use denote.Lend.{lends-shr-slice}
 use denote.Memory.{partAt, cellAt, partOf, shares, pointee}
 use denote.Plain.{uint-vals, uint-tells, uint-makes}
-use denote.Builtin.{u64, usize}
+use denote.Builtin.{usize}
 use denote.Ref.{RefT}
 use denote.Slice.{sliceTy, sliceVal, ShrSlice, Room}
 use denote.Steps.{owned, peeks, heard, nothing}
@@ -49,7 +49,7 @@ use denote.Exit.{yes}
 use Rattle.overlay_table.specs.Search.{findFrom}
 use Rattle.overlay_table.specs.declared.OverlayKey.{OverlayKey}
 use Rattle.overlay_table.specs.declared.Found.{Found}
-use Rattle.overlay_table.proofs.Rec.{R, mach, vals, tells, makes}
+use Rattle.overlay_table.proofs.Rec.{R, P, mach, vals, tells, makes, typed}
 use Rattle.overlay_table.proofs.OverlayKey as T
 use Rattle.overlay_table.proofs.OverlayKey.Laws as T′
 use Rattle.overlay_table.proofs.Found as S
@@ -80,7 +80,7 @@ abbrev slice : Ty
 slice = sliceTy (tyRef erased imm (pointee (R .written)))
 
 abbrev stayed : Stays (f.ended .signature .params) (f.ended .kept)
-stayed = (stay-none (λ _. AR) yes, (stay-none (λ _. usize) yes, (stay-none (λ _. u64) yes, tt)))
+stayed = (stay-none (λ _. AR) yes, (stay-none (λ _. usize) yes, (stay-none (λ _. R) yes, tt)))
 
 module _ {M : Type 1} (𝓤 : URA M) (H : Heap 𝓤) (A : Atoms 𝓤) (mem : Memory → SProp 𝓤) (run : Routine → Fun 𝓤) where
   -- the contract that the proof cites
@@ -107,12 +107,12 @@ module _ {M : Type 1} (𝓤 : URA M) (H : Heap 𝓤) (A : Atoms 𝓤) (W : Given
       spelt ! AR (Is AR) (shows 𝓤 H A AR) (array-vals vals) tellsA fullShare ys vs b 0 $ keep ! (0 ∷ []) $
       use1 W (‵ (fat fullShare arr b 0 (machA ys))) (W .laws .raw-at fullShare arr b 0 (machA ys)) $ by ! (W .laws .at-room arr b 0 (machA ys)))
 
-module _ {M : Type 1} (𝓤 : URA M) (H : Heap 𝓤) (A : Atoms 𝓤) (W : Given 𝓤 H A) (mem : Memory → SProp 𝓤) (run : Routine → Fun 𝓤) (ys : List OverlayKey) (used page : ℕ) (was : Is AR ys (machA ys ∷ [])) (used-ok : used < 2 ^ 64) (page-ok : page < 2 ^ 64) where
-  abbrev x : List OverlayKey × (ℕ × (ℕ × Unit {0}))
-  x = (ys, (used, (page, tt)))
+module _ {M : Type 1} (𝓤 : URA M) (H : Heap 𝓤) (A : Atoms 𝓤) (W : Given 𝓤 H A) (mem : Memory → SProp 𝓤) (run : Routine → Fun 𝓤) (ys : List OverlayKey) (used : ℕ) (key : OverlayKey) (was : Is AR ys (machA ys ∷ [])) (used-ok : used < 2 ^ 64) (key-is : P key (mach key ∷ [])) where
+  abbrev x : List OverlayKey × (ℕ × (OverlayKey × Unit {0}))
+  x = (ys, (used, (key, tt)))
 
   abbrev at : List Val × (List Val × (List Val × Unit {0}))
-  at = (machA ys ∷ [], (vint w64 used ∷ [], (vint w64 page ∷ [], tt)))
+  at = (machA ys ∷ [], (vint w64 used ∷ [], (mach key ∷ [], tt)))
 
   len : length ys ≡ 4
   len = was .1 .0 .1
@@ -126,38 +126,38 @@ module _ {M : Type 1} (𝓤 : URA M) (H : Heap 𝓤) (A : Atoms 𝓤) (W : Given
   abbrev Post : Val → SProp 𝓤
   Post = walkOf 𝓤 H A f.ended stayed (f.clauses 𝓤 H A mem run) .post ((tt, tt, tt, x, at), tt)
 
-  exits : (r : Found) (v : Val) → r ≡ findFrom (take used ys) page 0 → ent 𝓤 (sem 𝓤 H A (S.the-row .own r (v ∷ []))) (Post v)
+  exits : (r : Found) (v : Val) → r ≡ findFrom (take used ys) key 0 → ent 𝓤 (sem 𝓤 H A (S.the-row .own r (v ∷ []))) (Post v)
   exits r v e =
       qed W (‵ (S.the-row .own r (v ∷ [])) ∷ []) ∵
       suffices ! _ (ends-at 𝓤 H A f.ended stayed (f.clauses 𝓤 H A mem run) W ((tt, tt, tt, x, at), tt) v r (tt, (tt, (tt, tt))) (tt, (tt, (tt, tt)))) $ says ! e $
-      nothing ! $ owned ! u64 (Is u64) (uint-makes 𝓤 H A W w64) page _ (refl, page-ok) $ fjoin ! $ owned ! usize (Is usize) (uint-makes 𝓤 H A W w64) used _ (refl, used-ok) $ fjoin ! $ owned ! AR (Is AR) (array-makes 𝓤 H A W R (makes 𝓤 H A W) 4) ys _ was $ fjoin ! $ nothing ! $ done !
+      nothing ! $ owned ! R P (makes 𝓤 H A W) key _ key-is $ fjoin ! $ owned ! usize (Is usize) (uint-makes 𝓤 H A W w64) used _ (refl, used-ok) $ fjoin ! $ owned ! AR (Is AR) (array-makes 𝓤 H A W R (makes 𝓤 H A W) 4) ys _ was $ fjoin ! $ nothing ! $ done !
 
   -- what the callee is passed: the local at b, lent for α under the name δ
   module _ (α : ℕ) (b : ℕ) (δ : GName) where
-    abbrev r : RefT (List OverlayKey) × (ℕ × (ℕ × Unit {0}))
-    r = (record { ptr = (b, 0); name = δ; now = ys }, (used, (page, tt)))
+    abbrev r : RefT (List OverlayKey) × (ℕ × (OverlayKey × Unit {0}))
+    r = (record { ptr = (b, 0); name = δ; now = ys }, (used, (key, tt)))
 
     abbrev Own : Fml
     Own = ShrSlice (named 0) (α ∷ []) R .own (r .0) (sliceVal (b, 0) (length ys) ∷ [])
 
     abbrev to : Callee 𝓤 H A mem run .Ghost
-    to = (((α ∷ [], tt), (fullShare, tt), tt, r, (sliceVal (b, 0) (length ys) ∷ [], (vint w64 used ∷ [], (vint w64 page ∷ [], tt)))), tt)
+    to = (((α ∷ [], tt), (fullShare, tt), tt, r, (sliceVal (b, 0) (length ys) ∷ [], (vint w64 used ∷ [], (mach key ∷ [], tt)))), tt)
 
     asked : used ≤ length ys → ent 𝓤 (sep 𝓤 (A .lft (α ∷ []) fullShare) (sem 𝓤 H A Own)) (Callee 𝓤 H A mem run .pre to)
     asked few =
-        qed W (‵ (flft (α ∷ []) fullShare) ∷ ‵ Own ∷ []) ∵ says ! few $ nothing ! $ owned ! u64 (Is u64) (uint-makes 𝓤 H A W w64) page _ (refl, page-ok) $ fjoin ! $ owned ! usize (Is usize) (uint-makes 𝓤 H A W w64) used _ (refl, used-ok) $ fjoin ! $
+        qed W (‵ (flft (α ∷ []) fullShare) ∷ ‵ Own ∷ []) ∵ says ! few $ nothing ! $ owned ! R P (makes 𝓤 H A W) key _ key-is $ fjoin ! $ owned ! usize (Is usize) (uint-makes 𝓤 H A W w64) used _ (refl, used-ok) $ fjoin ! $
         move ! (2 ∷ 0 ∷ []) $ fjoin ! $ nothing ! $ move ! (2 ∷ 0 ∷ []) $ join ! $ frame ! $ done !
 
     -- of its `ensured`, the clause alone: it has no `&mut`
-    said : (z : Found) → ent 𝓤 (ensured 𝓤 H A callee.ended (callee.clauses 𝓤 H A mem run) (α ∷ [], tt) r tt z) (fact 𝓤 (z ≡ findFrom (take used ys) page 0))
-    said z = exE 𝓤 _ (λ ws. snd∗ 𝓤 (sem 𝓤 H A (lasts callee.ended (α ∷ [], tt) r ws)) (fact 𝓤 (z ≡ findFrom (take used ys) page 0)))
+    said : (z : Found) → ent 𝓤 (ensured 𝓤 H A callee.ended (callee.clauses 𝓤 H A mem run) (α ∷ [], tt) r tt z) (fact 𝓤 (z ≡ findFrom (take used ys) key 0))
+    said z = exE 𝓤 _ (λ ws. snd∗ 𝓤 (sem 𝓤 H A (lasts callee.ended (α ∷ [], tt) r ws)) (fact 𝓤 (z ≡ findFrom (take used ys) key 0)))
 
   module _ (C : Calls 𝓤 H) (Λ : Loops 𝓤 H) (fm : FmC 𝓤 H (W .laws) C) (known : Triple 𝓤 (C #callee) (Callee 𝓤 H A mem run)) where
-    walk : used ≤ 4 → ent 𝓤 (onEntry 𝓤 H A f.signature tt tt x at) (WpFn 𝓤 H C Λ code.function (machA ys ∷ vint w64 used ∷ vint w64 page ∷ []) Post)
+    walk : used ≤ 4 → ent 𝓤 (onEntry 𝓤 H A f.signature tt tt x at) (WpFn 𝓤 H C Λ code.function (machA ys ∷ vint w64 used ∷ mach key ∷ []) Post)
     walk few =
-        qed W (‵ ftrue ∷ ‵ (owns (AR ∷ usize ∷ u64 ∷ []) x at) ∷ []) ∵ enter ! C Λ code.function (machA ys ∷ vint w64 used ∷ vint w64 page ∷ []) _ $
+        qed W (‵ ftrue ∷ ‵ (owns (AR ∷ usize ∷ R ∷ []) x at) ∷ []) ∵ enter ! C Λ code.function (machA ys ∷ vint w64 used ∷ mach key ∷ []) _ $
         alloc1 ! (λ l₀. alloc1 ! (λ l₁. alloc1 ! (λ l₂. alloc1 ! (λ l₃. alloc1 ! (λ l₄. alloc1 ! (λ l₅. alloc1 ! (λ l₆. alloc0 ! $ params1 ! $
-        pass1 ! (init ! 10 refl typedA) $ pass1 ! (init ! 8 refl (tt, record { fits = used-ok })) $ pass1 ! (init ! 6 refl (tt, record { fits = page-ok })) $ pass0 ! $
+        pass1 ! (init ! 10 refl typedA) $ pass1 ! (init ! 8 refl (tt, record { fits = used-ok })) $ pass1 ! (init ! 6 refl (typed 𝓤 H A W key _ key-is)) $ pass0 ! $
         assigns ! (of-opd ! (load ! (from ! (stop !)) (look ! 10 refl))) (from ! (stop !)) (init ! 4 refl typedA) $
         assigns ! (addr ! (from ! (stop !))) (from ! (stop !)) (init ! 2 refl (tt, tt)) $
         assigns ! (agg ! (and-then ! (load ! (from ! (stop !)) (look ! 2 refl)) (and-then ! (lit ! tt) (no-more !)))) (from ! (stop !)) (init ! 0 refl (tt, (tt, (record { fits = lit< tt }, tt)))) $
@@ -169,7 +169,7 @@ module _ {M : Type 1} (𝓤 : URA M) (H : Heap 𝓤) (A : Atoms 𝓤) (W : Given
         -- [what the callee asks; the lender's part; _5; …; _4; …; what frees _3; _2; …; _1; …; room for _0; …]
         calls-at ! fm (Callee 𝓤 H A mem run) known (to α l₄ δ) (and-then ! (load ! (from ! (stop !)) (look ! 2 refl)) (and-then ! (load ! (from ! (stop !)) (look ! 9 refl)) (and-then ! (load ! (from ! (stop !)) (look ! 7 refl)) (no-more !)))) (λ v.
         use1 W (later (some (λ (z : Found). ((‵ (flft (α ∷ []) fullShare) ⊛ ‵ ftrue) ⊛ ‵ (S.the-row .own z (v ∷ []))) ⊛ raw (ensured 𝓤 H A callee.ended (callee.clauses 𝓤 H A mem run) (α ∷ [], tt) (r α l₄ δ) tt z)))) (id⊢ 𝓤 _) $ await ! tt $ pick ! (λ z.
-        split ! $ move ! (1 ∷ []) $ use1 W (raw (fact 𝓤 (z ≡ findFrom (take used ys) page 0))) (said α l₄ δ z) $ heard ! (z ≡ findFrom (take used ys) page 0) (λ e. split ! $ move ! (1 ∷ []) $
+        split ! $ move ! (1 ∷ []) $ use1 W (raw (fact 𝓤 (z ≡ findFrom (take used ys) key 0))) (said α l₄ δ z) $ heard ! (z ≡ findFrom (take used ys) key 0) (λ e. split ! $ move ! (1 ∷ []) $
         -- [the result; the token; the lender's part; _5; …; _4; …; what frees _3; _2; …; _1; …; room for _0; …]
         peeks ! S.the-row (Is S.the-row) (shows 𝓤 H A S.the-row) z (v ∷ []) (λ is.
         land ! (from ! (stop !)) (init ! 14 refl (EL.lawful S.the-type S′.the-laws 𝓤 H A W tt .typed z _ is .0)) $
@@ -182,11 +182,11 @@ module _ {M : Type 1} (𝓤 : URA M) (H : Heap 𝓤) (A : Atoms 𝓤) (W : Given
 
 module _ {M : Type 1} (𝓤 : URA M) (H : Heap 𝓤) (A : Atoms 𝓤) (W : Given 𝓤 H A) (mem : Memory → SProp 𝓤) (run : Routine → Fun 𝓤) where
   walks : (C : Calls 𝓤 H) (Λ : Loops 𝓤 H) → FmC 𝓤 H (W .laws) C → Triple 𝓤 (C #callee) (Callee 𝓤 H A mem run) → Walks 𝓤 H A f.ended stayed (WpFn 𝓤 H C Λ code.function) (f.clauses 𝓤 H A mem run)
-  walks C Λ fm known = walked 𝓤 H A f.ended stayed (f.clauses 𝓤 H A mem run) (WpFn 𝓤 H C Λ code.function) (λ κs. (array-vals vals, (uint-vals w64, (uint-vals w64, tt)))) (λ κs. (tellsA, (uint-tells w64, (uint-tells w64, tt))))
-      (λ κs qs bounds a _ are. needs 𝓤 _ _ (walk 𝓤 H A W mem run (a .0) (a .1 .0) (a .1 .1 .0) (are .0) (are .1 .0 .1) (are .1 .1 .0 .1) C Λ fm known))
+  walks C Λ fm known = walked 𝓤 H A f.ended stayed (f.clauses 𝓤 H A mem run) (WpFn 𝓤 H C Λ code.function) (λ κs. (array-vals vals, (uint-vals w64, (vals, tt)))) (λ κs. (tellsA, (uint-tells w64, (tells, tt))))
+      (λ κs qs bounds a _ are. needs 𝓤 _ _ (walk 𝓤 H A W mem run (a .0) (a .1 .0) (a .1 .1 .0) (are .0) (are .1 .0 .1) (are .1 .1 .0) C Λ fm known))
 
   goes : AllGo 𝓤 H A W 0 (f.signature .params) (f.ended .kept) stayed
-  goes = (goes-none 𝓤 H A W 0 (λ _. AR) yes (λ κs x f. refl), (goes-none 𝓤 H A W 0 (λ _. usize) yes (λ κs x f. refl), (goes-none 𝓤 H A W 0 (λ _. u64) yes (λ κs x f. refl), tt)))
+  goes = (goes-none 𝓤 H A W 0 (λ _. AR) yes (λ κs x f. refl), (goes-none 𝓤 H A W 0 (λ _. usize) yes (λ κs x f. refl), (goes-none 𝓤 H A W 0 (λ _. R) yes (λ κs x f. refl), tt)))
 
   meets : (𝓣 : Tables 𝓤 H) → Triple 𝓤 (𝓣 .C #callee) (Callee 𝓤 H A mem run) → Meets 𝓤 H A f.signature (WpFn 𝓤 H (𝓣 .C) (𝓣 .Λ) code.function) (f.spec 𝓤 H A mem run)
   meets 𝓣 known = walk-meets 𝓤 H A f.ended stayed W goes (f.clauses 𝓤 H A mem run) (WpFn 𝓤 H (𝓣 .C) (𝓣 .Λ) code.function) (WpFn-mono 𝓤 H (W .laws) 𝓣 code.function) (walks (𝓣 .C) (𝓣 .Λ) (fmOf 𝓤 H (W .laws) 𝓣) known)

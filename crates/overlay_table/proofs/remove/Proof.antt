@@ -34,7 +34,7 @@ returns c =
     let a = c .before .before .before .before .before .before .before .before .before .before .before .before .args in
     let n = c .before .before .before .before .before .before .before .before .before .entry-count .ensures in
     c .before .before .put .ensures
-    ∙ ap₂ (λ (r : List ℕ) (k : ℕ). set r 0 k) (c .before .before .before .before .before .before .before .remove-words .ensures ∙ ap (λ (k : ℕ). closedTo (a .t .now) (a .place) 5 (1 + 5 * k)) n) (c .before .before .before .saturating-sub .ensures ∙ ap (λ (k : ℕ). k - 1) n)
+    ∙ ap₂ (λ (r : List ℕ) (k : ℕ). set r 0 k) (c .before .before .before .before .before .before .before .remove-words .ensures ∙ ap (λ (k : ℕ). closedTo (a .table .now) (a .place) 5 (1 + 5 * k)) n) (c .before .before .before .saturating-sub .ensures ∙ ap (λ (k : ℕ). k - 1) n)
 
 pub remove-spec : {M : Type 1} → statement M
 remove-spec =
