@@ -40,7 +40,5 @@ pub const FULL_WORD: u64 = 0xffff_ffff_ffff_ffff;
 // Flags as a number are below it.
 pub const FLAGS_END: u64 = 16;
 
-pub const ALL_FLAGS: u64 = 15;
-
 // In the place of flags: none are given.
 pub const NO_FLAGS: u64 = 16;

@@ -124,7 +124,7 @@ pub fn locks_of(tables: &[u64], vtl: GuestVtl) -> &[u64]
     }
 }
 
-pub fn is_locked(overlays: &[u64], locks: &[u64], gpn: u64) -> bool
+fn is_locked(overlays: &[u64], locks: &[u64], gpn: u64) -> bool
     ensures { λ r. ⌜ r ≡ isLocked (now (overlays .entry)) (now (locks .entry)) gpn ⌝ }
 {
     if lock_table::holds(locks, gpn) {

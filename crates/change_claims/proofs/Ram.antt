@@ -16,7 +16,7 @@ use Rattle.overlay_table.specs.Overlays.{isOverlay}
 use Rattle.default_change.specs.Pieces.{span, non, startOf, lenOf, pageUp, pieceIn, nextOf}
 use Rattle.default_change.specs.Visit.{upTo, pick, piecesFrom, pieces}
 use Rattle.default_change.proofs.Spans.{span-hit}
-use Rattle.default_change.proofs.Whole.{piece-within, piece-short, piece-before, piece-holds, none-left}
+use Rattle.default_change.proofs.Pieces.{piece-within, piece-short, piece-before, piece-holds, none-left}
 use Rattle.visibility_claims.specs.Ends.{pageEnd}
 use Rattle.change_claims.specs.Whole.{isProtected, ramRuns}
 use Rattle.change_claims.proofs.Changes.{none-past, next-ahead}

@@ -24,69 +24,69 @@ use Rattle.visibility_claims.specs.Calls.{Told, replies, Says}
 use Rattle.change_claims.specs.Whole.{Change, change, wholePages, wholeRam, wholeEntry, wholeOverlay, onceDone}
 
 abbrev pub trackedIn : Buffers → Bool
-trackedIn w = settingsOf (w .state) .tracked
+trackedIn buffers = settingsOf (buffers .state) .tracked
 
 -- ---- change_vtl_protections
 
 abbrev pub protectionWhole : Buffers → GuestVtl → ℕ → List ℕ → List BackendAnswer → Change
-protectionWhole w v flags l gs = change (wholePages (trackedIn w) v (flagsOf flags) (pagesOf l) (w .maps) gs) (w .tables)
+protectionWhole buffers vtl flags list answers = change (wholePages (trackedIn buffers) vtl (flagsOf flags) (pagesOf list) (buffers .maps) answers) (buffers .tables)
 
 -- ---- change_default_vtl_protections: the target VTL's overlays on private RAM pages have the new previous permissions at once
 
 abbrev pub renewedFor : Buffers → GuestVtl → ℕ → List ℕ
-renewedFor w v flags = renewedTables (w .maps .private) (w .state) (w .tables) v flags
+renewedFor buffers vtl flags = renewedTables (buffers .maps .private) (buffers .state) (buffers .tables) vtl flags
 
 -- the pages that are overlays of a VTL: renewing leaves them
 abbrev pub overlayIn : List ℕ → GuestVtl → ℕ → Bool
-overlayIn tables v p = isOverlay (overlaysOf tables v) p
+overlayIn tables vtl gpn = isOverlay (overlaysOf tables vtl) gpn
 
 abbrev pub defaultWhole : Buffers → GuestVtl → ℕ → List BackendAnswer → Change
-defaultWhole w v flags gs =
-    change (wholeRam (trackedIn w) v (flagsOf flags) (entriesIn (w .state)) (overlayIn (w .tables) v) (w .maps) gs) (renewedFor w v flags)
+defaultWhole buffers vtl flags answers =
+    change (wholeRam (trackedIn buffers) vtl (flagsOf flags) (entriesIn (buffers .state)) (overlayIn (buffers .tables) vtl) (buffers .maps) answers) (renewedFor buffers vtl flags)
 
 -- ---- register_overlay_page, unregister_overlay_page
 
 -- one entry more, or the page's first less
 abbrev pub addedTo : List ℕ → GuestVtl → OverlayPage → List ℕ
-addedTo t v e = withOverlays t v (addWords (overlaysOf t v) e)
+addedTo tables vtl entry = withOverlays tables vtl (addWords (overlaysOf tables vtl) entry)
 
 abbrev pub removedFrom : List ℕ → GuestVtl → ℕ → List ℕ
-removedFrom t v p = withOverlays t v (withoutPage (overlaysOf t v) p)
+removedFrom tables vtl gpn = withOverlays tables vtl (withoutPage (overlaysOf tables vtl) gpn)
 
 -- a count changed, with no operation
 abbrev pub countWhole : Buffers → GuestVtl → ℕ → ℕ → Change
-countWhole w v p n = change (stands (w .maps) Ok) (recounted (w .tables) v p n)
+countWhole buffers vtl gpn count = change (stands (buffers .maps) Ok) (recounted (buffers .tables) vtl gpn count)
 
 -- a new page: with new flags, and with none
 abbrev pub newWhole : Buffers → GuestVtl → ℕ → ℕ → ℕ → List BackendAnswer → Bool → Change
-newWhole w v p source new gs true =
-    change (wholeOverlay (trackedIn w) (eqb source 0) v (flagsOf new) p (w .maps) gs)
-    (onceDone gs (w .tables) (addedTo (w .tables) v (entry p (bitsOf (currentIn w v p source)) new 1 source)))
-newWhole w v p source new gs false =
-    change (wholeEntry (trackedIn w) v (w .maps) gs)
-    (addedTo (w .tables) v (entry p (bitsOf (currentIn w v p source)) (bitsOf (currentIn w v p source)) 1 source))
+newWhole buffers vtl gpn source new answers true =
+    change (wholeOverlay (trackedIn buffers) (eqb source 0) vtl (flagsOf new) gpn (buffers .maps) answers)
+    (onceDone answers (buffers .tables) (addedTo (buffers .tables) vtl (entry gpn (bitsOf (currentIn buffers vtl gpn source)) new 1 source)))
+newWhole buffers vtl gpn source new answers false =
+    change (wholeEntry (trackedIn buffers) vtl (buffers .maps) answers)
+    (addedTo (buffers .tables) vtl (entry gpn (bitsOf (currentIn buffers vtl gpn source)) (bitsOf (currentIn buffers vtl gpn source)) 1 source))
 
 abbrev pub registerWhole : Buffers → GuestVtl → ℕ → ℕ → ℕ → List BackendAnswer → Change
-registerWhole w v p source new gs =
-    cond (isOverlay (overlaysOf (w .tables) v) p) (countWhole w v p (entryIn (w .tables) v p .«ref_count» + 1))
-    (newWhole w v p source new gs (ltb new flagsEnd))
+registerWhole buffers vtl gpn source new answers =
+    cond (isOverlay (overlaysOf (buffers .tables) vtl) gpn) (countWhole buffers vtl gpn (entryIn (buffers .tables) vtl gpn .«ref_count» + 1))
+    (newWhole buffers vtl gpn source new answers (ltb new flagsEnd))
 
 abbrev pub oldWhole : Buffers → GuestVtl → ℕ → OverlayPage → List BackendAnswer → Change
-oldWhole w v p e gs =
-    change (wholeOverlay (trackedIn w) (eqb (e .«gpn_source») 0) v (flagsOf (e .«previous_permissions»)) p (w .maps) gs)
-    (onceDone gs (w .tables) (removedFrom (w .tables) v p))
+oldWhole buffers vtl gpn entry answers =
+    change (wholeOverlay (trackedIn buffers) (eqb (entry .«gpn_source») 0) vtl (flagsOf (entry .«previous_permissions»)) gpn (buffers .maps) answers)
+    (onceDone answers (buffers .tables) (removedFrom (buffers .tables) vtl gpn))
 
 abbrev pub unregisterWhole : Buffers → GuestVtl → ℕ → List BackendAnswer → Change
-unregisterWhole w v p gs =
-    cond (ltb 1 (entryIn (w .tables) v p .«ref_count»)) (countWhole w v p (entryIn (w .tables) v p .«ref_count» - 1))
-    (oldWhole w v p (entryIn (w .tables) v p) gs)
+unregisterWhole buffers vtl gpn answers =
+    cond (ltb 1 (entryIn (buffers .tables) vtl gpn .«ref_count»)) (countWhole buffers vtl gpn (entryIn (buffers .tables) vtl gpn .«ref_count» - 1))
+    (oldWhole buffers vtl gpn (entryIn (buffers .tables) vtl gpn) answers)
 
--- ---- the same operations, maps, tables and answer; the request's pages stay in the table t, settings and layout as in `rest`
+-- ---- the same operations, maps, tables and answer; the request's pages stay `pages`, settings and layout as in `rest`
 
-pub record Agrees (rest t : List ℕ) (i : IsolationType) (r : Ran) (tables : List ℕ) (x : Told) : Type 0 where
-  pub same-asked : x .asked ≡ replies i (r .asked)
-  pub same-maps : x .last .buffers .maps ≡ r .maps
-  pub same-reply : Says i (r .last) (x .last .reply)
-  pub same-pages : x .last .buffers .pages ≡ t
-  pub same-tables : x .last .buffers .tables ≡ tables
-  pub same-rest : drop place.afterChange (x .last .buffers .state) ≡ rest
+pub record Agrees (rest pages : List ℕ) (isolation : IsolationType) (ran : Ran) (tables : List ℕ) (told : Told) : Type 0 where
+  pub same-asked : told .asked ≡ replies isolation (ran .asked)
+  pub same-maps : told .last .buffers .maps ≡ ran .maps
+  pub same-reply : Says isolation (ran .last) (told .last .reply)
+  pub same-pages : told .last .buffers .pages ≡ pages
+  pub same-tables : told .last .buffers .tables ≡ tables
+  pub same-rest : drop place.afterChange (told .last .buffers .state) ≡ rest

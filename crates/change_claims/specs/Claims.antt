@@ -42,183 +42,183 @@ use Rattle.change_claims.specs.Whole.{Change, isProtected, ramRuns, whol
 use Rattle.change_claims.specs.Calls.{trackedIn, overlayIn, protectionWhole, defaultWhole, newWhole, registerWhole, oldWhole, unregisterWhole, Agrees}
 use Rattle.change_claims.specs.Pages.{protectedIn, all, within, PermitsFor, Leaves}
 
--- ---- calls that are taken, and what they and their answers gs in turn give
+-- ---- calls that are taken, and what they and their answers in turn give
 
 abbrev pub TakesProtection : Buffers → ℕ → ℕ → List ℕ → Type 0
-TakesProtection w vtl flags l = protectionRefusal (w .state) (fits w) (w .maps .shared) (w .tables) vtl flags l ≡ 0
+TakesProtection buffers vtl flags list = protectionRefusal (buffers .state) (fits buffers) (buffers .maps .shared) (buffers .tables) vtl flags list ≡ 0
 
 abbrev pub protectionCall : Buffers → ℕ → ℕ → List ℕ → List BackendAnswer → Told
-protectionCall w vtl flags l gs = follow (protectionOf w vtl flags l) gs
+protectionCall buffers vtl flags list answers = follow (protectionOf buffers vtl flags list) answers
 
 -- the default is stored first; no lock bars the change (10)
 abbrev pub storedIn : Buffers → ℕ → ℕ → Buffers
-storedIn w vtl flags = stored w (vtlOf vtl) flags
+storedIn buffers vtl flags = stored buffers (vtlOf vtl) flags
 
 abbrev pub TakesDefault : Buffers → ℕ → ℕ → Type 0
-TakesDefault w vtl flags =
-    (defaultRefusal (w .state) (fits w) vtl flags ≡ 0) × (barred (w .maps .private) (storedIn w vtl flags .state) (w .tables) (vtlOf vtl) ≡ false)
+TakesDefault buffers vtl flags =
+    (defaultRefusal (buffers .state) (fits buffers) vtl flags ≡ 0) × (barred (buffers .maps .private) (storedIn buffers vtl flags .state) (buffers .tables) (vtlOf vtl) ≡ false)
 
 abbrev pub defaultCall : Buffers → ℕ → ℕ → List BackendAnswer → Told
-defaultCall w vtl flags gs = follow (defaultOf w vtl flags) gs
+defaultCall buffers vtl flags answers = follow (defaultOf buffers vtl flags) answers
 
 abbrev pub TakesRegister : Buffers → ℕ → ℕ → ℕ → ℕ → ℕ → Type 0
-TakesRegister w vtl p source checked new =
-    registerRefusal (w .state) (fits w) (w .maps .shared) (w .tables) (currentIn w (vtlOf vtl) p source) vtl p source checked new ≡ 0
+TakesRegister buffers vtl gpn source checked new =
+    registerRefusal (buffers .state) (fits buffers) (buffers .maps .shared) (buffers .tables) (currentIn buffers (vtlOf vtl) gpn source) vtl gpn source checked new ≡ 0
 
 abbrev pub registerCall : Buffers → ℕ → ℕ → ℕ → ℕ → ℕ → List BackendAnswer → Told
-registerCall w vtl p source checked new gs = follow (registerOf w vtl p source checked new) gs
+registerCall buffers vtl gpn source checked new answers = follow (registerOf buffers vtl gpn source checked new) answers
 
 abbrev pub TakesUnregister : Buffers → ℕ → ℕ → Type 0
-TakesUnregister w vtl p = unregisterRefusal (w .state) (fits w) (w .tables) vtl p ≡ 0
+TakesUnregister buffers vtl gpn = unregisterRefusal (buffers .state) (fits buffers) (buffers .tables) vtl gpn ≡ 0
 
 abbrev pub unregisterCall : Buffers → ℕ → ℕ → List BackendAnswer → Told
-unregisterCall w vtl p gs = follow (unregisterOf w vtl p) gs
+unregisterCall buffers vtl gpn answers = follow (unregisterOf buffers vtl gpn) answers
 
 abbrev pub TakesVisibility : Buffers → ℕ → ℕ → List ℕ → Type 0
-TakesVisibility w vtl visibility l = visibilityRefusal (w .state) (fits w) (w .tables) vtl visibility l ≡ 0
+TakesVisibility buffers vtl visibility list = visibilityRefusal (buffers .state) (fits buffers) (buffers .tables) vtl visibility list ≡ 0
 
 abbrev pub visibilityCall : Buffers → ℕ → ℕ → List ℕ → List BackendAnswer → Told
-visibilityCall w vtl visibility l gs = follow (visibilityOf w vtl visibility l) gs
+visibilityCall buffers vtl visibility list answers = follow (visibilityOf buffers vtl visibility list) answers
 
 -- the pages that a visibility change asks for, and their places in the list as sent
 abbrev pub requestedPages : Buffers → GuestVtl → Bool → List ℕ → List ℕ
-requestedPages w v share l = pagesIn (requestedOf w v share l .listed)
+requestedPages buffers vtl share list = pagesIn (requestedOf buffers vtl share list .listed)
 
 abbrev pub requestedPlaces : Buffers → GuestVtl → Bool → List ℕ → List ℕ
-requestedPlaces w v share l = placesIn (requestedOf w v share l .listed)
+requestedPlaces buffers vtl share list = placesIn (requestedOf buffers vtl share list .listed)
 
 -- a layout that a build takes; and one whose entries ascend within 01's bounds, aligned or not
 abbrev pub FitLayout : Buffers → Type 0
-FitLayout w = refusalOf (ramOf (w .state)) ≡ 0
+FitLayout buffers = refusalOf (ramOf (buffers .state)) ≡ 0
 
 abbrev pub InOrder : Buffers → Type 0
-InOrder w = ordered 0 (entriesIn (w .state)) ≡ true
+InOrder buffers = ordered 0 (entriesIn (buffers .state)) ≡ true
 
--- ---- a call is its whole call: operations, answer with its count, maps and tables; the request's pages are t, settings and layout stand
+-- ---- a call is its whole call: operations, answer with its count, maps and tables; the request's pages are `pages`, settings and layout stand
 
 abbrev pub AgreesIn : Buffers → List ℕ → Change → Told → Type 0
-AgreesIn w t c x = Agrees (drop place.afterChange (w .state)) t (settingsOf (w .state) .isolation) (whole (c .whole)) (c .tables) x
+AgreesIn buffers pages change told = Agrees (drop place.afterChange (buffers .state)) pages (settingsOf (buffers .state) .isolation) (whole (change .whole)) (change .tables) told
 
 pub record WholeCalls : Type 0 where
-  pub protection : (w : Buffers) (vtl flags : ℕ) (l : List ℕ) (gs : List BackendAnswer) → TakesProtection w vtl flags l
-      → AgreesIn w (allListed l (w .pages)) (protectionWhole w (vtlOf vtl) flags l gs) (protectionCall w vtl flags l gs)
-  pub default : (w : Buffers) (vtl flags : ℕ) (gs : List BackendAnswer) → TakesDefault w vtl flags → InOrder w
-      → AgreesIn (storedIn w vtl flags) (w .pages) (defaultWhole (storedIn w vtl flags) (vtlOf vtl) flags gs) (defaultCall w vtl flags gs)
-  pub register : (w : Buffers) (vtl p source checked new : ℕ) (gs : List BackendAnswer) → TakesRegister w vtl p source checked new
-      → AgreesIn w (w .pages) (registerWhole w (vtlOf vtl) p source new gs) (registerCall w vtl p source checked new gs)
-  pub unregister : (w : Buffers) (vtl p : ℕ) (gs : List BackendAnswer) → TakesUnregister w vtl p
-      → AgreesIn w (w .pages) (unregisterWhole w (vtlOf vtl) p gs) (unregisterCall w vtl p gs)
+  pub protection : (buffers : Buffers) (vtl flags : ℕ) (list : List ℕ) (answers : List BackendAnswer) → TakesProtection buffers vtl flags list
+      → AgreesIn buffers (allListed list (buffers .pages)) (protectionWhole buffers (vtlOf vtl) flags list answers) (protectionCall buffers vtl flags list answers)
+  pub default : (buffers : Buffers) (vtl flags : ℕ) (answers : List BackendAnswer) → TakesDefault buffers vtl flags → InOrder buffers
+      → AgreesIn (storedIn buffers vtl flags) (buffers .pages) (defaultWhole (storedIn buffers vtl flags) (vtlOf vtl) flags answers) (defaultCall buffers vtl flags answers)
+  pub register : (buffers : Buffers) (vtl gpn source checked new : ℕ) (answers : List BackendAnswer) → TakesRegister buffers vtl gpn source checked new
+      → AgreesIn buffers (buffers .pages) (registerWhole buffers (vtlOf vtl) gpn source new answers) (registerCall buffers vtl gpn source checked new answers)
+  pub unregister : (buffers : Buffers) (vtl gpn : ℕ) (answers : List BackendAnswer) → TakesUnregister buffers vtl gpn
+      → AgreesIn buffers (buffers .pages) (unregisterWhole buffers (vtlOf vtl) gpn answers) (unregisterCall buffers vtl gpn answers)
 
 -- ---- a call with a number other than 0 leaves all that is lent; a default change with 10 leaves the default stored
 
 pub record Refusals : Type 0 where
-  pub protection : (w : Buffers) (vtl flags : ℕ) (l : List ℕ) → (protectionOf w vtl flags l .reply .number ≡ 0 → ⊥) → protectionOf w vtl flags l .buffers ≡ w
-  pub default : (w : Buffers) (vtl flags : ℕ) → (defaultOf w vtl flags .reply .number ≡ 0 → ⊥) → (defaultOf w vtl flags .reply .number ≡ refusal.locked → ⊥) → defaultOf w vtl flags .buffers ≡ w
-  pub default-10 : (w : Buffers) (vtl flags : ℕ) → defaultOf w vtl flags .reply .number ≡ refusal.locked → defaultOf w vtl flags .buffers ≡ storedIn w vtl flags
-  pub register : (w : Buffers) (vtl p source checked new : ℕ) → (registerOf w vtl p source checked new .reply .number ≡ 0 → ⊥) → registerOf w vtl p source checked new .buffers ≡ w
-  pub unregister : (w : Buffers) (vtl p : ℕ) → (unregisterOf w vtl p .reply .number ≡ 0 → ⊥) → unregisterOf w vtl p .buffers ≡ w
-  pub lock : (s t : List ℕ) (vtl : ℕ) (l : List ℕ) → (lockOf s t vtl l .reply .number ≡ 0 → ⊥) → lockOf s t vtl l .tables ≡ t
-  pub unlock : (s t : List ℕ) (vtl : ℕ) (l : List ℕ) → (unlockOf s t vtl l .reply .number ≡ 0 → ⊥) → unlockOf s t vtl l .tables ≡ t
-  pub enable : (s : List ℕ) → (enableOf s .reply .number ≡ 0 → ⊥) → enableOf s .state ≡ s
+  pub protection : (buffers : Buffers) (vtl flags : ℕ) (list : List ℕ) → (protectionOf buffers vtl flags list .reply .number ≡ 0 → ⊥) → protectionOf buffers vtl flags list .buffers ≡ buffers
+  pub default : (buffers : Buffers) (vtl flags : ℕ) → (defaultOf buffers vtl flags .reply .number ≡ 0 → ⊥) → (defaultOf buffers vtl flags .reply .number ≡ refusal.locked → ⊥) → defaultOf buffers vtl flags .buffers ≡ buffers
+  pub default-10 : (buffers : Buffers) (vtl flags : ℕ) → defaultOf buffers vtl flags .reply .number ≡ refusal.locked → defaultOf buffers vtl flags .buffers ≡ storedIn buffers vtl flags
+  pub register : (buffers : Buffers) (vtl gpn source checked new : ℕ) → (registerOf buffers vtl gpn source checked new .reply .number ≡ 0 → ⊥) → registerOf buffers vtl gpn source checked new .buffers ≡ buffers
+  pub unregister : (buffers : Buffers) (vtl gpn : ℕ) → (unregisterOf buffers vtl gpn .reply .number ≡ 0 → ⊥) → unregisterOf buffers vtl gpn .buffers ≡ buffers
+  pub lock : (state tables : List ℕ) (vtl : ℕ) (list : List ℕ) → (lockOf state tables vtl list .reply .number ≡ 0 → ⊥) → lockOf state tables vtl list .tables ≡ tables
+  pub unlock : (state tables : List ℕ) (vtl : ℕ) (list : List ℕ) → (unlockOf state tables vtl list .reply .number ≡ 0 → ⊥) → unlockOf state tables vtl list .tables ≡ tables
+  pub enable : (state : List ℕ) → (enableOf state .reply .number ≡ 0 → ⊥) → enableOf state .state ≡ state
 
 -- ---- how many operations a call that is Ok reports
 
 abbrev pub ok : ℕ → Reply
-ok n = finished 0 0 0 n
+ok count = finished 0 0 0 count
 
 pub record Counts : Type 0 where
   -- its runs and three more
-  pub protection : (w : Buffers) (vtl flags : ℕ) (l : List ℕ) (gs : List BackendAnswer) → TakesProtection w vtl flags l → protectionWhole w (vtlOf vtl) flags l gs .whole .status ≡ Ok
-      → protectionCall w vtl flags l gs .last .reply ≡ ok (length (runsOf (pagesOf l)) + 3)
-  pub default : (w : Buffers) (vtl flags : ℕ) (gs : List BackendAnswer) → TakesDefault w vtl flags → InOrder w → defaultWhole (storedIn w vtl flags) (vtlOf vtl) flags gs .whole .status ≡ Ok
-      → defaultCall w vtl flags gs .last .reply ≡ ok (length (ramRuns (entriesIn (storedIn w vtl flags .state)) (overlayIn (w .tables) (vtlOf vtl)) (w .maps)) + 3)
+  pub protection : (buffers : Buffers) (vtl flags : ℕ) (list : List ℕ) (answers : List BackendAnswer) → TakesProtection buffers vtl flags list → protectionWhole buffers (vtlOf vtl) flags list answers .whole .status ≡ Ok
+      → protectionCall buffers vtl flags list answers .last .reply ≡ ok (length (runsOf (pagesOf list)) + 3)
+  pub default : (buffers : Buffers) (vtl flags : ℕ) (answers : List BackendAnswer) → TakesDefault buffers vtl flags → InOrder buffers → defaultWhole (storedIn buffers vtl flags) (vtlOf vtl) flags answers .whole .status ≡ Ok
+      → defaultCall buffers vtl flags answers .last .reply ≡ ok (length (ramRuns (entriesIn (storedIn buffers vtl flags .state)) (overlayIn (buffers .tables) (vtlOf vtl)) (buffers .maps)) + 3)
   -- a known page none, a new one four with new flags and three without
-  pub register-known : (w : Buffers) (vtl p source checked new : ℕ) (gs : List BackendAnswer) → TakesRegister w vtl p source checked new
-      → overlayIn (w .tables) (vtlOf vtl) p ≡ true → registerCall w vtl p source checked new gs .last .reply ≡ ok 0
-  pub register-flags : (w : Buffers) (vtl p source checked new : ℕ) (gs : List BackendAnswer) → TakesRegister w vtl p source checked new
-      → overlayIn (w .tables) (vtlOf vtl) p ≡ false → ltb new flagsEnd ≡ true → newWhole w (vtlOf vtl) p source new gs true .whole .status ≡ Ok
-      → registerCall w vtl p source checked new gs .last .reply ≡ ok 4
-  pub register-none : (w : Buffers) (vtl p source checked new : ℕ) (gs : List BackendAnswer) → TakesRegister w vtl p source checked new
-      → overlayIn (w .tables) (vtlOf vtl) p ≡ false → ltb new flagsEnd ≡ false → newWhole w (vtlOf vtl) p source new gs false .whole .status ≡ Ok
-      → registerCall w vtl p source checked new gs .last .reply ≡ ok 3
+  pub register-known : (buffers : Buffers) (vtl gpn source checked new : ℕ) (answers : List BackendAnswer) → TakesRegister buffers vtl gpn source checked new
+      → overlayIn (buffers .tables) (vtlOf vtl) gpn ≡ true → registerCall buffers vtl gpn source checked new answers .last .reply ≡ ok 0
+  pub register-flags : (buffers : Buffers) (vtl gpn source checked new : ℕ) (answers : List BackendAnswer) → TakesRegister buffers vtl gpn source checked new
+      → overlayIn (buffers .tables) (vtlOf vtl) gpn ≡ false → ltb new flagsEnd ≡ true → newWhole buffers (vtlOf vtl) gpn source new answers true .whole .status ≡ Ok
+      → registerCall buffers vtl gpn source checked new answers .last .reply ≡ ok 4
+  pub register-none : (buffers : Buffers) (vtl gpn source checked new : ℕ) (answers : List BackendAnswer) → TakesRegister buffers vtl gpn source checked new
+      → overlayIn (buffers .tables) (vtlOf vtl) gpn ≡ false → ltb new flagsEnd ≡ false → newWhole buffers (vtlOf vtl) gpn source new answers false .whole .status ≡ Ok
+      → registerCall buffers vtl gpn source checked new answers .last .reply ≡ ok 3
   -- a lowered count none, a removed entry four
-  pub unregister-lowered : (w : Buffers) (vtl p : ℕ) (gs : List BackendAnswer) → TakesUnregister w vtl p
-      → ltb 1 (entryIn (w .tables) (vtlOf vtl) p .«ref_count») ≡ true → unregisterCall w vtl p gs .last .reply ≡ ok 0
-  pub unregister-removed : (w : Buffers) (vtl p : ℕ) (gs : List BackendAnswer) → TakesUnregister w vtl p
-      → ltb 1 (entryIn (w .tables) (vtlOf vtl) p .«ref_count») ≡ false → oldWhole w (vtlOf vtl) p (entryIn (w .tables) (vtlOf vtl) p) gs .whole .status ≡ Ok
-      → unregisterCall w vtl p gs .last .reply ≡ ok 4
+  pub unregister-lowered : (buffers : Buffers) (vtl gpn : ℕ) (answers : List BackendAnswer) → TakesUnregister buffers vtl gpn
+      → ltb 1 (entryIn (buffers .tables) (vtlOf vtl) gpn .«ref_count») ≡ true → unregisterCall buffers vtl gpn answers .last .reply ≡ ok 0
+  pub unregister-removed : (buffers : Buffers) (vtl gpn : ℕ) (answers : List BackendAnswer) → TakesUnregister buffers vtl gpn
+      → ltb 1 (entryIn (buffers .tables) (vtlOf vtl) gpn .«ref_count») ≡ false → oldWhole buffers (vtlOf vtl) gpn (entryIn (buffers .tables) (vtlOf vtl) gpn) answers .whole .status ≡ Ok
+      → unregisterCall buffers vtl gpn answers .last .reply ≡ ok 4
 
 -- ---- the pages that a default change's Protects name, all of them done, the overlays being those of the tables that it leaves: each private RAM page without an overlay, once, ascending
 
 abbrev pub takenRam : List MemoryRangeWithNode → List ℕ → (ℕ → Bool) → ℕ → Bool
-takenRam es private overlay p = isRam es p && isProtected private overlay p
+takenRam entries private overlay gpn = isRam entries gpn && isProtected private overlay gpn
 
-pub record DefaultPages (w : Buffers) (vtl : ℕ) (x : Told) : Type 0 where
-  pub pages : protectedIn (x .asked) ≡ pick (takenRam (entriesIn (w .state)) (w .maps .private) (overlayIn (x .last .buffers .tables) (vtlOf vtl))) (upTo 0 (pageEnd (entriesIn (w .state))))
-  pub ascends : strict true (protectedIn (x .asked)) ≡ true
-  pub visits : (p : ℕ) → among (protectedIn (x .asked)) p ≡ takenRam (entriesIn (w .state)) (w .maps .private) (overlayIn (x .last .buffers .tables) (vtlOf vtl)) p
-  pub overlays : (p : ℕ) → overlayIn (x .last .buffers .tables) (vtlOf vtl) p ≡ overlayIn (w .tables) (vtlOf vtl) p
+pub record DefaultPages (buffers : Buffers) (vtl : ℕ) (told : Told) : Type 0 where
+  pub pages : protectedIn (told .asked) ≡ pick (takenRam (entriesIn (buffers .state)) (buffers .maps .private) (overlayIn (told .last .buffers .tables) (vtlOf vtl))) (upTo 0 (pageEnd (entriesIn (buffers .state))))
+  pub ascends : strict true (protectedIn (told .asked)) ≡ true
+  pub visits : (gpn : ℕ) → among (protectedIn (told .asked)) gpn ≡ takenRam (entriesIn (buffers .state)) (buffers .maps .private) (overlayIn (told .last .buffers .tables) (vtlOf vtl)) gpn
+  pub overlays : (gpn : ℕ) → overlayIn (told .last .buffers .tables) (vtlOf vtl) gpn ≡ overlayIn (buffers .tables) (vtlOf vtl) gpn
 
 abbrev pub DefaultVisits : Type 0
 DefaultVisits =
-    (w : Buffers) (vtl flags : ℕ) (gs : List BackendAnswer) → TakesDefault w vtl flags → InOrder w → defaultWhole (storedIn w vtl flags) (vtlOf vtl) flags gs .whole .status ≡ Ok
-    → DefaultPages w vtl (defaultCall w vtl flags gs)
+    (buffers : Buffers) (vtl flags : ℕ) (answers : List BackendAnswer) → TakesDefault buffers vtl flags → InOrder buffers → defaultWhole (storedIn buffers vtl flags) (vtlOf vtl) flags answers .whole .status ≡ Ok
+    → DefaultPages buffers vtl (defaultCall buffers vtl flags answers)
 
 -- ---- the permission maps page by page, of whole calls on any maps
 
--- a return of ps that failed at place i of its list (16): the page there wasn't processed, those before it were
-pub record DoneBefore (ps places : List ℕ) (i : ℕ) (holds : List ℕ → Type 0) : Type 0 where
+-- a return of `pages` that failed at place i of its list (16): the page there wasn't processed, those before it were
+pub record DoneBefore (pages places : List ℕ) (i : ℕ) (holds : List ℕ → Type 0) : Type 0 where
   pub count : ℕ
-  pub below : count < length ps
+  pub below : count < length pages
   pub place : getD places count 0 ≡ i
-  pub done : holds (take count ps)
+  pub done : holds (take count pages)
 
 pub record PermissionMaps : Type 0 where
-  pub protection : (tracked : Bool) (v : GuestVtl) (f : HvMapGpaFlags) (ps : List ℕ) (m : Maps) (gs : List BackendAnswer) → wholePages tracked v f ps m gs .status ≡ Ok
-      → Leaves tracked v (within (among ps)) f m (wholePages tracked v f ps m gs .maps)
-  pub default : (tracked : Bool) (v : GuestVtl) (f : HvMapGpaFlags) (es : List MemoryRangeWithNode) (overlay : ℕ → Bool) (m : Maps) (gs : List BackendAnswer)
-      → wholeRam tracked v f es overlay m gs .status ≡ Ok → Leaves tracked v (within (takenRam es (m .private) overlay)) f m (wholeRam tracked v f es overlay m gs .maps)
+  pub protection : (tracked : Bool) (vtl : GuestVtl) (flags : HvMapGpaFlags) (pages : List ℕ) (maps : Maps) (answers : List BackendAnswer) → wholePages tracked vtl flags pages maps answers .status ≡ Ok
+      → Leaves tracked vtl (within (among pages)) flags maps (wholePages tracked vtl flags pages maps answers .maps)
+  pub default : (tracked : Bool) (vtl : GuestVtl) (flags : HvMapGpaFlags) (entries : List MemoryRangeWithNode) (overlay : ℕ → Bool) (maps : Maps) (answers : List BackendAnswer)
+      → wholeRam tracked vtl flags entries overlay maps answers .status ≡ Ok → Leaves tracked vtl (within (takenRam entries (maps .private) overlay)) flags maps (wholeRam tracked vtl flags entries overlay maps answers .maps)
   -- a return that ends in Ok or 16 leaves VTL0's default at the pages that were processed
-  pub return-ok : (s : Settings) (ps places : List ℕ) (m : Maps) (gs : List BackendAnswer) → wholeReturn s ps places m gs .status ≡ Ok
-      → PermitsFor (s .tracked) Vtl0 (within (among ps)) (s .defaults .vtl0) (m .permissions) (wholeReturn s ps places m gs .maps .permissions)
-  pub return-16 : (s : Settings) (ps places : List ℕ) (m : Maps) (gs : List BackendAnswer) (code i : ℕ) → wholeReturn s ps places m gs .status ≡ FailedAt code i
-      → DoneBefore ps places i (λ qs. PermitsFor (s .tracked) Vtl0 (within (among qs)) (s .defaults .vtl0) (m .permissions) (wholeReturn s ps places m gs .maps .permissions))
+  pub return-ok : (settings : Settings) (pages places : List ℕ) (maps : Maps) (answers : List BackendAnswer) → wholeReturn settings pages places maps answers .status ≡ Ok
+      → PermitsFor (settings .tracked) Vtl0 (within (among pages)) (settings .defaults .vtl0) (maps .permissions) (wholeReturn settings pages places maps answers .maps .permissions)
+  pub return-16 : (settings : Settings) (pages places : List ℕ) (maps : Maps) (answers : List BackendAnswer) (code i : ℕ) → wholeReturn settings pages places maps answers .status ≡ FailedAt code i
+      → DoneBefore pages places i (λ processed. PermitsFor (settings .tracked) Vtl0 (within (among processed)) (settings .defaults .vtl0) (maps .permissions) (wholeReturn settings pages places maps answers .maps .permissions))
   -- a share clears, at the call, and its Protects write none: under any answers
-  pub share : (s : Settings) (v : GuestVtl) (ps : List ℕ) (end : Status) (m : Maps) (gs : List BackendAnswer)
-      → PermitsFor (s .tracked) v (within (among ps)) noFlags (m .permissions) (wholeShare s v ps end m gs .maps .permissions)
+  pub share : (settings : Settings) (vtl : GuestVtl) (pages : List ℕ) (end : Status) (maps : Maps) (answers : List BackendAnswer)
+      → PermitsFor (settings .tracked) vtl (within (among pages)) noFlags (maps .permissions) (wholeShare settings vtl pages end maps answers .maps .permissions)
 
 -- and of calls as they are made in a layout that fits: there the maps have every page of RAM, and any other page is refused by 7
 
 pub record PermissionsLeft : Type 0 where
-  pub protection : (w : Buffers) (vtl flags : ℕ) (l : List ℕ) (gs : List BackendAnswer) → TakesProtection w vtl flags l → FitLayout w → protectionWhole w (vtlOf vtl) flags l gs .whole .status ≡ Ok
-      → Leaves (trackedIn w) (vtlOf vtl) (all (among (pagesOf l))) (flagsOf flags) (w .maps) (protectionCall w vtl flags l gs .last .buffers .maps)
-  pub default : (w : Buffers) (vtl flags : ℕ) (gs : List BackendAnswer) → TakesDefault w vtl flags → FitLayout w → defaultWhole (storedIn w vtl flags) (vtlOf vtl) flags gs .whole .status ≡ Ok
-      → Leaves (trackedIn w) (vtlOf vtl) (all (takenRam (entriesIn (w .state)) (w .maps .private) (overlayIn (w .tables) (vtlOf vtl)))) (flagsOf flags) (w .maps)
-      (defaultCall w vtl flags gs .last .buffers .maps)
-  pub return-ok : (w : Buffers) (vtl visibility : ℕ) (l : List ℕ) (gs : List BackendAnswer) → TakesVisibility w vtl visibility l → FitLayout w → boolOf visibility ≡ false
-      → wholeOf w (vtlOf vtl) false l gs .status ≡ Ok
-      → PermitsFor (trackedIn w) Vtl0 (all (among (requestedPages w (vtlOf vtl) false l))) (settingsOf (w .state) .defaults .vtl0) (w .maps .permissions)
-      (visibilityCall w vtl visibility l gs .last .buffers .maps .permissions)
-  pub return-16 : (w : Buffers) (vtl visibility : ℕ) (l : List ℕ) (gs : List BackendAnswer) (code i : ℕ) → TakesVisibility w vtl visibility l → FitLayout w → boolOf visibility ≡ false
-      → wholeOf w (vtlOf vtl) false l gs .status ≡ FailedAt code i
-      → DoneBefore (requestedPages w (vtlOf vtl) false l) (requestedPlaces w (vtlOf vtl) false l) i
-      (λ qs. PermitsFor (trackedIn w) Vtl0 (all (among qs)) (settingsOf (w .state) .defaults .vtl0) (w .maps .permissions) (visibilityCall w vtl visibility l gs .last .buffers .maps .permissions))
-  pub share : (w : Buffers) (vtl visibility : ℕ) (l : List ℕ) (gs : List BackendAnswer) → TakesVisibility w vtl visibility l → FitLayout w → boolOf visibility ≡ true
-      → PermitsFor (trackedIn w) (vtlOf vtl) (all (among (requestedPages w (vtlOf vtl) true l))) noFlags (w .maps .permissions)
-      (visibilityCall w vtl visibility l gs .last .buffers .maps .permissions)
+  pub protection : (buffers : Buffers) (vtl flags : ℕ) (list : List ℕ) (answers : List BackendAnswer) → TakesProtection buffers vtl flags list → FitLayout buffers → protectionWhole buffers (vtlOf vtl) flags list answers .whole .status ≡ Ok
+      → Leaves (trackedIn buffers) (vtlOf vtl) (all (among (pagesOf list))) (flagsOf flags) (buffers .maps) (protectionCall buffers vtl flags list answers .last .buffers .maps)
+  pub default : (buffers : Buffers) (vtl flags : ℕ) (answers : List BackendAnswer) → TakesDefault buffers vtl flags → FitLayout buffers → defaultWhole (storedIn buffers vtl flags) (vtlOf vtl) flags answers .whole .status ≡ Ok
+      → Leaves (trackedIn buffers) (vtlOf vtl) (all (takenRam (entriesIn (buffers .state)) (buffers .maps .private) (overlayIn (buffers .tables) (vtlOf vtl)))) (flagsOf flags) (buffers .maps)
+      (defaultCall buffers vtl flags answers .last .buffers .maps)
+  pub return-ok : (buffers : Buffers) (vtl visibility : ℕ) (list : List ℕ) (answers : List BackendAnswer) → TakesVisibility buffers vtl visibility list → FitLayout buffers → boolOf visibility ≡ false
+      → wholeOf buffers (vtlOf vtl) false list answers .status ≡ Ok
+      → PermitsFor (trackedIn buffers) Vtl0 (all (among (requestedPages buffers (vtlOf vtl) false list))) (settingsOf (buffers .state) .defaults .vtl0) (buffers .maps .permissions)
+      (visibilityCall buffers vtl visibility list answers .last .buffers .maps .permissions)
+  pub return-16 : (buffers : Buffers) (vtl visibility : ℕ) (list : List ℕ) (answers : List BackendAnswer) (code i : ℕ) → TakesVisibility buffers vtl visibility list → FitLayout buffers → boolOf visibility ≡ false
+      → wholeOf buffers (vtlOf vtl) false list answers .status ≡ FailedAt code i
+      → DoneBefore (requestedPages buffers (vtlOf vtl) false list) (requestedPlaces buffers (vtlOf vtl) false list) i
+      (λ processed. PermitsFor (trackedIn buffers) Vtl0 (all (among processed)) (settingsOf (buffers .state) .defaults .vtl0) (buffers .maps .permissions) (visibilityCall buffers vtl visibility list answers .last .buffers .maps .permissions))
+  pub share : (buffers : Buffers) (vtl visibility : ℕ) (list : List ℕ) (answers : List BackendAnswer) → TakesVisibility buffers vtl visibility list → FitLayout buffers → boolOf visibility ≡ true
+      → PermitsFor (trackedIn buffers) (vtlOf vtl) (all (among (requestedPages buffers (vtlOf vtl) true list))) noFlags (buffers .maps .permissions)
+      (visibilityCall buffers vtl visibility list answers .last .buffers .maps .permissions)
 
 -- ---- an overlay call whose Protect fails: 16, OperationDenied, one operation; the entries are unchanged; of guest memory (source 0) the permission maps are written, a Dma
 -- page being in none
 
-pub record OverlayFails (w : Buffers) (v : GuestVtl) (f : HvMapGpaFlags) (p source : ℕ) (x : Told) : Type 0 where
-  pub reply : x .last .reply ≡ finished refusal.backendFailed operationDenied 0 1
-  pub tables : x .last .buffers .tables ≡ w .tables
-  pub maps : Leaves (trackedIn w && eqb source 0) v (within (bits.one p)) f (w .maps) (x .last .buffers .maps)
+pub record OverlayFails (buffers : Buffers) (vtl : GuestVtl) (flags : HvMapGpaFlags) (gpn source : ℕ) (told : Told) : Type 0 where
+  pub reply : told .last .reply ≡ finished refusal.backendFailed operationDenied 0 1
+  pub tables : told .last .buffers .tables ≡ buffers .tables
+  pub maps : Leaves (trackedIn buffers && eqb source 0) vtl (within (bits.one gpn)) flags (buffers .maps) (told .last .buffers .maps)
 
 pub record Failures : Type 0 where
-  pub register : (w : Buffers) (vtl p source checked new code k : ℕ) (gs : List BackendAnswer) → TakesRegister w vtl p source checked new
-      → overlayIn (w .tables) (vtlOf vtl) p ≡ false → ltb new flagsEnd ≡ true
-      → OverlayFails w (vtlOf vtl) (flagsOf new) p source (registerCall w vtl p source checked new (Fails code k ∷ gs))
-  pub unregister : (w : Buffers) (vtl p code k : ℕ) (gs : List BackendAnswer) → TakesUnregister w vtl p → ltb 1 (entryIn (w .tables) (vtlOf vtl) p .«ref_count») ≡ false
-      → OverlayFails w (vtlOf vtl) (flagsOf (entryIn (w .tables) (vtlOf vtl) p .«previous_permissions»)) p (entryIn (w .tables) (vtlOf vtl) p .«gpn_source»)
-      (unregisterCall w vtl p (Fails code k ∷ gs))
+  pub register : (buffers : Buffers) (vtl gpn source checked new code processed : ℕ) (answers : List BackendAnswer) → TakesRegister buffers vtl gpn source checked new
+      → overlayIn (buffers .tables) (vtlOf vtl) gpn ≡ false → ltb new flagsEnd ≡ true
+      → OverlayFails buffers (vtlOf vtl) (flagsOf new) gpn source (registerCall buffers vtl gpn source checked new (Fails code processed ∷ answers))
+  pub unregister : (buffers : Buffers) (vtl gpn code processed : ℕ) (answers : List BackendAnswer) → TakesUnregister buffers vtl gpn → ltb 1 (entryIn (buffers .tables) (vtlOf vtl) gpn .«ref_count») ≡ false
+      → OverlayFails buffers (vtlOf vtl) (flagsOf (entryIn (buffers .tables) (vtlOf vtl) gpn .«previous_permissions»)) gpn (entryIn (buffers .tables) (vtlOf vtl) gpn .«gpn_source»)
+      (unregisterCall buffers vtl gpn (Fails code processed ∷ answers))

@@ -18,40 +18,40 @@ use Rattle.protector_state.specs.declared.Reply.{Reply}
 -- ---- the pages of the Protects among replies, in order
 
 abbrev pub isProtect : Reply → Bool
-isProtect r = eqb (r .operation) operation.protect
+isProtect reply = eqb (reply .operation) operation.protect
 
 unfoldable pub protectedIn : List Reply → List ℕ
 protectedIn [] = []
-protectedIn (r ∷ rs) = cond (isProtect r) (upTo (r .first) (r .pages)) [] ++ protectedIn rs
+protectedIn (reply ∷ replies) = cond (isProtect reply) (upTo (reply .first) (reply .pages)) [] ++ protectedIn replies
 
 -- ---- the permission maps
 
--- a map at every page: s at the pages of P, and the bit that it had at any other
+-- a map at every page: the state at the pages of P, and the bit that it had at any other
 abbrev pub Sets : (ℕ → Bool) → Bool → List ℕ → List ℕ → Type 0
-Sets P s old new = (p : ℕ) → bitAt 8 new p ≡ cond (P p) s (bitAt 8 old p)
+Sets P state old new = (gpn : ℕ) → bitAt 8 new gpn ≡ cond (P gpn) state (bitAt 8 old gpn)
 
 -- the pages of P: all of them, or those that a map has
 abbrev pub all : (ℕ → Bool) → List ℕ → ℕ → Bool
-all P m p = P p
+all P map gpn = P gpn
 
 abbrev pub within : (ℕ → Bool) → List ℕ → ℕ → Bool
-within P m p = P p && ltb (p / 8) (length m)
+within P map gpn = P gpn && ltb (gpn / 8) (length map)
 
--- each of the four has its own flag of f at the pages of P
-pub record Permits (P : List ℕ → ℕ → Bool) (f : HvMapGpaFlags) (old new : Permissions) : Type 0 where
-  pub read : Sets (P (old .read)) (f .readable) (old .read) (new .read)
-  pub write : Sets (P (old .write)) (f .writable) (old .write) (new .write)
-  pub kernel : Sets (P (old .kernel)) (f .«kernel_executable») (old .kernel) (new .kernel)
-  pub user : Sets (P (old .user)) (f .«user_executable») (old .user) (new .user)
+-- each of the four has its own of the flags at the pages of P
+pub record Permits (P : List ℕ → ℕ → Bool) (flags : HvMapGpaFlags) (old new : Permissions) : Type 0 where
+  pub read : Sets (P (old .read)) (flags .readable) (old .read) (new .read)
+  pub write : Sets (P (old .write)) (flags .writable) (old .write) (new .write)
+  pub kernel : Sets (P (old .kernel)) (flags .«kernel_executable») (old .kernel) (new .kernel)
+  pub user : Sets (P (old .user)) (flags .«user_executable») (old .user) (new .user)
 
 -- where VTL0's permissions are tracked; of VTL1 or untracked nothing is written
 abbrev pub PermitsFor : Bool → GuestVtl → (List ℕ → ℕ → Bool) → HvMapGpaFlags → Permissions → Permissions → Type 0
-PermitsFor true Vtl0 P f old new = Permits P f old new
-PermitsFor false Vtl0 P f old new = new ≡ old
-PermitsFor tracked Vtl1 P f old new = new ≡ old
+PermitsFor true Vtl0 P flags old new = Permits P flags old new
+PermitsFor false Vtl0 P flags old new = new ≡ old
+PermitsFor tracked Vtl1 P flags old new = new ≡ old
 
 -- and both marks stay as they were
-pub record Leaves (tracked : Bool) (v : GuestVtl) (P : List ℕ → ℕ → Bool) (f : HvMapGpaFlags) (old new : Maps) : Type 0 where
+pub record Leaves (tracked : Bool) (vtl : GuestVtl) (P : List ℕ → ℕ → Bool) (flags : HvMapGpaFlags) (old new : Maps) : Type 0 where
   pub private : new .private ≡ old .private
   pub shared : new .shared ≡ old .shared
-  pub permissions : PermitsFor tracked v P f (old .permissions) (new .permissions)
+  pub permissions : PermitsFor tracked vtl P flags (old .permissions) (new .permissions)

@@ -66,11 +66,11 @@ pub record Changes : Type 0 where
 pub record Limits : Type 0 where
   pub count-65535 : registerOf (counts 65534) 0 5 0 15 16 .reply ≡ finished 0 0 0 0
   pub count-full : registerOf (counts 65535) 0 5 0 15 16 .reply ≡ finished refusal.full (codeOf refusal.full) 0 0
-  pub held-as-listed : (t : List ℕ) (x : Lists) → Holds t x → (v : GuestVtl) (p : ℕ) → heldIn (locksOf t v) p ≡ held (listsAt x v) p
-  pub list-64 : (s t : List ℕ) (vtl : ℕ) (l : List ℕ) → lockRefusal s (length t) vtl l ≡ 0 → (x : Lists) → Holds t x → length (listsAt x (vtlOf vtl)) ≡ 63
-      → total (listsAt x (vtlOf vtl)) + length (pagesOf l) ≤ 1024 → Makes t (withLists x (vtlOf vtl) (listsAt x (vtlOf vtl) ++ (pagesOf l ∷ []))) (lockOf s t vtl l)
-  pub list-65 : (s t : List ℕ) (vtl : ℕ) (l : List ℕ) → lockRefusal s (length t) vtl l ≡ 0 → (x : Lists) → Holds t x → length (listsAt x (vtlOf vtl)) ≡ 64 → lockOf s t vtl l ≡ ended t refusal.full
-  pub pages-1024 : (s t : List ℕ) (vtl : ℕ) (l : List ℕ) → lockRefusal s (length t) vtl l ≡ 0 → (x : Lists) → Holds t x → length (listsAt x (vtlOf vtl)) < 64
-      → total (listsAt x (vtlOf vtl)) + length (pagesOf l) ≡ 1024 → Makes t (withLists x (vtlOf vtl) (listsAt x (vtlOf vtl) ++ (pagesOf l ∷ []))) (lockOf s t vtl l)
-  pub pages-1025 : (s t : List ℕ) (vtl : ℕ) (l : List ℕ) → lockRefusal s (length t) vtl l ≡ 0 → (x : Lists) → Holds t x → total (listsAt x (vtlOf vtl)) + length (pagesOf l) ≡ 1025
-      → lockOf s t vtl l ≡ ended t refusal.full
+  pub held-as-listed : (tables : List ℕ) (lists : Lists) → Holds tables lists → (vtl : GuestVtl) (gpn : ℕ) → heldIn (locksOf tables vtl) gpn ≡ held (listsAt lists vtl) gpn
+  pub list-64 : (state tables : List ℕ) (vtl : ℕ) (list : List ℕ) → lockRefusal state (length tables) vtl list ≡ 0 → (lists : Lists) → Holds tables lists → length (listsAt lists (vtlOf vtl)) ≡ 63
+      → total (listsAt lists (vtlOf vtl)) + length (pagesOf list) ≤ 1024 → Makes tables (withLists lists (vtlOf vtl) (listsAt lists (vtlOf vtl) ++ (pagesOf list ∷ []))) (lockOf state tables vtl list)
+  pub list-65 : (state tables : List ℕ) (vtl : ℕ) (list : List ℕ) → lockRefusal state (length tables) vtl list ≡ 0 → (lists : Lists) → Holds tables lists → length (listsAt lists (vtlOf vtl)) ≡ 64 → lockOf state tables vtl list ≡ ended tables refusal.full
+  pub pages-1024 : (state tables : List ℕ) (vtl : ℕ) (list : List ℕ) → lockRefusal state (length tables) vtl list ≡ 0 → (lists : Lists) → Holds tables lists → length (listsAt lists (vtlOf vtl)) < 64
+      → total (listsAt lists (vtlOf vtl)) + length (pagesOf list) ≡ 1024 → Makes tables (withLists lists (vtlOf vtl) (listsAt lists (vtlOf vtl) ++ (pagesOf list ∷ []))) (lockOf state tables vtl list)
+  pub pages-1025 : (state tables : List ℕ) (vtl : ℕ) (list : List ℕ) → lockRefusal state (length tables) vtl list ≡ 0 → (lists : Lists) → Holds tables lists → total (listsAt lists (vtlOf vtl)) + length (pagesOf list) ≡ 1025
+      → lockOf state tables vtl list ≡ ended tables refusal.full

@@ -22,67 +22,67 @@ pub record Change : Type 0 where
   pub tables : List ℕ
 
 abbrev pub change : Whole → List ℕ → Change
-change w t = record { whole = w; tables = t }
+change call tables = record { whole = call; tables = tables }
 
 -- ---- what ends each of them: one VTL is flushed, the other is the target's
 
 abbrev pub closing : GuestVtl → GuestVtl → List Operation
-closing flushed v = Wait ∷ Flush flushed ∷ TlbWait v ∷ []
+closing flushed vtl = Wait ∷ Flush flushed ∷ TlbWait vtl ∷ []
 
 abbrev pub ended : Maps → List BackendAnswer → Whole
-ended m gs = stands m Ok
+ended maps answers = stands maps Ok
 
 -- ---- a protection or default change: a Protect for each run of pages, and VTL0 is flushed whichever VTL it is for; a failed Protect halts it (20)
 
 abbrev pub protects : GuestVtl → HvMapGpaFlags → PageRun → List Operation
-protects v f r = Protect v f r ∷ []
+protects vtl flags run = Protect vtl flags run ∷ []
 
 abbrev pub runOperations : GuestVtl → HvMapGpaFlags → List PageRun → List Operation
-runOperations v f rs = perRun (protects v f) rs ++ closing Vtl0 v
+runOperations vtl flags runs = perRun (protects vtl flags) runs ++ closing Vtl0 vtl
 
 unfoldable pub wholeRuns : Bool → GuestVtl → HvMapGpaFlags → List PageRun → Maps → List BackendAnswer → Whole
-wholeRuns tracked v f rs m gs = inTurn (protecting tracked) (runOperations v f rs) m gs ended
+wholeRuns tracked vtl flags runs maps answers = inTurn (protecting tracked) (runOperations vtl flags runs) maps answers ended
 
 -- of listed pages: runs of ascending neighbours, in list order
 abbrev pub wholePages : Bool → GuestVtl → HvMapGpaFlags → List ℕ → Maps → List BackendAnswer → Whole
-wholePages tracked v f ps m gs = wholeRuns tracked v f (runsOf ps) m gs
+wholePages tracked vtl flags pages maps answers = wholeRuns tracked vtl flags (runsOf pages) maps answers
 
 -- ---- of all private RAM without an overlay in the target VTL ("Defaults"): entry by entry of the layout, the runs of such pages
 
 -- the pages of an entry, ascending
 abbrev pub entryPages : MemoryRangeWithNode → List ℕ
-entryPages e = upTo (pageUp (e .start)) (pageUp (e .end) - pageUp (e .start))
+entryPages entry = upTo (pageUp (entry .start)) (pageUp (entry .end) - pageUp (entry .start))
 
 -- marked private, and no overlay of the target VTL
 abbrev pub isProtected : List ℕ → (ℕ → Bool) → ℕ → Bool
-isProtected private overlay p = bitAt 8 private p && not (overlay p)
+isProtected private overlay gpn = bitAt 8 private gpn && not (overlay gpn)
 
 unfoldable pub ramRuns : List MemoryRangeWithNode → (ℕ → Bool) → Maps → List PageRun
-ramRuns [] overlay m = []
-ramRuns (e ∷ es) overlay m = runsOf (pick (isProtected (m .private) overlay) (entryPages e)) ++ ramRuns es overlay m
+ramRuns [] overlay maps = []
+ramRuns (entry ∷ entries) overlay maps = runsOf (pick (isProtected (maps .private) overlay) (entryPages entry)) ++ ramRuns entries overlay maps
 
 abbrev pub wholeRam : Bool → GuestVtl → HvMapGpaFlags → List MemoryRangeWithNode → (ℕ → Bool) → Maps → List BackendAnswer → Whole
-wholeRam tracked v f es overlay m gs = wholeRuns tracked v f (ramRuns es overlay m) m gs
+wholeRam tracked vtl flags entries overlay maps answers = wholeRuns tracked vtl flags (ramRuns entries overlay maps) maps answers
 
 -- ---- an overlay call
 
 -- of an entry that is written: its VTL is flushed
 unfoldable pub wholeEntry : Bool → GuestVtl → Maps → List BackendAnswer → Whole
-wholeEntry tracked v m gs = inTurn (protecting tracked) (closing v v) m gs ended
+wholeEntry tracked vtl maps answers = inTurn (protecting tracked) (closing vtl vtl) maps answers ended
 
 -- what its Protect writes before it is asked for: a page that is no guest memory is in no map
 abbrev pub protectingPage : Bool → Bool → GuestVtl → HvMapGpaFlags → ℕ → Maps → Maps
-protectingPage tracked guest v f p m = cond guest (protecting tracked (Protect v f (run p 1)) m) m
+protectingPage tracked guest vtl flags gpn maps = cond guest (protecting tracked (Protect vtl flags (run gpn 1)) maps) maps
 
 -- flags are Protected, and then the entry is written; a failed Protect ends the call (16)
 unfoldable pub wholeOverlay : Bool → Bool → GuestVtl → HvMapGpaFlags → ℕ → Maps → List BackendAnswer → Whole
-wholeOverlay tracked guest v f p m gs =
-    one (Protect v f (run p 1)) (protectingPage tracked guest v f p m) gs
-    (λ gs. wholeEntry tracked v (protectingPage tracked guest v f p m) gs)
-    (λ code k gs. stands (protectingPage tracked guest v f p m) (FailedAt operationDenied 0))
+wholeOverlay tracked guest vtl flags gpn maps answers =
+    one (Protect vtl flags (run gpn 1)) (protectingPage tracked guest vtl flags gpn maps) answers
+    (λ answers. wholeEntry tracked vtl (protectingPage tracked guest vtl flags gpn maps) answers)
+    (λ code processed answers. stands (protectingPage tracked guest vtl flags gpn maps) (FailedAt operationDenied 0))
 
 -- the tables: as they were, until the Protect is done
 abbrev pub onceDone : List BackendAnswer → List ℕ → List ℕ → List ℕ
-onceDone [] t t′ = t
-onceDone (Succeeds ∷ gs) t t′ = t′
-onceDone (Fails code k ∷ gs) t t′ = t
+onceDone [] before after = before
+onceDone (Succeeds ∷ answers) before after = after
+onceDone (Fails code processed ∷ answers) before after = before

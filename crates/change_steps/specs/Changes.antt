@@ -33,64 +33,64 @@ noChange = record { vtl = Vtl0; flush = Vtl0; n = 0; at = 0; flags = 0; previous
 
 -- the change with one operation more, at a place; a count of 64 bits
 abbrev pub counted : Change → ℕ → Change
-counted q a =
+counted change a =
     record {
-      vtl = q .vtl;
-      flush = q .flush;
-      n = q .n;
+      vtl = change .vtl;
+      flush = change .flush;
+      n = change .n;
       at = a;
-      flags = q .flags;
-      previous = q .previous;
-      source = q .source;
-      count = (q .count + 1) % 2 ^ 64;
+      flags = change .flags;
+      previous = change .previous;
+      source = change .source;
+      count = (change .count + 1) % 2 ^ 64;
     }
 
 abbrev pub step : Stage → Change → Answer → PageRun → Entry → ChangeStep
-step g q a r e = record { stage = g; change = q; answer = a; written = r; entry = e }
+step stage change answer run entry = record { stage = stage; change = change; answer = answer; written = run; entry = entry }
 
 -- a Protect; the permission maps of its pages are written before it where they are guest memory of VTL0, and tracked
 abbrev pub writtenBy : Bool → Change → PageRun → PageRun
-writtenBy tracked q r = cond (isVtl0 (q .vtl) && (tracked && eqb (q .source) 0)) r noRun
+writtenBy tracked change run = cond (isVtl0 (change .vtl) && (tracked && eqb (change .source) 0)) run noRun
 
 unfoldable pub protect : Bool → Stage → Change → ℕ → PageRun → ChangeStep
-protect tracked g q a r = step g (counted q a) (Ask (Protect (q .vtl) (flagsOf (q .flags)) r)) (writtenBy tracked q r) Keep
+protect tracked stage change a run = step stage (counted change a) (Ask (Protect (change .vtl) (flagsOf (change .flags)) run)) (writtenBy tracked change run) Keep
 
 -- an operation on no page; the entry of an overlay page is written before it
 unfoldable pub ask : Stage → Change → Operation → Entry → ChangeStep
-ask g q o e = step g (counted q (q .at)) (Ask o) noRun e
+ask stage change operation entry = step stage (counted change (change .at)) (Ask operation) noRun entry
 
 unfoldable pub wait : Change → Entry → ChangeStep
-wait q e = ask at.Wait q Wait e
+wait change entry = ask at.Wait change Wait entry
 
 unfoldable pub finish : Answer → ChangeStep
-finish a = step at.Idle noChange a noRun Keep
+finish answer = step at.Idle noChange answer noRun Keep
 
 -- 20, and 21
 unfoldable pub halt : Change → ChangeStep
-halt q = step at.Halted q (Halted (q .count)) noRun Keep
+halt change = step at.Halted change (Halted (change .count)) noRun Keep
 
 unfoldable pub keep : Stage → Change → ChangeStep
-keep g q = step g q (Refused refusal.nothingAsked) noRun Keep
+keep stage change = step stage change (Refused refusal.nothingAsked) noRun Keep
 
 -- change_vtl_protections, from the run at place a on
 unfoldable pub protectPages : Bool → Change → List ℕ → ℕ → ChangeStep
-protectPages tracked q t a = cond (ltb a (q .n)) (protect tracked at.ProtectPages q a (runAt t (q .n) a)) (wait q Keep)
+protectPages tracked change pages a = cond (ltb a (change .n)) (protect tracked at.ProtectPages change a (runAt pages (change .n) a)) (wait change Keep)
 
 -- change_default_vtl_protections, its next piece; the place is the page after it
 unfoldable pub protectRam : Bool → Change → PageRun → ChangeStep
-protectRam tracked q r = cond (eqb (r .count) 0) (wait q Keep) (protect tracked at.ProtectRam q (r .first + r .count) r)
+protectRam tracked change run = cond (eqb (run .count) 0) (wait change Keep) (protect tracked at.ProtectRam change (run .first + run .count) run)
 
 -- the operation outstanding is done; `next` is the next piece of a default change
 unfoldable pub doneOf : Bool → Stage → Change → List ℕ → PageRun → ChangeStep
-doneOf tracked at.Idle q t next = keep at.Idle q
-doneOf tracked at.Halted q t next = keep at.Halted q
-doneOf tracked at.ProtectPages q t next = protectPages tracked q t (runEnd t (q .n) (q .at))
-doneOf tracked at.ProtectRam q t next = protectRam tracked q next
-doneOf tracked at.ProtectNew q t next = wait q Add
-doneOf tracked at.ProtectOld q t next = wait q Remove
-doneOf tracked at.Wait q t next = ask at.Flush q (Flush (q .flush)) Keep
-doneOf tracked at.Flush q t next = ask at.TlbWait q (TlbWait (q .vtl)) Keep
-doneOf tracked at.TlbWait q t next = finish (Done (q .count))
+doneOf tracked at.Idle change pages next = keep at.Idle change
+doneOf tracked at.Halted change pages next = keep at.Halted change
+doneOf tracked at.ProtectPages change pages next = protectPages tracked change pages (runEnd pages (change .n) (change .at))
+doneOf tracked at.ProtectRam change pages next = protectRam tracked change next
+doneOf tracked at.ProtectNew change pages next = wait change Add
+doneOf tracked at.ProtectOld change pages next = wait change Remove
+doneOf tracked at.Wait change pages next = ask at.Flush change (Flush (change .flush)) Keep
+doneOf tracked at.Flush change pages next = ask at.TlbWait change (TlbWait (change .vtl)) Keep
+doneOf tracked at.TlbWait change pages next = finish (Done (change .count))
 
 -- Wait, Flush and TlbWait: they follow each other, then the call ends; no map and no entry is written (law `flush-done` of `change_writes`)
 abbrev pub isFlushing : Stage → Bool
@@ -118,62 +118,62 @@ flushStage at.TlbWait = at.Idle
 
 -- by the stage that follows, the change that is left and the answer; only Flush, TlbWait and Idle follow
 abbrev pub flushChange : Stage → Change → Change
-flushChange at.Idle q = noChange
-flushChange at.Halted q = noChange
-flushChange at.ProtectPages q = noChange
-flushChange at.ProtectRam q = noChange
-flushChange at.ProtectNew q = noChange
-flushChange at.ProtectOld q = noChange
-flushChange at.Wait q = noChange
-flushChange at.Flush q = counted q (q .at)
-flushChange at.TlbWait q = counted q (q .at)
+flushChange at.Idle change = noChange
+flushChange at.Halted change = noChange
+flushChange at.ProtectPages change = noChange
+flushChange at.ProtectRam change = noChange
+flushChange at.ProtectNew change = noChange
+flushChange at.ProtectOld change = noChange
+flushChange at.Wait change = noChange
+flushChange at.Flush change = counted change (change .at)
+flushChange at.TlbWait change = counted change (change .at)
 
 abbrev pub flushAnswer : Stage → Change → Answer
-flushAnswer at.Idle q = Done (q .count)
-flushAnswer at.Halted q = Done (q .count)
-flushAnswer at.ProtectPages q = Done (q .count)
-flushAnswer at.ProtectRam q = Done (q .count)
-flushAnswer at.ProtectNew q = Done (q .count)
-flushAnswer at.ProtectOld q = Done (q .count)
-flushAnswer at.Wait q = Done (q .count)
-flushAnswer at.Flush q = Ask (Flush (q .flush))
-flushAnswer at.TlbWait q = Ask (TlbWait (q .vtl))
+flushAnswer at.Idle change = Done (change .count)
+flushAnswer at.Halted change = Done (change .count)
+flushAnswer at.ProtectPages change = Done (change .count)
+flushAnswer at.ProtectRam change = Done (change .count)
+flushAnswer at.ProtectNew change = Done (change .count)
+flushAnswer at.ProtectOld change = Done (change .count)
+flushAnswer at.Wait change = Done (change .count)
+flushAnswer at.Flush change = Ask (Flush (change .flush))
+flushAnswer at.TlbWait change = Ask (TlbWait (change .vtl))
 
 -- the operation outstanding failed: an overlay call gives 16
 unfoldable pub failedOf : Stage → Change → ChangeStep
-failedOf at.Idle q = keep at.Idle q
-failedOf at.Halted q = keep at.Halted q
-failedOf at.ProtectPages q = halt q
-failedOf at.ProtectRam q = halt q
-failedOf at.ProtectNew q = finish (Failed operationDenied 0 (q .count))
-failedOf at.ProtectOld q = finish (Failed operationDenied 0 (q .count))
-failedOf at.Wait q = keep at.Wait q
-failedOf at.Flush q = keep at.Flush q
-failedOf at.TlbWait q = keep at.TlbWait q
+failedOf at.Idle change = keep at.Idle change
+failedOf at.Halted change = keep at.Halted change
+failedOf at.ProtectPages change = halt change
+failedOf at.ProtectRam change = halt change
+failedOf at.ProtectNew change = finish (Failed operationDenied 0 (change .count))
+failedOf at.ProtectOld change = finish (Failed operationDenied 0 (change .count))
+failedOf at.Wait change = keep at.Wait change
+failedOf at.Flush change = keep at.Flush change
+failedOf at.TlbWait change = keep at.TlbWait change
 
 -- ---- the calls that are taken
 
 -- a protection change or a default change: VTL0 is flushed, whichever VTL it is for
 abbrev pub changeOf : GuestVtl → ℕ → ℕ → Change
-changeOf v flags n = record { vtl = v; flush = Vtl0; n = n; at = 0; flags = flags; previous = 0; source = 0; count = 0 }
+changeOf vtl flags n = record { vtl = vtl; flush = Vtl0; n = n; at = 0; flags = flags; previous = 0; source = 0; count = 0 }
 
 -- an overlay call: its own VTL is flushed
 abbrev pub overlayOf : GuestVtl → ℕ → ℕ → ℕ → ℕ → Change
-overlayOf v p flags previous source = record { vtl = v; flush = v; n = 0; at = p; flags = flags; previous = previous; source = source; count = 0 }
+overlayOf vtl gpn flags previous source = record { vtl = vtl; flush = vtl; n = 0; at = gpn; flags = flags; previous = previous; source = source; count = 0 }
 
--- of the first n pages of the table
+-- of the first count pages of the table
 abbrev pub startPages : Bool → GuestVtl → ℕ → ℕ → List ℕ → ChangeStep
-startPages tracked v flags n t = protectPages tracked (changeOf v flags n) t 0
+startPages tracked vtl flags count pages = protectPages tracked (changeOf vtl flags count) pages 0
 
 abbrev pub startRam : Bool → GuestVtl → ℕ → PageRun → ChangeStep
-startRam tracked v flags first = protectRam tracked (changeOf v flags 0) first
+startRam tracked vtl flags first = protectRam tracked (changeOf vtl flags 0) first
 
 -- a new overlay page: its new flags are asked for, where they are given (16 where none are); else its current ones stay and it is entered at once
 unfoldable pub startNew : Bool → GuestVtl → ℕ → ℕ → ℕ → ℕ → ChangeStep
-startNew tracked v p source current new =
-    cond (ltb new bits.noFlags) (protect tracked at.ProtectNew (overlayOf v p new current source) p (run p 1))
-    (wait (overlayOf v p current current source) Add)
+startNew tracked vtl gpn source current new =
+    cond (ltb new bits.noFlags) (protect tracked at.ProtectNew (overlayOf vtl gpn new current source) gpn (run gpn 1))
+    (wait (overlayOf vtl gpn current current source) Add)
 
 -- an overlay page unregistered: its previous flags are asked for
 unfoldable pub startOld : Bool → GuestVtl → ℕ → ℕ → ℕ → ChangeStep
-startOld tracked v p previous source = protect tracked at.ProtectOld (overlayOf v p previous previous source) p (run p 1)
+startOld tracked vtl gpn previous source = protect tracked at.ProtectOld (overlayOf vtl gpn previous previous source) gpn (run gpn 1)

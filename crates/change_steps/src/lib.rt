@@ -87,23 +87,23 @@ fn no_change() -> Change
 }
 
 // Whether a Protect writes the permission maps.
-fn is_tracked(tracked: bool, q: Change) -> bool
-    ensures { λ r. ⌜ r ≡ (isVtl0 (q .vtl) && (tracked && eqb (q .source) 0)) ⌝ }
+fn is_tracked(tracked: bool, change: Change) -> bool
+    ensures { λ r. ⌜ r ≡ (isVtl0 (change .vtl) && (tracked && eqb (change .source) 0)) ⌝ }
 {
-    let vtl = q.vtl;
+    let vtl = change.vtl;
     if !permissions::is_vtl0(vtl) {
         return false;
     }
     if !tracked {
         return false;
     }
-    q.source == 0
+    change.source == 0
 }
 
-fn written_by(tracked: bool, q: Change, run: PageRun) -> PageRun
-    ensures { λ r. ⌜ r ≡ writtenBy tracked q run ⌝ }
+fn written_by(tracked: bool, change: Change, run: PageRun) -> PageRun
+    ensures { λ r. ⌜ r ≡ writtenBy tracked change run ⌝ }
 {
-    if is_tracked(tracked, q) {
+    if is_tracked(tracked, change) {
         run
     } else {
         no_run()
@@ -111,50 +111,50 @@ fn written_by(tracked: bool, q: Change, run: PageRun) -> PageRun
 }
 
 // One operation more, at a place.
-fn counted(q: Change, at: u64) -> Change
-    ensures { λ r. ⌜ r ≡ counted q at ⌝ }
+fn counted(change: Change, at: u64) -> Change
+    ensures { λ r. ⌜ r ≡ counted change at ⌝ }
 {
-    let mut next = q;
+    let mut next = change;
     next.at = at;
-    next.count = std::num::wrapping_add_u64(q.count, 1);
+    next.count = std::num::wrapping_add_u64(change.count, 1);
     next
 }
 
 // A Protect is asked for.
-fn protect(tracked: bool, stage: Stage, q: Change, at: u64, run: PageRun) -> ChangeStep
-    ensures { λ r. ⌜ r ≡ protect tracked stage q at run ⌝ }
+fn protect(tracked: bool, stage: Stage, change: Change, at: u64, run: PageRun) -> ChangeStep
+    ensures { λ r. ⌜ r ≡ protect tracked stage change at run ⌝ }
 {
-    let vtl = q.vtl;
+    let vtl = change.vtl;
     ChangeStep {
         stage: stage,
-        change: counted(q, at),
+        change: counted(change, at),
         answer: Answer::Ask(Operation::Protect {
             vtl: vtl,
-            flags: HvMapGpaFlags::from_bits(q.flags),
+            flags: HvMapGpaFlags::from_bits(change.flags),
             run: run,
         }),
-        written: written_by(tracked, q, run),
+        written: written_by(tracked, change, run),
         entry: Entry::Keep,
     }
 }
 
 // An operation on no page is asked for.
-fn ask(stage: Stage, q: Change, operation: Operation, entry: Entry) -> ChangeStep
-    ensures { λ r. ⌜ r ≡ ask stage q operation entry ⌝ }
+fn ask(stage: Stage, change: Change, operation: Operation, entry: Entry) -> ChangeStep
+    ensures { λ r. ⌜ r ≡ ask stage change operation entry ⌝ }
 {
     ChangeStep {
         stage: stage,
-        change: counted(q, q.at),
+        change: counted(change, change.at),
         answer: Answer::Ask(operation),
         written: no_run(),
         entry: entry,
     }
 }
 
-fn wait(q: Change, entry: Entry) -> ChangeStep
-    ensures { λ r. ⌜ r ≡ wait q entry ⌝ }
+fn wait(change: Change, entry: Entry) -> ChangeStep
+    ensures { λ r. ⌜ r ≡ wait change entry ⌝ }
 {
-    ask(Stage::Wait, q, Operation::Wait, entry)
+    ask(Stage::Wait, change, Operation::Wait, entry)
 }
 
 // The call ends.
@@ -170,25 +170,25 @@ fn finish(answer: Answer) -> ChangeStep
     }
 }
 
-fn halt(q: Change) -> ChangeStep
-    ensures { λ r. ⌜ r ≡ halt q ⌝ }
+fn halt(change: Change) -> ChangeStep
+    ensures { λ r. ⌜ r ≡ halt change ⌝ }
 {
     ChangeStep {
         stage: Stage::Halted,
-        change: q,
-        answer: Answer::Halted(q.count),
+        change: change,
+        answer: Answer::Halted(change.count),
         written: no_run(),
         entry: Entry::Keep,
     }
 }
 
 // An answer that isn't taken: the operation is still outstanding.
-fn keep(stage: Stage, q: Change) -> ChangeStep
-    ensures { λ r. ⌜ r ≡ keep stage q ⌝ }
+fn keep(stage: Stage, change: Change) -> ChangeStep
+    ensures { λ r. ⌜ r ≡ keep stage change ⌝ }
 {
     ChangeStep {
         stage: stage,
-        change: q,
+        change: change,
         answer: Answer::Refused(refusal::NOTHING_ASKED),
         written: no_run(),
         entry: Entry::Keep,
@@ -196,55 +196,60 @@ fn keep(stage: Stage, q: Change) -> ChangeStep
 }
 
 // The pages of a table, from the run at a place on.
-fn protect_pages(tracked: bool, q: Change, t: &[u64], at: u64) -> ChangeStep
-    ensures { λ r. ⌜ r ≡ protectPages tracked q (now (t .entry)) at ⌝ }
+fn protect_pages(tracked: bool, change: Change, pages: &[u64], at: u64) -> ChangeStep
+    ensures { λ r. ⌜ r ≡ protectPages tracked change (now (pages .entry)) at ⌝ }
 {
-    if q.n <= at {
-        return wait(q, Entry::Keep);
+    if change.n <= at {
+        return wait(change, Entry::Keep);
     }
     protect(
         tracked,
         Stage::ProtectPages,
-        q,
+        change,
         at,
-        page_list::run_at(t, q.n, at),
+        page_list::run_at(pages, change.n, at),
     )
 }
 
 // A piece of RAM: none where all are done.
-fn protect_ram(tracked: bool, q: Change, piece: PageRun) -> ChangeStep
+fn protect_ram(tracked: bool, change: Change, piece: PageRun) -> ChangeStep
     requires { ⌜ piece .first + piece .count < 2 ^ 64 ⌝ }
-    ensures { λ r. ⌜ r ≡ protectRam tracked q piece ⌝ }
+    ensures { λ r. ⌜ r ≡ protectRam tracked change piece ⌝ }
 {
     if piece.count == 0 {
-        return wait(q, Entry::Keep);
+        return wait(change, Entry::Keep);
     }
     protect(
         tracked,
         Stage::ProtectRam,
-        q,
+        change,
         piece.first + piece.count,
         piece,
     )
 }
 
 // The operation outstanding is done; `next` is the next piece of a default change.
-pub fn done(tracked: bool, stage: Stage, q: Change, t: &[u64], next: PageRun) -> ChangeStep
+pub fn done(tracked: bool, stage: Stage, change: Change, pages: &[u64], next: PageRun) -> ChangeStep
     requires { ⌜ next .first + next .count < 2 ^ 64 ⌝ }
-    ensures { λ r. ⌜ r ≡ doneOf tracked stage q (now (t .entry)) next ⌝ }
+    ensures { λ r. ⌜ r ≡ doneOf tracked stage change (now (pages .entry)) next ⌝ }
 {
-    let vtl = q.vtl;
-    let flush = q.flush;
+    let vtl = change.vtl;
+    let flush = change.flush;
     match stage {
-        Stage::Idle => keep(stage, q),
-        Stage::Halted => keep(stage, q),
-        Stage::ProtectPages => protect_pages(tracked, q, t, request_pages::run_end(t, q.n, q.at)),
-        Stage::ProtectRam => protect_ram(tracked, q, next),
-        Stage::ProtectNew => wait(q, Entry::Add),
-        Stage::ProtectOld => wait(q, Entry::Remove),
-        Stage::Wait => ask(Stage::Flush, q, Operation::Flush(flush), Entry::Keep),
-        Stage::Flush => ask(Stage::TlbWait, q, Operation::TlbWait(vtl), Entry::Keep),
-        Stage::TlbWait => finish(Answer::Done(q.count)),
+        Stage::Idle => keep(stage, change),
+        Stage::Halted => keep(stage, change),
+        Stage::ProtectPages => protect_pages(
+            tracked,
+            change,
+            pages,
+            request_pages::run_end(pages, change.n, change.at),
+        ),
+        Stage::ProtectRam => protect_ram(tracked, change, next),
+        Stage::ProtectNew => wait(change, Entry::Add),
+        Stage::ProtectOld => wait(change, Entry::Remove),
+        Stage::Wait => ask(Stage::Flush, change, Operation::Flush(flush), Entry::Keep),
+        Stage::Flush => ask(Stage::TlbWait, change, Operation::TlbWait(vtl), Entry::Keep),
+        Stage::TlbWait => finish(Answer::Done(change.count)),
     }
 }
 
@@ -283,8 +288,8 @@ pub fn flush_stage(stage: Stage) -> Stage
 }
 
 // The change that is left at the stage that follows.
-pub fn flush_change(stage: Stage, q: Change) -> Change
-    ensures { λ r. ⌜ r ≡ flushChange stage q ⌝ }
+pub fn flush_change(stage: Stage, change: Change) -> Change
+    ensures { λ r. ⌜ r ≡ flushChange stage change ⌝ }
 {
     match stage {
         Stage::Idle => no_change(),
@@ -294,36 +299,36 @@ pub fn flush_change(stage: Stage, q: Change) -> Change
         Stage::ProtectNew => no_change(),
         Stage::ProtectOld => no_change(),
         Stage::Wait => no_change(),
-        Stage::Flush => counted(q, q.at),
-        Stage::TlbWait => counted(q, q.at),
+        Stage::Flush => counted(change, change.at),
+        Stage::TlbWait => counted(change, change.at),
     }
 }
 
 // A failed overlay call: OperationDenied.
-fn denied(q: Change) -> ChangeStep
-    ensures { λ r. ⌜ r ≡ finish (Failed operationDenied 0 (q .count)) ⌝ }
+fn denied(change: Change) -> ChangeStep
+    ensures { λ r. ⌜ r ≡ finish (Failed operationDenied 0 (change .count)) ⌝ }
 {
     finish(Answer::Failed {
         code: code::OPERATION_DENIED,
         index: 0,
-        count: q.count,
+        count: change.count,
     })
 }
 
 // The operation outstanding failed.
-pub fn failed(stage: Stage, q: Change) -> ChangeStep
-    ensures { λ r. ⌜ r ≡ failedOf stage q ⌝ }
+pub fn failed(stage: Stage, change: Change) -> ChangeStep
+    ensures { λ r. ⌜ r ≡ failedOf stage change ⌝ }
 {
     match stage {
-        Stage::Idle => keep(stage, q),
-        Stage::Halted => keep(stage, q),
-        Stage::ProtectPages => halt(q),
-        Stage::ProtectRam => halt(q),
-        Stage::ProtectNew => denied(q),
-        Stage::ProtectOld => denied(q),
-        Stage::Wait => keep(stage, q),
-        Stage::Flush => keep(stage, q),
-        Stage::TlbWait => keep(stage, q),
+        Stage::Idle => keep(stage, change),
+        Stage::Halted => keep(stage, change),
+        Stage::ProtectPages => halt(change),
+        Stage::ProtectRam => halt(change),
+        Stage::ProtectNew => denied(change),
+        Stage::ProtectOld => denied(change),
+        Stage::Wait => keep(stage, change),
+        Stage::Flush => keep(stage, change),
+        Stage::TlbWait => keep(stage, change),
     }
 }
 
@@ -342,11 +347,17 @@ fn overlay_of(vtl: GuestVtl, gpn: u64, flags: u64, previous: u64, source: u64) -
     }
 }
 
-// A protection change of the first n pages of a table.
-pub fn start_pages(tracked: bool, vtl: GuestVtl, flags: u64, n: u64, t: &[u64]) -> ChangeStep
-    ensures { λ r. ⌜ r ≡ startPages tracked vtl flags n (now (t .entry)) ⌝ }
+// A protection change of the first `count` pages of a table.
+pub fn start_pages(
+    tracked: bool,
+    vtl: GuestVtl,
+    flags: u64,
+    count: u64,
+    pages: &[u64],
+) -> ChangeStep
+    ensures { λ r. ⌜ r ≡ startPages tracked vtl flags count (now (pages .entry)) ⌝ }
 {
-    protect_pages(tracked, change_of(vtl, flags, n), t, 0)
+    protect_pages(tracked, change_of(vtl, flags, count), pages, 0)
 }
 
 // A default change, by its first piece.

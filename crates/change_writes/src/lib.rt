@@ -81,14 +81,14 @@ fn add(tables: &mut [u64], change: Change)
     }
 }
 
-fn remove(tables: &mut [u64], q: Change)
+fn remove(tables: &mut [u64], change: Change)
     requires { ⌜ length (now tables) ≡ tablesLen ⌝ }
-    ensures { λ _. ⌜ now (tables .exit) ≡ withOverlays (now (tables .entry)) (q .vtl) (withoutPage (overlaysOf (now (tables .entry)) (q .vtl)) (q .at)) ⌝ }
+    ensures { λ _. ⌜ now (tables .exit) ≡ withOverlays (now (tables .entry)) (change .vtl) (withoutPage (overlaysOf (now (tables .entry)) (change .vtl)) (change .at)) ⌝ }
 {
-    let vtl = q.vtl;
+    let vtl = change.vtl;
     match vtl {
-        GuestVtl::Vtl0 => remove_in(&mut tables[table::OVERLAYS0..table::OVERLAYS1], q.at),
-        GuestVtl::Vtl1 => remove_in(&mut tables[table::OVERLAYS1..table::LOCKS0], q.at),
+        GuestVtl::Vtl0 => remove_in(&mut tables[table::OVERLAYS0..table::OVERLAYS1], change.at),
+        GuestVtl::Vtl1 => remove_in(&mut tables[table::OVERLAYS1..table::LOCKS0], change.at),
     }
 }
 
@@ -178,11 +178,11 @@ fn next_in(private: &[u8], state: &[u64], tables: &[u64]) -> PageRun
     ensures { λ r. ⌜ r .first + r .count < 2 ^ 64 ⌝ }
 {
     let stage = protector_state::change::stage(state);
-    let q = protector_state::change::load(state);
-    let vtl = q.vtl;
+    let change = protector_state::change::load(state);
+    let vtl = change.vtl;
     let overlays = call_refusals::overlays_of(tables, vtl);
     let ram = protector_state::ram_of(state);
-    piece_after(stage, private, overlays, ram, q.at)
+    piece_after(stage, private, overlays, ram, change.at)
 }
 
 // What the answer done leads a change to.
@@ -191,11 +191,11 @@ fn after_done(private: &[u8], state: &[u64], pages: &[u64], tables: &[u64]) -> C
     ensures { λ r. ⌜ r ≡ afterDone (now (private .entry)) (now (state .entry)) (now (pages .entry)) (now (tables .entry)) ⌝ }
     ensures { λ r. ⌜ r .written .first + r .written .count ≤ 2 ^ 64 ⌝ }
 {
-    let set = protector_state::settings(state);
+    let settings = protector_state::settings(state);
     let stage = protector_state::change::stage(state);
-    let q = protector_state::change::load(state);
+    let change = protector_state::change::load(state);
     let next = next_in(private, state, tables);
-    change_steps::done(set.tracked, stage, q, pages, next)
+    change_steps::done(settings.tracked, stage, change, pages, next)
 }
 
 fn after_failed(state: &[u64]) -> ChangeStep
@@ -204,8 +204,8 @@ fn after_failed(state: &[u64]) -> ChangeStep
     ensures { λ r. ⌜ r .written .first + r .written .count ≤ 2 ^ 64 ⌝ }
 {
     let stage = protector_state::change::stage(state);
-    let q = protector_state::change::load(state);
-    change_steps::failed(stage, q)
+    let change = protector_state::change::load(state);
+    change_steps::failed(stage, change)
 }
 
 // What crosses for the stage that follows Wait, Flush or TlbWait.
@@ -233,10 +233,10 @@ fn flush_done(state: &mut [u64]) -> Reply
     ensures { λ _. ⌜ now (state .exit) ≡ withChange (flushStage (stageIn (now (state .entry)))) (flushChange (flushStage (stageIn (now (state .entry)))) (changeIn (now (state .entry)))) (now (state .entry)) ⌝ }
     ensures { λ r. ⌜ r ≡ flushReply (flushStage (stageIn (now (state .entry)))) (changeIn (now (state .entry))) ⌝ }
 {
-    let q = protector_state::change::load(state);
+    let change = protector_state::change::load(state);
     let next = change_steps::flush_stage(protector_state::change::stage(state));
-    protector_state::change::save(state, next, change_steps::flush_change(next, q));
-    flush_reply(next, q)
+    protector_state::change::save(state, next, change_steps::flush_change(next, change));
+    flush_reply(next, change)
 }
 
 // The operation asked for is done.
@@ -260,8 +260,8 @@ pub fn answer_done(
     if change_steps::is_flushing(protector_state::change::stage(state)) {
         return flush_done(state);
     }
-    let set = protector_state::settings(state);
-    let isolation = set.isolation;
+    let settings = protector_state::settings(state);
+    let isolation = settings.isolation;
     let x = after_done(private, state, pages, tables);
     apply_step(read, write, kernel, user, state, tables, isolation, x)
 }
@@ -281,8 +281,8 @@ pub fn answer_failed(
     ensures { λ _. ⌜ now (tables .exit) ≡ entered (afterFailed (now (state .entry)) .entry) (afterFailed (now (state .entry)) .change) (now (tables .entry)) ⌝ }
     ensures { λ r. ⌜ r ≡ flatOf (settingsOf (now (state .entry)) .isolation) (afterFailed (now (state .entry)) .answer) ⌝ }
 {
-    let set = protector_state::settings(state);
-    let isolation = set.isolation;
+    let settings = protector_state::settings(state);
+    let isolation = settings.isolation;
     let x = after_failed(state);
     apply_step(read, write, kernel, user, state, tables, isolation, x)
 }

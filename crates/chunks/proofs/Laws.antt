@@ -40,8 +40,8 @@ pub div-shift : (n g k : ℕ) → k < wordBits → g ≡ (1 * 2 ^ k) % 2 ^ 64 �
 div-shift n g k h e = ap (λ (m : ℕ). n / m) (sym (e ∙ mask wordBits k h))
 
 module _ (n g : ℕ) where
-  pub up-whole : (q : ℕ) → q ≡ n / g → q * g ≡ n → q ≡ up n g
-  up-whole q e h = e ∙ rw (eq-eqb (n % g) 0 (omega (arith, ap (λ (k : ℕ). k * g) e, div-add-mod' n g)))
+  pub up-exact : (q : ℕ) → q ≡ n / g → q * g ≡ n → q ≡ up n g
+  up-exact q e h = e ∙ rw (eq-eqb (n % g) 0 (omega (arith, ap (λ (k : ℕ). k * g) e, div-add-mod' n g)))
 
   module _ (q : ℕ) (e : q ≡ n / g) (h : q * g ≡ n → ⊥) where
     over : n % g ≡ 0 → ⊥
@@ -176,8 +176,8 @@ module _ (al : ℕ) (r : MemoryRange) where
     edge-is =
         ap (λ (t : MemoryRange). cond (empty t) r (cond (eqb (t .start) (r .start)) (cond (eqb (t .end) (r .end)) (range 0 0) (range (t .end) (r .end))) (range (r .start) (t .start)))) (sym e)
 
-    pub edge-whole : p .end ≤ p .start → r ≡ edgeOf al r
-    edge-whole h = sym (edge-is ∙ rw (le-leb (p .end) (p .start) h))
+    pub edge-all : p .end ≤ p .start → r ≡ edgeOf al r
+    edge-all h = sym (edge-is ∙ rw (le-leb (p .end) (p .start) h))
 
     module _ (h : p .start < p .end) where
       pub edge-front : (p .start ≡ r .start → ⊥) → range (r .start) (p .start) ≡ edgeOf al r

@@ -34,17 +34,17 @@ down (suc (suc (suc (suc (suc (suc zero)))))) h = refl
 down (suc (suc (suc (suc (suc (suc (suc zero))))))) h = refl
 down (suc (suc (suc (suc (suc (suc (suc (suc k)))))))) h = absurd (omega arith)
 
-whole-bit : (s : Bool) (m : List ℕ) (p q : ℕ) → p % 8 ≡ 0 → getD m (p / 8) 0 ≡ digit s * 255 → p ≤ q → q < p + 8 → is s m q ≡ true
-whole-bit true m p q e d h g =
+byte-bit : (s : Bool) (m : List ℕ) (p q : ℕ) → p % 8 ≡ 0 → getD m (p / 8) 0 ≡ digit s * 255 → p ≤ q → q < p + 8 → is s m q ≡ true
+byte-bit true m p q e d h g =
     let x : q / 8 ≡ p / 8 = omega arith in
     ap (λ (i : ℕ). bit (getD m i 0) (q % 8)) x ∙ ap (λ (y : ℕ). bit y (q % 8)) d ∙ up (q % 8) (omega arith)
-whole-bit false m p q e d h g =
+byte-bit false m p q e d h g =
     let x : q / 8 ≡ p / 8 = omega arith in
     ap not (ap (λ (i : ℕ). bit (getD m i 0) (q % 8)) x ∙ ap (λ (y : ℕ). bit y (q % 8)) d ∙ down (q % 8) (omega arith))
 
 -- a whole byte passed at one step
-pub whole-span : (s : Bool) (m : List ℕ) (p : ℕ) → p % 8 ≡ 0 → getD m (p / 8) 0 ≡ digit s * 255 → span (is s m) p 8 ≡ 8
-whole-span s m p e d = laws.span-all (is s m) 8 p (λ q h g. whole-bit s m p q e d h g)
+pub byte-span : (s : Bool) (m : List ℕ) (p : ℕ) → p % 8 ≡ 0 → getD m (p / 8) 0 ≡ digit s * 255 → span (is s m) p 8 ≡ 8
+byte-span s m p e d = laws.span-all (is s m) 8 p (λ q h g. byte-bit s m p q e d h g)
 
 pub no-span : (P : ℕ → Bool) (p : ℕ) → span P p 0 ≡ 0
 unfolding span
@@ -61,8 +61,8 @@ abbrev Passed : Bool → List ℕ → ℕ → ℕ → ℕ → Type 0
 Passed s m p end r = (p + r ≤ end) × (span (is s m) p r ≡ r) × (r ≡ 0 → is s m p ≡ false)
 
 -- a whole byte, and all pages past the end of the map
-pub whole-step : (s : Bool) (m : List ℕ) (p end r : ℕ) → p + 8 ≤ end → span (is s m) p 8 ≡ 8 → r ≡ cond (ltb (p / 8) (length m)) 8 (end - p) → Passed s m p end r
-whole-step s m p end r h g e = go (ltb (p / 8) (length m)) refl e
+pub byte-step : (s : Bool) (m : List ℕ) (p end r : ℕ) → p + 8 ≤ end → span (is s m) p 8 ≡ 8 → r ≡ cond (ltb (p / 8) (length m)) 8 (end - p) → Passed s m p end r
+byte-step s m p end r h g e = go (ltb (p / 8) (length m)) refl e
   where
     rest : (s : Bool) → span (is s m) p 8 ≡ 8 → length m ≤ p / 8 → Passed s m p end (end - p)
     rest true d l = absurd (omega (arith, none-set m p l, d))

@@ -1,5 +1,5 @@
 pub mod Spans
-pub mod Whole
+pub mod Pieces
 pub mod Split
 pub mod Bytes
 pub mod Next

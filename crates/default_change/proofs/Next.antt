@@ -12,35 +12,35 @@ use Rattle.layout.proofs.Laws.{next-entry, no-entry}
 use Rattle.page_list.specs.declared.PageRun.{PageRun}
 use Rattle.page_list.specs.Runs.{run}
 use Rattle.default_change.specs.Pieces.{startOf, lenOf, pieceOf, pageUp, pieceIn, nextOf}
-use Rattle.default_change.proofs.Whole as whole
+use Rattle.default_change.proofs.Pieces as pieces
 
 -- ---- between two pages: a gap of n pages from s on has none that F does not hold of, and a run is looked for in it
 module _ (M F : ℕ → Bool) (a end s n : ℕ) (es : s ≡ startOf F a (end - a)) (en : n ≡ lenOf F a (end - a)) (some : a < end) where
   pub gap-fits : s + n ≤ end
-  gap-fits = whole.run-fits F M a end s n es en some
+  gap-fits = pieces.run-fits F M a end s n es en some
 
   pub gap-moves : a < s + n
-  gap-moves = whole.run-moves F M a end s n es en some
+  gap-moves = pieces.run-moves F M a end s n es en some
 
   module _ (r c : ℕ) (er : r ≡ startOf M s (s + n - s)) (ec : c ≡ lenOf M s (s + n - s)) where
     there : r ≡ startOf M s n
-    there = whole.gap-start M s n (s + n) refl r er
+    there = pieces.gap-start M s n (s + n) refl r er
 
     long : c ≡ lenOf M s n
-    long = whole.gap-len M s n (s + n) refl c ec
+    long = pieces.gap-len M s n (s + n) refl c ec
 
     pub between-hit : (c ≡ 0 → ⊥) → run r c ≡ pieceOf (λ q. M q && F q) a end
     between-hit h =
-        ap₂ run (whole.hit-start F M a end s n es en some r c there long h ∙ sym (whole.swap-start M F a (end - a)))
-        (whole.hit-len F M a end s n es en some r c there long h ∙ sym (whole.swap-len M F a (end - a)))
+        ap₂ run (pieces.hit-start F M a end s n es en some r c there long h ∙ sym (pieces.swap-start M F a (end - a)))
+        (pieces.hit-len F M a end s n es en some r c there long h ∙ sym (pieces.swap-len M F a (end - a)))
 
     pub between-miss : c ≡ 0 → pieceOf (λ q. M q && F q) a end ≡ pieceOf (λ q. M q && F q) (s + n) end
     between-miss h =
-        ap₂ run (whole.swap-start M F a (end - a) ∙ whole.miss-start F M a end s n es en some r c there long h ∙ sym (whole.swap-start M F (s + n) (end - (s + n))))
-        (whole.swap-len M F a (end - a) ∙ whole.miss-len F M a end s n es en some r c there long h ∙ sym (whole.swap-len M F (s + n) (end - (s + n))))
+        ap₂ run (pieces.swap-start M F a (end - a) ∙ pieces.miss-start F M a end s n es en some r c there long h ∙ sym (pieces.swap-start M F (s + n) (end - (s + n))))
+        (pieces.swap-len M F a (end - a) ∙ pieces.miss-len F M a end s n es en some r c there long h ∙ sym (pieces.swap-len M F (s + n) (end - (s + n))))
 
 pub between-end : (Q : ℕ → Bool) (a end : ℕ) → end ≤ a → run a 0 ≡ pieceOf Q a end
-between-end Q a end h = ap₂ run (whole.past-start Q a end h) (whole.past-len Q a end h)
+between-end Q a end h = ap₂ run (pieces.past-start Q a end h) (pieces.past-len Q a end h)
 
 -- ---- entry after entry
 module _ (P : ℕ → Bool) (es : List MemoryRangeWithNode) (at i : ℕ) where
@@ -64,6 +64,6 @@ pub piece-low : (P : ℕ → Bool) (a end : ℕ) (r : PageRun) → r ≡ pieceOf
 piece-low P a end r e h =
     let f : r .first ≡ startOf P a (end - a) = ap (λ (x : PageRun). x .first) e in
     let g : r .count ≡ lenOf P a (end - a) = ap (λ (x : PageRun). x .count) e in
-    let w : startOf P a (end - a) + lenOf P a (end - a) ≤ a + (end - a) = whole.piece-within P a (end - a) in
-    let k : lenOf P a (end - a) ≤ end - a = whole.piece-short P a (end - a) in
+    let w : startOf P a (end - a) + lenOf P a (end - a) ≤ a + (end - a) = pieces.piece-within P a (end - a) in
+    let k : lenOf P a (end - a) ≤ end - a = pieces.piece-short P a (end - a) in
     omega (arith, f, g, w, k, h)

@@ -149,11 +149,11 @@ module _ (t : List ℕ) (a k i : ℕ) (found : i ≡ stopAt (outside a k) (overl
   none-there : used t ≤ i → (q : ℕ) → a ≤ q → q < a + k → free t q ≡ true
   none-there h q x y = ap not (overlay-among t q) ∙ none-inside a k (overlayPages t) (omega (arith, found, length-pages t (used t) 1)) q x y
 
-  pub piece-start-whole : used t ≤ i → a ≡ startOf (free t) a k
-  piece-start-whole h = sym (laws.all-start (free t) a k (none-there h))
+  pub piece-start-all : used t ≤ i → a ≡ startOf (free t) a k
+  piece-start-all h = sym (laws.all-start (free t) a k (none-there h))
 
-  pub piece-len-whole : used t ≤ i → k ≡ lenOf (free t) a k
-  piece-len-whole h = sym (laws.all-len (free t) a k (none-there h))
+  pub piece-len-all : used t ≤ i → k ≡ lenOf (free t) a k
+  piece-len-all h = sym (laws.all-len (free t) a k (none-there h))
 
   module _ (below : i < used t) (p : ℕ) (read : p ≡ getD t (1 + 5 * i) 0) where
     short : i < length (overlayPages t)

@@ -19,7 +19,7 @@ use Rattle.page_list.specs.declared.PageRun.{PageRun}
 use Rattle.page_list.specs.Pages.{among, stepsFrom, strict}
 use Rattle.default_change.specs.Pieces.{pageUp, pieceIn, nextOf, wanted}
 use Rattle.default_change.specs.Visit.{upTo, pick, pagesIn, piecesFrom, pieces, wantedBelow, inOneEntry, eachInOne}
-use Rattle.default_change.proofs.Whole as whole
+use Rattle.default_change.proofs.Pieces as pieces
 
 -- ---- the pages of an entry, and of the entries after it
 
@@ -70,25 +70,25 @@ module _ (P : ℕ → Bool) (at : ℕ) where
     long = pageUp (e .end) - max (pageUp (e .start)) at
 
     none-here : pieceIn P e at .count ≡ 0 → (q : ℕ) → at ≤ q → holdsPage e q ≡ true → P q ≡ false
-    none-here z q h g = whole.piece-before P from long q (omega (arith, h, held-from e q g)) (omega (arith, held-from e q g, held-to e q g, h, whole.none-left P from long z))
+    none-here z q h g = pieces.piece-before P from long q (omega (arith, h, held-from e q g)) (omega (arith, held-from e q g, held-to e q g, h, pieces.none-left P from long z))
 
     piece-here : (es : List MemoryRangeWithNode) (b : ℕ) → ordered b (e ∷ es) ≡ true → (pieceIn P e at .count ≡ 0 → ⊥) → Found P (e ∷ es) at (pieceIn P e at)
     unfolding ramByte
     piece-here es b o some =
-        let w : pieceIn P e at .first + pieceIn P e at .count ≤ from + long = whole.piece-within P from long in
-        let s : pieceIn P e at .count ≤ long = whole.piece-short P from long in
+        let w : pieceIn P e at .first + pieceIn P e at .count ≤ from + long = pieces.piece-within P from long in
+        let s : pieceIn P e at .count ≤ long = pieces.piece-short P from long in
         record {
           low = omega arith;
           before = λ q h g m.
               ⊎-elim
-              (λ (d : holdsPage e q ≡ true). whole.piece-before P from long q (omega (arith, h, held-from e q d)) g)
+              (λ (d : holdsPage e q ≡ true). pieces.piece-before P from long q (omega (arith, h, held-from e q d)) g)
               (λ (d : isRam es q ≡ true). let x : e .end ≤ q * 4096 = ram-after (e .end) (q * 4096) es (ordered-cons b e es o .1) d in absurd (some (omega (arith, x, g, w, s))))
               (or-true (holdsPage e q) (isRam es q) m);
           entry = 0;
           there = omega arith;
           within = λ q h g. held-there e q (omega (arith, h)) (omega (arith, h, g, w, s));
-          holds = λ q h g. whole.piece-holds P from long q h g;
-          full = λ d. whole.piece-after P from long (omega (arith, held-to e (pieceIn P e at .first + pieceIn P e at .count) d));
+          holds = λ q h g. pieces.piece-holds P from long q h g;
+          full = λ d. pieces.piece-after P from long (omega (arith, held-to e (pieceIn P e at .first + pieceIn P e at .count) d));
         }
 
   pub next-none : (es : List MemoryRangeWithNode) → nextOf P es at .count ≡ 0 → (q : ℕ) → at ≤ q → isRam es q ≡ true → P q ≡ false
@@ -143,8 +143,8 @@ one-entry P at (e ∷ es) some = go (eqb (pieceIn P e at .count) 0) some (one-en
         || inOneEntry es (cond k (nextOf P es at) (pieceIn P e at))) ≡ true
     go true s more = or-right (in-this (nextOf P es at)) (inOneEntry es (nextOf P es at)) (more s)
     go false s more =
-        let w : pieceIn P e at .first + pieceIn P e at .count ≤ from P at e + long P at e = whole.piece-within P (from P at e) (long P at e) in
-        let x : pieceIn P e at .count ≤ long P at e = whole.piece-short P (from P at e) (long P at e) in
+        let w : pieceIn P e at .first + pieceIn P e at .count ≤ from P at e + long P at e = pieces.piece-within P (from P at e) (long P at e) in
+        let x : pieceIn P e at .count ≤ long P at e = pieces.piece-short P (from P at e) (long P at e) in
         or-left (in-this (pieceIn P e at)) (inOneEntry es (pieceIn P e at))
         (and-true (leb (pageUp (e .start)) (pieceIn P e at .first)) (leb (pieceIn P e at .first + pieceIn P e at .count) (pageUp (e .end)))
         (le-leb (pageUp (e .start)) (pieceIn P e at .first) (omega arith)) (le-leb (pieceIn P e at .first + pieceIn P e at .count) (pageUp (e .end)) (omega (arith, s, w, x))))

@@ -75,7 +75,7 @@ fn is_state(map: &[u8], state: bool, p: u64) -> bool
 }
 
 // Whether the eight pages from p on are a byte before the end, and all have the state.
-fn is_whole(map: &[u8], state: bool, p: u64, end: u64) -> bool
+fn is_alike_byte(map: &[u8], state: bool, p: u64, end: u64) -> bool
     requires { ⌜ p < end ⌝ }
     ensures { λ r. ⌜ (r ≡ true → (p + 8 ≤ end) × (span (is state (now (map .entry))) p 8 ≡ 8)) ⌝ }
 {
@@ -89,7 +89,7 @@ fn is_whole(map: &[u8], state: bool, p: u64, end: u64) -> bool
 }
 
 // How many pages are passed where the eight of a byte have the state: these, or all that are left where the byte is past the map.
-fn whole_step(map: &[u8], p: u64, end: u64) -> u64
+fn byte_step(map: &[u8], p: u64, end: u64) -> u64
     requires { ⌜ p < end ⌝ }
     ensures { λ r. ⌜ r ≡ cond (ltb (p / 8) (length (now (map .entry)))) 8 (end - p) ⌝ }
 {
@@ -101,8 +101,8 @@ fn step(map: &[u8], state: bool, p: u64, end: u64) -> u64
     requires { ⌜ p < end ⌝ }
     ensures { λ r. ⌜ (p + r ≤ end) × (span (is state (now (map .entry))) p r ≡ r) × (r ≡ 0 → is state (now (map .entry)) p ≡ false) ⌝ }
 {
-    if is_whole(map, state, p, end) {
-        return whole_step(map, p, end);
+    if is_alike_byte(map, state, p, end) {
+        return byte_step(map, p, end);
     }
     if is_state(map, state, p) {
         return 1;

@@ -13,8 +13,8 @@ pub answered : {w v : Buffers} {a o : Observed} (h : History w a v o) → Answer
 unfolding Answered
 answered none = tt
 answered (call h c r m) = (answered h, is m)
-answered (callWithOtherLengths {u} {x} h c r m s) = (answered h, is m, ap (λ (X : Effect (Result c)). X .buffers) (is m) ∙ other-lengths-keeps c u x s)
-answered (refusedBuild {u} {x} {y} h ram i t l r m f) = (answered h, build-is m, build-keeps x y ram i t l r (build-is m) f)
+answered (callWithOtherLengths {left = u} {lent = x} h c r m s) = (answered h, is m, ap (λ (X : Effect (Result c)). X .buffers) (is m) ∙ other-lengths-keeps c u x s)
+answered (refusedBuild {left = u} {lent = x} {after = y} h ram i t l r m f) = (answered h, build-is m, build-keeps x y ram i t l r (build-is m) f)
 
 pub composed : {w v : Buffers} {a o : Observed} (h : History w a v o) → v ≡ leaves h
 unfolding leaves

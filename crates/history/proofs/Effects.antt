@@ -37,7 +37,8 @@ use Rattle.call_refusals.specs.Refusals.{visibilityRefusal, answerRefusal}
 use Rattle.protection_entries.specs.Calls.{protectionRefusal, protectionTaken, protectionOf, defaultRefusal, stored, barred, renewedIn, firstPiece, defaultStarted, defaultTaken, defaultOf}
 use Rattle.overlay_refusals.specs.Refusals.{unregisterRefusal, registerRefusal}
 use Rattle.overlay_entries.specs.Calls.{currentIn, unregisterOf, registerOf}
-use Rattle.overlay_entries.proofs.Claims.{overlays-written, register-known, unregister-lowers}
+use Rattle.overlay_entries.proofs.Claims.{register-known, unregister-lowers}
+use Rattle.protector.proofs.Tables.{overlays-written}
 use Rattle.overlay_entries.proofs.Steps.{entered-last, taken-out, register-enters, register-protects, unregister-restores}
 use Rattle.lock_entries.specs.Calls.{lockRefusal, lockOf, unlockOf}
 use Rattle.lock_entries.specs.Lists.{Lists, lists, listsAt, withLists, Makes}

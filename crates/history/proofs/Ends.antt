@@ -51,8 +51,8 @@ answer-sum l k u v false f g h = add (leftIn v) (subst (λ (v : Buffers). leftIn
 sum-falls : {w v : Buffers} {a o : Observed} (h : Trace w a v o) → Falls h → Meanwhile h → leftIn v + takenIn h ≤ leftIn w
 unfolding Falls Meanwhile takenIn
 sum-falls start f m = omega arith
-sum-falls {w} (answer {u} {v} h g b) f m = answer-sum (leftIn w) (takenIn h) u v b (f .1) (f .2) (sum-falls h (f .0) m)
-sum-falls {w} (other {u} {v} h) f m = subst (λ (v : Buffers). leftIn v + takenIn h ≤ leftIn w) (sym (f .1 (m .1))) (sum-falls h (f .0) (m .0))
+sum-falls {w} (answer {left = u} {after = v} h g b) f m = answer-sum (leftIn w) (takenIn h) u v b (f .1) (f .2) (sum-falls h (f .0) m)
+sum-falls {w} (other {left = u} {after = v} h) f m = subst (λ (v : Buffers). leftIn v + takenIn h ≤ leftIn w) (sym (f .1 (m .1))) (sum-falls h (f .0) (m .0))
 
 idle-at-none : (v : Buffers) → leftIn v ≤ 0 → underWay v ≡ false
 unfolding afterAll takenOf
@@ -62,7 +62,7 @@ idle-at-none v h = claims.ends v [] h
 all-taken : {w v : Buffers} {a o : Observed} (h : Trace w a v o) → Falls h → Meanwhile h → isWaiting o ≡ true → heardIn h ≡ takenIn h
 unfolding Falls Meanwhile takenIn heardIn
 all-taken start f m e = refl
-all-taken (answer {u} {v} {o} {p} h g b) f m e =
+all-taken (answer {left = u} {after = v} {seen = o} {next = p} h g b) f m e =
     let before : isWaiting o ≡ true = f .3 e in
     ap₂ (λ (c : Bool) (n : ℕ). cond c 1 0 + n) (ap (λ (x : Bool). b || not x) before ∙ or-false b) (all-taken h (f .0) m before)
   where

@@ -85,12 +85,12 @@ module _ (es : List MemoryRangeWithNode) {w : Buffers} {a : Observed} (k : Stand
   pub steps-fall : {v : Buffers} {o : Observed} (h : History w a v o) → Falls (traceOf h)
   unfolding traceOf Falls
   steps-fall none = tt
-  steps-fall (call {u} h (Write d) r m) = (steps-fall h, λ b. ap (λ (X : Effect Reply). X .buffers) (is m) ∙ busy-no-effect d u (waiting h b) .keeps)
+  steps-fall (call {left = u} h (Write d) r m) = (steps-fall h, λ b. ap (λ (X : Effect Reply). X .buffers) (is m) ∙ busy-no-effect d u (waiting h b) .keeps)
   steps-fall (call h (Read q) r m) = (steps-fall h, λ b. ap (λ (X : Effect (Result (Read q))). X .buffers) (is m))
-  steps-fall (call {u} {v} {o} h (Answer g) r m) =
+  steps-fall (call {left = u} {after = v} {seen = o} h (Answer g) r m) =
       let f = answer-falls es u o (at-stop h) g v r (answer-is m) in (steps-fall h, f .0, f .1, answer-begins es u o (at-stop h) g v r _ (answer-is m) (at-stop (call h (Answer g) r m)))
   steps-fall (callWithOtherLengths h (Write d) r m s) = (steps-fall h, λ b. refl)
   steps-fall (callWithOtherLengths h (Read q) r m s) = (steps-fall h, λ b. refl)
-  steps-fall (callWithOtherLengths {u} {x} {y} {o} h (Answer g) r m s) =
+  steps-fall (callWithOtherLengths {left = u} {lent = x} {after = y} {seen = o} h (Answer g) r m s) =
       let f = other-lengths-falls es u o (at-stop h) x y g r s (answer-is m) in (steps-fall h, f .0, f .1, other-lengths-begins es u o (at-stop h) _ (at-stop (callWithOtherLengths h (Answer g) r m s)))
   steps-fall (refusedBuild h ram i t l r m f) = (steps-fall h, λ b. refl)

@@ -69,14 +69,14 @@ follow-taken X (g₀ ∷ gs) g t = go (takenBy g₀ (X .buffers)) t (λ t. follo
 
 unfoldable Goes : {w v : Buffers} {a o : Observed} → Trace w a v o → Type 0
 Goes start = Unit {0}
-Goes (answer {u} {v} {o} {p} h g b) = Goes h × (b ≡ true → (takenBy g u ≡ true) × (given v (p .op) ≡ answerOf g u)) × (b ≡ false → (v ≡ u) × (p .op ≡ o .op))
-Goes (other {u} {v} {o} {p} h) = Goes h × (isWaiting o ≡ true → (v ≡ u) × (p .op ≡ o .op))
+Goes (answer {left = u} {after = v} {seen = o} {next = p} h g b) = Goes h × (b ≡ true → (takenBy g u ≡ true) × (given v (p .op) ≡ answerOf g u)) × (b ≡ false → (v ≡ u) × (p .op ≡ o .op))
+Goes (other {left = u} {after = v} {seen = o} {next = p} h) = Goes h × (isWaiting o ≡ true → (v ≡ u) × (p .op ≡ o .op))
 
 -- so the calls tell what following the answers does
 told-follows : {w v : Buffers} {a o : Observed} (X : Outcome) (h : Trace w a v o) → Goes h → Meanwhile h → given w (a .op) ≡ X → toldIn h ≡ follow X (givenIn h)
 unfolding Goes Meanwhile givenIn askedIn follow
 told-follows X start f m e = ap (λ (X : Outcome). record { asked = asksIn (X .reply); last = X }) e
-told-follows X (answer {u} {v} {o} {p} h g b) f m e = go (told-follows X h (f .0) m e) b (f .1) (f .2)
+told-follows X (answer {left = u} {after = v} {seen = o} {next = p} h g b) f m e = go (told-follows X h (f .0) m e) b (f .1) (f .2)
   where
     go : toldIn h ≡ follow X (givenIn h) → (b : Bool) → (b ≡ true → (takenBy g u ≡ true) × (given v (p .op) ≡ answerOf g u)) → (b ≡ false → (v ≡ u) × (p .op ≡ o .op))
         → record { asked = askedIn h ++ cond b (asksIn (p .op)) []; last = given v (p .op) } ≡ follow X (givenIn h ++ cond b (g ∷ []) [])
@@ -90,7 +90,7 @@ told-follows X (answer {u} {v} {o} {p} h g b) f m e = go (told-follows X h (f .0
         ap₂ (λ (l : List Reply) (Z : Outcome). record { asked = l; last = Z }) (append-nil (askedIn h)) (ap₂ (λ (v : Buffers) (r : Reply). given v r) (t .0) (t .1))
         ∙ before
         ∙ sym (ap (λ (gs : List BackendAnswer). follow X gs) (append-nil (givenIn h)))
-told-follows X (other {u} {v} {o} {p} h) f m e =
+told-follows X (other {left = u} {after = v} {seen = o} {next = p} h) f m e =
     let t = f .1 (m .1) in
     ap (λ (Z : Outcome). record { asked = askedIn h; last = Z }) (ap₂ (λ (v : Buffers) (r : Reply). given v r) (t .0) (t .1)) ∙ told-follows X h (f .0) (m .0) e
 
@@ -113,7 +113,7 @@ module _ (es : List MemoryRangeWithNode) {w : Buffers} {a : Observed} (k : Stand
   steps-go : {v : Buffers} {o : Observed} (h : History w a v o) → Goes (traceOf h)
   unfolding traceOf Goes
   steps-go none = tt
-  steps-go (call {u} {v} {o} h (Write d) r m) = (
+  steps-go (call {left = u} {after = v} {seen = o} h (Write d) r m) = (
     steps-go h,
     λ b. (
       ap (λ (X : Effect Reply). X .buffers) (is m) ∙ busy-no-effect d u (waiting es k h b) .keeps,
@@ -121,13 +121,13 @@ module _ (es : List MemoryRangeWithNode) {w : Buffers} {a : Observed} (k : Stand
     ),
   )
   steps-go (call h (Read q) r m) = (steps-go h, λ b. (ap (λ (X : Effect (Result (Read q))). X .buffers) (is m), refl))
-  steps-go (call {u} {v} {o} h (Answer g) r m) = let f = answer-goes es u o (at-stop es k h) g v r (answer-is m) in (steps-go h, f .0, f .1)
-  steps-go (callWithOtherLengths {u} {x} {y} {o} h (Write d) r m s) = (
+  steps-go (call {left = u} {after = v} {seen = o} h (Answer g) r m) = let f = answer-goes es u o (at-stop es k h) g v r (answer-is m) in (steps-go h, f .0, f .1)
+  steps-go (callWithOtherLengths {left = u} {lent = x} {after = y} {seen = o} h (Write d) r m s) = (
     steps-go h,
     λ b. (refl, ap (λ (X : Effect Reply). seesWriter d (X .answer) (X .buffers .pages) o .op) (is m) ∙ ap (λ (p : Observed). p .op) (other-lengths-unseen (Write d) u x o (at-stop es k h .halts) s)),
   )
   steps-go (callWithOtherLengths h (Read q) r m s) = (steps-go h, λ b. (refl, refl))
-  steps-go (callWithOtherLengths {u} {x} {y} {o} h (Answer g) r m s) =
+  steps-go (callWithOtherLengths {left = u} {lent = x} {after = y} {seen = o} h (Answer g) r m s) =
       let f = untaken-goes es u o (at-stop es k h) g r (y .pages) (ap (λ (X : Outcome). isTaken o (X .reply)) (answer-is m) ∙ other-lengths-untaken u x s o (at-stop es k h .halts) g) in (steps-go h, f .0, f .1)
   steps-go (refusedBuild h ram i t l r m f) = (steps-go h, λ b. (refl, refl))
 
@@ -299,30 +299,30 @@ module _ (es : List MemoryRangeWithNode) {w : Buffers} {a : Observed} (k : Stand
   begun-open : {x : Buffers} {p : Observed} (h : History w a x p) → Open (begunIn h)
   unfolding begunIn traceOf Meanwhile Falls
   begun-open none = free
-  begun-open (call {u} {v} {o} h (Write d) r m) = go (begun-open h) (asks r) refl (isWaiting o) refl
+  begun-open (call {left = u} {after = v} {seen = o} h (Write d) r m) = go (begun-open h) (asks r) refl (isWaiting o) refl
     where
       go : Open (begunIn h) → (b : Bool) → asks r ≡ b → (c : Bool) → isWaiting o ≡ c → Open (cond b (since h d r m none) (cond c (thenCall (begunIn h) (Write d) r m) nothing))
       go f true e c i = (e, tt)
       go f false e true i = open-do (begunIn h) f i d r m
       go f false e false i = ap isWaiting (silent-seen d r e (v .pages) o) ∙ i
-  begun-open (call {u} {v} {o} h (Read q) r m) = go (begun-open h) (isWaiting o) refl
+  begun-open (call {left = u} {after = v} {seen = o} h (Read q) r m) = go (begun-open h) (isWaiting o) refl
     where
       go : Open (begunIn h) → (c : Bool) → isWaiting o ≡ c → Open (cond c (thenCall (begunIn h) (Read q) r m) nothing)
       go f true i = open-read (begunIn h) f i q r m
       go f false i = i
   begun-open (call h (Answer g) r m) = open-answer (begunIn h) (begun-open h) g r m (steps-fall es k (call h (Answer g) r m) .3)
-  begun-open (callWithOtherLengths {u} {x} {y} {o} h (Write d) r m s) = go (begun-open h) (isWaiting o) refl
+  begun-open (callWithOtherLengths {left = u} {lent = x} {after = y} {seen = o} h (Write d) r m s) = go (begun-open h) (isWaiting o) refl
     where
       go : Open (begunIn h) → (c : Bool) → isWaiting o ≡ c → Open (cond c (thenCallWithOtherLengths (begunIn h) (Write d) r m s) nothing)
       go f true i = other-lengths-do (begunIn h) f i d r m s
       go f false i = at-stop es k (callWithOtherLengths h (Write d) r m s) .waits ∙ sym (at-stop es k h .waits) ∙ i
-  begun-open (callWithOtherLengths {u} {x} {y} {o} h (Read q) r m s) = go (begun-open h) (isWaiting o) refl
+  begun-open (callWithOtherLengths {left = u} {lent = x} {after = y} {seen = o} h (Read q) r m s) = go (begun-open h) (isWaiting o) refl
     where
       go : Open (begunIn h) → (c : Bool) → isWaiting o ≡ c → Open (cond c (thenCallWithOtherLengths (begunIn h) (Read q) r m s) nothing)
       go f true i = other-lengths-read (begunIn h) f i q r m s
       go f false i = i
   begun-open (callWithOtherLengths h (Answer g) r m s) = other-lengths-answer (begunIn h) (begun-open h) g r m s (steps-fall es k (callWithOtherLengths h (Answer g) r m s) .3)
-  begun-open (refusedBuild {u} {x} {y} {o} h ram i t l r m n) = go (begun-open h) (isWaiting o) refl
+  begun-open (refusedBuild {left = u} {lent = x} {after = y} {seen = o} h ram i t l r m n) = go (begun-open h) (isWaiting o) refl
     where
       go : Open (begunIn h) → (c : Bool) → isWaiting o ≡ c → Open (cond c (thenBuild (begunIn h) ram i t l r m n) nothing)
       go f true e = other-lengths-build (begunIn h) f e ram i t l r m n
@@ -330,7 +330,7 @@ module _ (es : List MemoryRangeWithNode) {w : Buffers} {a : Observed} (k : Stand
 
   open-asked : {x : Buffers} {p : Observed} (b : Begun w a x p) → Open b → AskedAt b
   open-asked nothing f = f
-  open-asked (since {u} {v} {o} g d r m h) f = whole-from m (f .0) o es (at-stop es k g) order h (f .1)
+  open-asked (since {left = u} {after = v} {earlier = o} g d r m h) f = whole-from m (f .0) o es (at-stop es k g) order h (f .1)
 
   pub asked-from : {x : Buffers} {p : Observed} (h : History w a x p) → Asked h
   unfolding Asked

@@ -39,9 +39,9 @@ pub record Keeps (K : Buffers → Observed → Type 0) : Type 0 where
 module _ (K : Buffers → Observed → Type 0) (f : Keeps K) where
   pub history-keeps : {w v : Buffers} {a o : Observed} → History w a v o → K w a → K v o
   history-keeps none k = k
-  history-keeps (call {u} {v} {o} h c r m) k =
+  history-keeps (call {left = u} {after = v} {seen = o} h c r m) k =
       subst (λ (X : Effect (Result c)). K (X .buffers) (sees c (X .answer) (X .buffers .pages) o)) (sym (is m)) (f .step c u o (history-keeps h k))
-  history-keeps (callWithOtherLengths {u} {x} {y} {o} h c r m s) k =
+  history-keeps (callWithOtherLengths {left = u} {lent = x} {after = y} {seen = o} h c r m s) k =
       subst (λ (p : Observed). K u p)
       (sym (ap (λ (X : Effect (Result c)). sees c (X .answer) (X .buffers .pages) o) (is m) ∙ other-lengths-unseen c u x o (f .halts u o (history-keeps h k)) s)) (history-keeps h k)
   history-keeps (refusedBuild h ram i t l r m n) k = history-keeps h k

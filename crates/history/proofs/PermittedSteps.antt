@@ -23,7 +23,7 @@ use Rattle.page_list.proofs.RunLaws.{run-none}
 use Rattle.request_pages.specs.Request.{runEnd}
 use Rattle.request_pages.proofs.Runs.{end-le, run-places}
 use Rattle.default_change.specs.Pieces.{pageUp, pieceIn, nextOf}
-use Rattle.default_change.proofs.Whole as pieces
+use Rattle.default_change.proofs.Pieces as pieces
 use Rattle.visibility_steps.specs.declared.Phase.{Phase}
 use Rattle.visibility_steps.specs.declared.Phase.the-variants as at
 use Rattle.visibility_steps.specs.declared.Settings.{Settings}

@@ -58,16 +58,16 @@ either-parts l false b b′ e f = f
 pub begun-parts : {w x : Buffers} {a p : Observed} (h : History w a x p) → Parts (eventsIn h) (begunIn h)
 unfolding begunIn eventsIn
 begun-parts none = tt
-begun-parts (call {u} {v} {o} h (Write d) r m) =
+begun-parts (call {left = u} {after = v} {seen = o} h (Write d) r m) =
     either-parts _ (asks r) (since h d r m none) _ refl (either-parts _ (isWaiting o) _ nothing (call-parts (eventsIn h) (begunIn h) (begun-parts h) (Write d) r m) tt)
-begun-parts (call {u} {v} {o} h (Read q) r m) = either-parts _ (isWaiting o) _ nothing (call-parts (eventsIn h) (begunIn h) (begun-parts h) (Read q) r m) tt
+begun-parts (call {left = u} {after = v} {seen = o} h (Read q) r m) = either-parts _ (isWaiting o) _ nothing (call-parts (eventsIn h) (begunIn h) (begun-parts h) (Read q) r m) tt
 begun-parts (call h (Answer g) r m) = call-parts (eventsIn h) (begunIn h) (begun-parts h) (Answer g) r m
-begun-parts (callWithOtherLengths {u} {x} {y} {o} h (Write d) r m s) = either-parts _ (isWaiting o) _ nothing (other-lengths-parts (eventsIn h) (begunIn h) (begun-parts h) (Write d) r m s) tt
-begun-parts (callWithOtherLengths {u} {x} {y} {o} h (Read q) r m s) = either-parts _ (isWaiting o) _ nothing (other-lengths-parts (eventsIn h) (begunIn h) (begun-parts h) (Read q) r m s) tt
+begun-parts (callWithOtherLengths {left = u} {lent = x} {after = y} {seen = o} h (Write d) r m s) = either-parts _ (isWaiting o) _ nothing (other-lengths-parts (eventsIn h) (begunIn h) (begun-parts h) (Write d) r m s) tt
+begun-parts (callWithOtherLengths {left = u} {lent = x} {after = y} {seen = o} h (Read q) r m s) = either-parts _ (isWaiting o) _ nothing (other-lengths-parts (eventsIn h) (begunIn h) (begun-parts h) (Read q) r m s) tt
 begun-parts (callWithOtherLengths h (Answer g) r m s) = other-lengths-parts (eventsIn h) (begunIn h) (begun-parts h) (Answer g) r m s
-begun-parts (refusedBuild {u} {x} {y} {o} h ram i t k r m f) = either-parts _ (isWaiting o) _ nothing (build-parts (eventsIn h) (begunIn h) (begun-parts h) ram i t k r m f) tt
+begun-parts (refusedBuild {left = u} {lent = x} {after = y} {seen = o} h ram i t k r m f) = either-parts _ (isWaiting o) _ nothing (build-parts (eventsIn h) (begunIn h) (begun-parts h) ram i t k r m f) tt
 
 -- the one of eight pages of RAM, where page 3 is shared
-pub share8-begun : begunIn {a = unseen} (call none sharing8 (asking8 .reply) share8) ≡ since none (Visibility 0 1 (page 3 [])) (asking8 .reply) share8 none
+pub share8-begun : begunIn {before = unseen} (call none sharing8 (asking8 .reply) share8) ≡ since none (Visibility 0 1 (page 3 [])) (asking8 .reply) share8 none
 unfolding begunIn
 share8-begun = ap (λ (b : Bool). cond b (since none (Visibility 0 1 (page 3 [])) (asking8 .reply) share8 none) nothing) share8-asks

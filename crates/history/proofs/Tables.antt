@@ -32,7 +32,7 @@ use Rattle.protector_state.specs.State.{withRequest}
 use Rattle.protector_state.specs.Changing.{stageOf, stageIn, isChanging, changeIn, withChange}
 use Rattle.call_refusals.specs.Buffers.{overlaysOf, statusIn}
 use Rattle.protector.specs.Writes.{withOverlays, entered}
-use Rattle.overlay_entries.proofs.Claims.{overlays-written, locks-kept, vtl1-kept, vtl0-kept}
+use Rattle.protector.proofs.Tables.{overlays-written, locks-kept, vtl1-kept, vtl0-kept}
 use Rattle.history.specs.Tables.{Overlays, Locked, Tables, New, Old, Pending, entryFor, PendingIn}
 use Rattle.history.proofs.Bits.{clash}
 use Rattle.history.proofs.Lengths.{replaced-long}

@@ -9,17 +9,17 @@ use Rattle.history.specs.Call.{effect, gives}
 use Rattle.history.specs.History.{History, none, call, callWithOtherLengths, refusedBuild}
 
 abbrev pub given : Buffers → Reply → Outcome
-given v r = record { buffers = v; reply = r }
+given buffers reply = record { buffers = buffers; reply = reply }
 
-unfoldable pub Answered : {w v : Buffers} {a o : Observed} → History w a v o → Type 0
+unfoldable pub Answered : {first final : Buffers} {before seen : Observed} → History first before final seen → Type 0
 Answered none = Unit {0}
-Answered (call {u} {v} h c r m) = Answered h × (effect v r ≡ gives c u)
-Answered (callWithOtherLengths {u} {x} {y} h c r m s) = Answered h × (effect y r ≡ gives c x) × (y ≡ x)
-Answered (refusedBuild {u} {x} {y} h ram isolation tracked release r m f) = Answered h × (given y r ≡ buildOf x ram isolation tracked release) × (y ≡ x)
+Answered (call {left} {after} h c r m) = Answered h × (effect after r ≡ gives c left)
+Answered (callWithOtherLengths {left} {lent} {after} h c r m s) = Answered h × (effect after r ≡ gives c lent) × (after ≡ lent)
+Answered (refusedBuild {left} {lent} {after} h ram isolation tracked release r m f) = Answered h × (given after r ≡ buildOf lent ram isolation tracked release) × (after ≡ lent)
 
--- the definitions' steps one after another: what a list of calls from w leaves
-unfoldable pub leaves : {w v : Buffers} {a o : Observed} → History w a v o → Buffers
-leaves {w} none = w
+-- the definitions' steps one after another: what a list of calls from the first buffers leaves
+unfoldable pub leaves : {first final : Buffers} {before seen : Observed} → History first before final seen → Buffers
+leaves {first} none = first
 leaves (call h c r m) = gives c (leaves h) .buffers
 leaves (callWithOtherLengths h c r m s) = leaves h
 leaves (refusedBuild h ram isolation tracked release r m f) = leaves h

@@ -55,9 +55,9 @@ Shown (Lower vtl page) = Value
 Shown (Access page) = Value
 
 abbrev pub Result : Call → Type 0
-Result (Write a) = Reply
-Result (Read q) = Shown q
-Result (Answer g) = Reply
+Result (Write writer) = Reply
+Result (Read reader) = Shown reader
+Result (Answer answer) = Reply
 
 -- ---- what a call gives: all that is lent as it is then, and what it answers
 
@@ -66,55 +66,55 @@ pub record Effect (A : Type 0) : Type 0 where
   pub answer : A
 
 abbrev pub effect : {A : Type 0} → Buffers → A → Effect A
-effect w r = record { buffers = w; answer = r }
+effect buffers answer = record { buffers = buffers; answer = answer }
 
 abbrev pub replied : Outcome → Effect Reply
-replied x = effect (x .buffers) (x .reply)
+replied outcome = effect (outcome .buffers) (outcome .reply)
 
 -- the calls on locks write the tables alone, the setter the state block alone
 abbrev pub keptIn : Buffers → Kept → Effect Reply
-keptIn w k = effect (buffers (w .maps) (w .state) (w .pages) (k .tables)) (k .reply)
+keptIn old kept = effect (buffers (old .maps) (old .state) (old .pages) (kept .tables)) (kept .reply)
 
 abbrev pub enabledBy : Buffers → Enabled → Effect Reply
-enabledBy w k = effect (buffers (w .maps) (k .state) (w .pages) (w .tables)) (k .reply)
+enabledBy old enabled = effect (buffers (old .maps) (enabled .state) (old .pages) (old .tables)) (enabled .reply)
 
 abbrev pub givesWriter : Writer → Buffers → Effect Reply
-givesWriter (Visibility vtl share list) w = replied (visibilityOf w vtl share list)
-givesWriter (Protection vtl flags list) w = replied (protectionOf w vtl flags list)
-givesWriter (Default vtl flags) w = replied (defaultOf w vtl flags)
-givesWriter (Register vtl page source checked new) w = replied (registerOf w vtl page source checked new)
-givesWriter (Unregister vtl page) w = replied (unregisterOf w vtl page)
-givesWriter (Lock vtl list) w = keptIn w (lockOf (w .state) (w .tables) vtl list)
-givesWriter (Unlock vtl list) w = keptIn w (unlockOf (w .state) (w .tables) vtl list)
-givesWriter Enable w = enabledBy w (enableOf (w .state))
+givesWriter (Visibility vtl share list) buffers = replied (visibilityOf buffers vtl share list)
+givesWriter (Protection vtl flags list) buffers = replied (protectionOf buffers vtl flags list)
+givesWriter (Default vtl flags) buffers = replied (defaultOf buffers vtl flags)
+givesWriter (Register vtl page source checked new) buffers = replied (registerOf buffers vtl page source checked new)
+givesWriter (Unregister vtl page) buffers = replied (unregisterOf buffers vtl page)
+givesWriter (Lock vtl list) buffers = keptIn buffers (lockOf (buffers .state) (buffers .tables) vtl list)
+givesWriter (Unlock vtl list) buffers = keptIn buffers (unlockOf (buffers .state) (buffers .tables) vtl list)
+givesWriter Enable buffers = enabledBy buffers (enableOf (buffers .state))
 
-abbrev pub shown : (q : Reader) → Buffers → Shown q
-shown TellEnabled w = enabledIn (w .state)
-shown TellDefault w = defaultIn (w .state)
-shown (IsOverlay vtl page) w = isOverlayIn (w .state) (w .tables) vtl page
-shown (Query list out) w = queryOf (w .state) (w .maps .shared) list out
-shown (Fault mapping view address writes failure) w = faultIn (w .state) (w .maps) mapping view address writes failure
-shown (Lower vtl page) w = lowerIn (w .state) (w .maps) vtl page
-shown (Access page) w = accessIn (w .state) (w .maps) page
+abbrev pub shown : (reader : Reader) → Buffers → Shown reader
+shown TellEnabled buffers = enabledIn (buffers .state)
+shown TellDefault buffers = defaultIn (buffers .state)
+shown (IsOverlay vtl page) buffers = isOverlayIn (buffers .state) (buffers .tables) vtl page
+shown (Query list out) buffers = queryOf (buffers .state) (buffers .maps .shared) list out
+shown (Fault mapping view address writes failure) buffers = faultIn (buffers .state) (buffers .maps) mapping view address writes failure
+shown (Lower vtl page) buffers = lowerIn (buffers .state) (buffers .maps) vtl page
+shown (Access page) buffers = accessIn (buffers .state) (buffers .maps) page
 
-abbrev pub gives : (c : Call) → Buffers → Effect (Result c)
-gives (Write a) w = givesWriter a w
-gives (Read q) w = effect w (shown q w)
-gives (Answer g) w = replied (answerOf g w)
+abbrev pub gives : (call : Call) → Buffers → Effect (Result call)
+gives (Write writer) buffers = givesWriter writer buffers
+gives (Read reader) buffers = effect buffers (shown reader buffers)
+gives (Answer answer) buffers = replied (answerOf answer buffers)
 
--- ---- what is seen of a call that gave r and left the pages run p
+-- ---- what is seen of a call, by what it gave and the pages run that it left
 
 abbrev pub seesWriter : Writer → Reply → List ℕ → Observed → Observed
-seesWriter (Visibility vtl share list) r p o = seesCall (pagesOf list) r p o
-seesWriter (Protection vtl flags list) r p o = seesCall [] r p o
-seesWriter (Default vtl flags) r p o = seesCall [] r p o
-seesWriter (Register vtl page source checked new) r p o = seesCall [] r p o
-seesWriter (Unregister vtl page) r p o = seesCall [] r p o
-seesWriter (Lock vtl list) r p o = o
-seesWriter (Unlock vtl list) r p o = o
-seesWriter Enable r p o = o
+seesWriter (Visibility vtl share list) reply pages seen = seesCall (pagesOf list) reply pages seen
+seesWriter (Protection vtl flags list) reply pages seen = seesCall [] reply pages seen
+seesWriter (Default vtl flags) reply pages seen = seesCall [] reply pages seen
+seesWriter (Register vtl page source checked new) reply pages seen = seesCall [] reply pages seen
+seesWriter (Unregister vtl page) reply pages seen = seesCall [] reply pages seen
+seesWriter (Lock vtl list) reply pages seen = seen
+seesWriter (Unlock vtl list) reply pages seen = seen
+seesWriter Enable reply pages seen = seen
 
-abbrev pub sees : (c : Call) → Result c → List ℕ → Observed → Observed
-sees (Write a) r p o = seesWriter a r p o
-sees (Read q) r p o = o
-sees (Answer g) r p o = seesAnswer g r p o
+abbrev pub sees : (call : Call) → Result call → List ℕ → Observed → Observed
+sees (Write writer) result pages seen = seesWriter writer result pages seen
+sees (Read reader) result pages seen = seen
+sees (Answer answer) result pages seen = seesAnswer answer result pages seen

@@ -12,14 +12,14 @@ use Rattle.history.specs.Made.{Made, Built}
 use Rattle.history.specs.History.{OtherLengths, OtherLockLengths, IsRefusal}
 
 -- every call, of buffers of any lengths; and a build that is refused, as for any isolation outside the domain
-pub record Callable (w : Buffers) : Type 0 where
-  pub made : (c : Call) → Made c w (gives c w .buffers) (gives c w .answer)
-  pub built : (ram : List ℕ) (isolation tracked release : ℕ) → let X = buildOf w ram isolation tracked release in Built ram isolation tracked release w (X .buffers) (X .reply)
-  pub refused : (ram : List ℕ) (isolation tracked release : ℕ) → fitIsolation isolation ≡ false → IsRefusal (buildOf w ram isolation tracked release .reply)
+pub record Callable (buffers : Buffers) : Type 0 where
+  pub made : (call : Call) → Made call buffers (gives call buffers .buffers) (gives call buffers .answer)
+  pub built : (ram : List ℕ) (isolation tracked release : ℕ) → let X = buildOf buffers ram isolation tracked release in Built ram isolation tracked release buffers (X .buffers) (X .reply)
+  pub refused : (ram : List ℕ) (isolation tracked release : ℕ) → fitIsolation isolation ≡ false → IsRefusal (buildOf buffers ram isolation tracked release .reply)
 
 -- something of another length: no state block at all; or, beside the state block as it was left, no pages run, or no tables
-pub record AnyOtherLengths (u : Buffers) : Type 0 where
-  pub no-block : OtherLengths u (buffers (u .maps) [] (u .pages) (u .tables))
-  pub no-pages : OtherLengths u (buffers (u .maps) (u .state) [] (u .tables))
-  pub no-lock-block : OtherLockLengths u (buffers (u .maps) [] (u .pages) (u .tables))
-  pub no-lock-tables : OtherLockLengths u (buffers (u .maps) (u .state) (u .pages) [])
+pub record AnyOtherLengths (left : Buffers) : Type 0 where
+  pub no-block : OtherLengths left (buffers (left .maps) [] (left .pages) (left .tables))
+  pub no-pages : OtherLengths left (buffers (left .maps) (left .state) [] (left .tables))
+  pub no-lock-block : OtherLockLengths left (buffers (left .maps) [] (left .pages) (left .tables))
+  pub no-lock-tables : OtherLockLengths left (buffers (left .maps) (left .state) (left .pages) [])

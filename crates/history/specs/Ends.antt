@@ -16,97 +16,97 @@ use Rattle.history.specs.Made.{Made}
 use Rattle.history.specs.History.{History, none, call, callWithOtherLengths, refusedBuild, Called, eventsIn}
 
 -- what is told of a list of calls here: of an answer what was given, and whether it is seen to be taken; of any other call that it came
-pub data Trace (w : Buffers) (a : Observed) : Buffers → Observed → Type 0 where
-  start : Trace w a w a
-  answer : {u v : Buffers} {o p : Observed} → Trace w a u o → BackendAnswer → Bool → Trace w a v p
-  other : {u v : Buffers} {o p : Observed} → Trace w a u o → Trace w a v p
+pub data Trace (first : Buffers) (before : Observed) : Buffers → Observed → Type 0 where
+  start : Trace first before first before
+  answer : {left after : Buffers} {seen next : Observed} → Trace first before left seen → BackendAnswer → Bool → Trace first before after next
+  other : {left after : Buffers} {seen next : Observed} → Trace first before left seen → Trace first before after next
 
-unfoldable pub traceOf : {w v : Buffers} {a o : Observed} → History w a v o → Trace w a v o
+unfoldable pub traceOf : {first final : Buffers} {before seen : Observed} → History first before final seen → Trace first before final seen
 traceOf none = start
-traceOf (call h (Write a) r m) = other (traceOf h)
-traceOf (call h (Read q) r m) = other (traceOf h)
-traceOf (call {u} {v} {o} h (Answer g) r m) = answer (traceOf h) g (isTaken o r)
-traceOf (callWithOtherLengths h (Write a) r m s) = other (traceOf h)
-traceOf (callWithOtherLengths h (Read q) r m s) = other (traceOf h)
-traceOf (callWithOtherLengths {u} {x} {y} {o} h (Answer g) r m s) = answer (traceOf h) g (isTaken o r)
+traceOf (call h (Write writer) r m) = other (traceOf h)
+traceOf (call h (Read reader) r m) = other (traceOf h)
+traceOf (call {left} {after} {seen} h (Answer given) r m) = answer (traceOf h) given (isTaken seen r)
+traceOf (callWithOtherLengths h (Write writer) r m s) = other (traceOf h)
+traceOf (callWithOtherLengths h (Read reader) r m s) = other (traceOf h)
+traceOf (callWithOtherLengths {left} {lent} {after} {seen} h (Answer given) r m s) = answer (traceOf h) given (isTaken seen r)
 traceOf (refusedBuild h ram isolation tracked release r m f) = other (traceOf h)
 
 -- how many answers were taken
-unfoldable pub takenIn : {w v : Buffers} {a o : Observed} → Trace w a v o → ℕ
+unfoldable pub takenIn : {first final : Buffers} {before seen : Observed} → Trace first before final seen → ℕ
 takenIn start = 0
-takenIn (answer h g b) = cond b 1 0 + takenIn h
+takenIn (answer h given taken) = cond taken 1 0 + takenIn h
 takenIn (other h) = takenIn h
 
 -- how many answers came, but for those that were refused while a request was under way: each that was taken, and each that came while none was under way
-unfoldable pub heardIn : {w v : Buffers} {a o : Observed} → Trace w a v o → ℕ
+unfoldable pub heardIn : {first final : Buffers} {before seen : Observed} → Trace first before final seen → ℕ
 heardIn start = 0
-heardIn (answer {u} {v} {o} h g b) = cond (b || not (isWaiting o)) 1 0 + heardIn h
+heardIn (answer {left} {after} {seen} h given taken) = cond (taken || not (isWaiting seen)) 1 0 + heardIn h
 heardIn (other h) = heardIn h
 
 -- a taken answer lowers the number; one that isn't taken changes nothing, nor does any other call while a request is under way; and while none is under way
 -- no answer begins one
-unfoldable pub Falls : {w v : Buffers} {a o : Observed} → Trace w a v o → Type 0
+unfoldable pub Falls : {first final : Buffers} {before seen : Observed} → Trace first before final seen → Type 0
 Falls start = Unit {0}
-Falls (answer {u} {v} {o} {p} h g b) = Falls h × (b ≡ true → leftIn v < leftIn u) × (b ≡ false → v ≡ u) × (isWaiting p ≡ true → isWaiting o ≡ true)
-Falls (other {u} {v} {o} h) = Falls h × (isWaiting o ≡ true → v ≡ u)
+Falls (answer {left} {after} {seen} {next} h given taken) = Falls h × (taken ≡ true → leftIn after < leftIn left) × (taken ≡ false → after ≡ left) × (isWaiting next ≡ true → isWaiting seen ≡ true)
+Falls (other {left} {after} {seen} h) = Falls h × (isWaiting seen ≡ true → after ≡ left)
 
 -- each call but an answer came while a request was under way, so that no other began
-unfoldable pub Meanwhile : {w v : Buffers} {a o : Observed} → Trace w a v o → Type 0
+unfoldable pub Meanwhile : {first final : Buffers} {before seen : Observed} → Trace first before final seen → Type 0
 Meanwhile start = Unit {0}
-Meanwhile (answer h g b) = Meanwhile h
-Meanwhile (other {u} {v} {o} h) = Meanwhile h × (isWaiting o ≡ true)
+Meanwhile (answer h given taken) = Meanwhile h
+Meanwhile (other {left} {after} {seen} h) = Meanwhile h × (isWaiting seen ≡ true)
 
 -- ---- lists of answers alone
 
--- a list of calls from v, where o was seen: these answers in turn and no other call; if as many came as the number says, those refused while the request was
+-- a list of calls from the first buffers: these answers in turn and no other call; if as many came as the number says, those refused while the request was
 -- under way not counted, nothing is under way
-pub record Answers (v : Buffers) (o : Observed) (gs : List BackendAnswer) : Type 0 where
+pub record Answers (first : Buffers) (before : Observed) (answers : List BackendAnswer) : Type 0 where
   pub buffers : Buffers
   pub seen : Observed
-  pub calls : History v o buffers seen
-  pub alone : eventsIn calls ≡ map (λ (g : BackendAnswer). Called (Answer g)) gs
-  pub enough : leftIn v ≤ heardIn (traceOf calls) → isWaiting seen ≡ false
+  pub calls : History first before buffers seen
+  pub alone : eventsIn calls ≡ map (λ (answer : BackendAnswer). Called (Answer answer)) answers
+  pub enough : leftIn first ≤ heardIn (traceOf calls) → isWaiting seen ≡ false
 
 -- one at whose end nothing is under way
-pub record Ends (v : Buffers) (o : Observed) (gs : List BackendAnswer) : Type 0 where
-  pub answers : Answers v o gs
+pub record Ends (buffers : Buffers) (seen : Observed) (given : List BackendAnswer) : Type 0 where
+  pub answers : Answers buffers seen given
   pub over : isWaiting (answers .seen) ≡ false
 
--- a list of calls from v in which so many answers came, those refused while a request was under way not counted
-pub record Heard (v : Buffers) (o : Observed) (n : ℕ) : Type 0 where
+-- a list of calls from the first buffers in which so many answers came, those refused while a request was under way not counted
+pub record Heard (first : Buffers) (before : Observed) (n : ℕ) : Type 0 where
   pub buffers : Buffers
   pub seen : Observed
-  pub calls : History v o buffers seen
+  pub calls : History first before buffers seen
   pub meanwhile : Meanwhile (traceOf calls)
   pub heard : heardIn (traceOf calls) ≡ n
 
 -- answers in turn, and done after each that isn't taken
 unfoldable pub insisting : Buffers → List BackendAnswer → List BackendAnswer
-insisting w [] = []
-insisting w (g ∷ gs) = cond (takenBy g w) (g ∷ insisting (answerOf g w .buffers) gs) (g ∷ Succeeds ∷ insisting (answerOf Succeeds w .buffers) gs)
+insisting buffers [] = []
+insisting buffers (next ∷ answers) = cond (takenBy next buffers) (next ∷ insisting (answerOf next buffers .buffers) answers) (next ∷ Succeeds ∷ insisting (answerOf Succeeds buffers .buffers) answers)
 
--- ---- every request ends: of the buffers v, where o was seen, and all that may be called from there on
+-- ---- every request ends: of these buffers, where this was seen, and all that may be called from there on
 
 -- what is told from outside is what the state block says
-pub record Told (v : Buffers) (o : Observed) : Type 0 where
-  pub waits : isWaiting o ≡ underWay v
-  pub takes : (g : BackendAnswer) → isTaken o (answerOf g v .reply) ≡ takenBy g v
+pub record Told (buffers : Buffers) (seen : Observed) : Type 0 where
+  pub waits : isWaiting seen ≡ underWay buffers
+  pub takes : (answer : BackendAnswer) → isTaken seen (answerOf answer buffers .reply) ≡ takenBy answer buffers
 
-pub record RequestEnds (v : Buffers) (o : Observed) : Type 0 where
-  pub told : Told v o
+pub record RequestEnds (buffers : Buffers) (seen : Observed) : Type 0 where
+  pub told : Told buffers seen
   -- in any list of calls each taken answer lowers the number, and nothing else changes it while a request is under way
-  pub falls : {x : Buffers} {p : Observed} (h : History v o x p) → Falls (traceOf h)
+  pub falls : {final : Buffers} {later : Observed} (h : History buffers seen final later) → Falls (traceOf h)
   -- so no more answers are taken than it says, and fewer while the request is still under way
-  pub few : {x : Buffers} {p : Observed} (h : History v o x p) → Meanwhile (traceOf h) → leftIn x + takenIn (traceOf h) ≤ leftIn v
-  pub still : {x : Buffers} {p : Observed} (h : History v o x p) → Meanwhile (traceOf h) → isWaiting p ≡ true → takenIn (traceOf h) < leftIn v
+  pub few : {final : Buffers} {later : Observed} (h : History buffers seen final later) → Meanwhile (traceOf h) → leftIn final + takenIn (traceOf h) ≤ leftIn buffers
+  pub still : {final : Buffers} {later : Observed} (h : History buffers seen final later) → Meanwhile (traceOf h) → isWaiting later ≡ true → takenIn (traceOf h) < leftIn buffers
   -- and it has ended once as many answers came as it says, of any kind and with any refused calls between them: only an answer that is refused while the
   -- request is under way doesn't count. Lists with any such number of answers exist
-  pub ends : {x : Buffers} {p : Observed} (h : History v o x p) → Meanwhile (traceOf h) → leftIn v ≤ heardIn (traceOf h) → isWaiting p ≡ false
-  pub heard : (n : ℕ) → Heard v o n
+  pub ends : {final : Buffers} {later : Observed} (h : History buffers seen final later) → Meanwhile (traceOf h) → leftIn buffers ≤ heardIn (traceOf h) → isWaiting later ≡ false
+  pub heard : (n : ℕ) → Heard buffers seen n
   -- while it is under way done is taken
-  pub done-taken : {x : Buffers} {r : Reply} → Made (Answer Succeeds) v x r → isWaiting o ≡ true → isTaken o r ≡ true
+  pub done-taken : {after : Buffers} {reply : Reply} → Made (Answer Succeeds) buffers after reply → isWaiting seen ≡ true → isTaken seen reply ≡ true
   -- any answers can be given; and any so many, with done after each that isn't taken, end the request, as do so many of which none is refused
-  pub given : (gs : List BackendAnswer) → Answers v o gs
-  pub insisted : (gs : List BackendAnswer) → leftIn v ≤ length gs → Ends v o (insisting v gs)
-  pub unrefused-end : (gs : List BackendAnswer) → unrefused v gs → leftIn v ≤ length gs → Ends v o gs
-  pub done-ends : Ends v o (replicate (leftIn v) Succeeds)
+  pub given : (answers : List BackendAnswer) → Answers buffers seen answers
+  pub insisted : (answers : List BackendAnswer) → leftIn buffers ≤ length answers → Ends buffers seen (insisting buffers answers)
+  pub unrefused-end : (answers : List BackendAnswer) → unrefused buffers answers → leftIn buffers ≤ length answers → Ends buffers seen answers
+  pub done-ends : Ends buffers seen (replicate (leftIn buffers) Succeeds)

@@ -77,30 +77,30 @@ abbrev pub past : {X : Type 0} → Nine X → X
 past a = pastSeven a .1 .1
 
 -- what is not lent may be anything: beside the seven; beside the state block; beside the state block and the tables; beside the state block and the shared map
-abbrev pub withSeven : {X : Type 0} (p t : List ℕ) → Seven X → Buffers
-withSeven p t a = buffers (mapsOf a) (stateOf a) p t
+abbrev pub withSeven : {X : Type 0} (pages tables : List ℕ) → Seven X → Buffers
+withSeven pages tables a = buffers (mapsOf a) (stateOf a) pages tables
 
-abbrev pub withState : {X : Type 0} (m : Maps) (p t : List ℕ) → Run × X → Buffers
-withState m p t a = buffers m (now (a .0)) p t
+abbrev pub withState : {X : Type 0} (maps : Maps) (pages tables : List ℕ) → Run × X → Buffers
+withState maps pages tables a = buffers maps (now (a .0)) pages tables
 
-abbrev pub withTables : {X : Type 0} (m : Maps) (p : List ℕ) → Run × (Run × X) → Buffers
-withTables m p a = buffers m (now (a .0)) p (now (a .1 .0))
+abbrev pub withTables : {X : Type 0} (maps : Maps) (pages : List ℕ) → Run × (Run × X) → Buffers
+withTables maps pages a = buffers maps (now (a .0)) pages (now (a .1 .0))
 
-abbrev pub withShared : {X : Type 0} (m : List ℕ) (q : Permissions) (p t : List ℕ) → Run × (Run × X) → Buffers
-withShared m q p t a = buffers (record { private = m; shared = now (a .1 .0); permissions = q }) (now (a .0)) p t
+abbrev pub withShared : {X : Type 0} (private : List ℕ) (permissions : Permissions) (pages tables : List ℕ) → Run × (Run × X) → Buffers
+withShared private permissions pages tables a = buffers (record { private = private; shared = now (a .1 .0); permissions = permissions }) (now (a .0)) pages tables
 
 -- what is lent for reading alone stays: the tables; the marks and the tables; the marks and the pages run
 abbrev pub butTables : Buffers → Buffers → Buffers
-butTables w v = buffers (v .maps) (v .state) (v .pages) (w .tables)
+butTables before after = buffers (after .maps) (after .state) (after .pages) (before .tables)
 
 abbrev pub withMarks : Maps → Maps → Maps
-withMarks m n = record { private = m .private; shared = m .shared; permissions = n .permissions }
+withMarks before after = record { private = before .private; shared = before .shared; permissions = after .permissions }
 
 abbrev pub butMarksTables : Buffers → Buffers → Buffers
-butMarksTables w v = buffers (withMarks (w .maps) (v .maps)) (v .state) (v .pages) (w .tables)
+butMarksTables before after = buffers (withMarks (before .maps) (after .maps)) (after .state) (after .pages) (before .tables)
 
 abbrev pub butMarksPages : Buffers → Buffers → Buffers
-butMarksPages w v = buffers (withMarks (w .maps) (v .maps)) (v .state) (w .pages) (v .tables)
+butMarksPages before after = buffers (withMarks (before .maps) (after .maps)) (after .state) (before .pages) (after .tables)
 
 -- ---- a call that was lent u, left v and answered r
 
@@ -120,28 +120,28 @@ pub data Made : (c : Call) → Buffers → Buffers → Result c → Type 0 where
   unregister : (κs : Lfts 9) (a : Dens κs kUnregister.ps) (r : Reply) (e : AtExit (endedOf 9 kUnregister.ps kUnregister.r) κs) → rUnregister.Learnt κs a r e
       → Made (Write (Unregister (past a .0) (past a .1 .0))) (buffersOf a) (butMarksPages (buffersOf a) (buffersOf e)) r
   -- the calls on locks are lent the state block and the tables alone, and the setter and the getters the state block
-  lock : (m : Maps) (p : List ℕ) (κs : Lfts 3) (a : Dens κs kLock.ps) (r : Reply) (e : AtExit (endedOf 3 kLock.ps kLock.r) κs) → rLock.Learnt κs a r e
-      → Made (Write (Lock (a .1 .1 .0) (now (a .1 .1 .1 .0)))) (withTables m p a) (buffers m (now (a .0)) p (now (e .1 .0))) r
-  unlock : (m : Maps) (p : List ℕ) (κs : Lfts 3) (a : Dens κs kUnlock.ps) (r : Reply) (e : AtExit (endedOf 3 kUnlock.ps kUnlock.r) κs) → rUnlock.Learnt κs a r e
-      → Made (Write (Unlock (a .1 .1 .0) (now (a .1 .1 .1 .0)))) (withTables m p a) (buffers m (now (a .0)) p (now (e .1 .0))) r
-  enable : (m : Maps) (p t : List ℕ) (κs : Lfts 1) (a : Dens κs kEnable.ps) (r : Reply) (e : AtExit (endedOf 1 kEnable.ps kEnable.r) κs) → rEnable.Learnt κs a r e
-      → Made (Write Enable) (withState m p t a) (withState m p t e) r
-  tellEnabled : (m : Maps) (p t : List ℕ) (κs : Lfts 1) (a : Dens κs kTellEnabled.ps) (r : Value) (e : AtExit (endedOf 1 kTellEnabled.ps kTellEnabled.r) κs) → rTellEnabled.Learnt κs a r e
-      → Made (Read TellEnabled) (withState m p t a) (withState m p t a) r
-  tellDefault : (m : Maps) (p t : List ℕ) (κs : Lfts 1) (a : Dens κs kTellDefault.ps) (r : Value) (e : AtExit (endedOf 1 kTellDefault.ps kTellDefault.r) κs) → rTellDefault.Learnt κs a r e
-      → Made (Read TellDefault) (withState m p t a) (withState m p t a) r
-  isOverlay : (m : Maps) (p : List ℕ) (κs : Lfts 2) (a : Dens κs kIsOverlay.ps) (r : Value) (e : AtExit (endedOf 2 kIsOverlay.ps kIsOverlay.r) κs) → rIsOverlay.Learnt κs a r e
-      → Made (Read (IsOverlay (a .1 .1 .0) (a .1 .1 .1 .0))) (withTables m p a) (withTables m p a) r
+  lock : (maps : Maps) (pages : List ℕ) (κs : Lfts 3) (a : Dens κs kLock.ps) (r : Reply) (e : AtExit (endedOf 3 kLock.ps kLock.r) κs) → rLock.Learnt κs a r e
+      → Made (Write (Lock (a .1 .1 .0) (now (a .1 .1 .1 .0)))) (withTables maps pages a) (buffers maps (now (a .0)) pages (now (e .1 .0))) r
+  unlock : (maps : Maps) (pages : List ℕ) (κs : Lfts 3) (a : Dens κs kUnlock.ps) (r : Reply) (e : AtExit (endedOf 3 kUnlock.ps kUnlock.r) κs) → rUnlock.Learnt κs a r e
+      → Made (Write (Unlock (a .1 .1 .0) (now (a .1 .1 .1 .0)))) (withTables maps pages a) (buffers maps (now (a .0)) pages (now (e .1 .0))) r
+  enable : (maps : Maps) (pages tables : List ℕ) (κs : Lfts 1) (a : Dens κs kEnable.ps) (r : Reply) (e : AtExit (endedOf 1 kEnable.ps kEnable.r) κs) → rEnable.Learnt κs a r e
+      → Made (Write Enable) (withState maps pages tables a) (withState maps pages tables e) r
+  tellEnabled : (maps : Maps) (pages tables : List ℕ) (κs : Lfts 1) (a : Dens κs kTellEnabled.ps) (r : Value) (e : AtExit (endedOf 1 kTellEnabled.ps kTellEnabled.r) κs) → rTellEnabled.Learnt κs a r e
+      → Made (Read TellEnabled) (withState maps pages tables a) (withState maps pages tables a) r
+  tellDefault : (maps : Maps) (pages tables : List ℕ) (κs : Lfts 1) (a : Dens κs kTellDefault.ps) (r : Value) (e : AtExit (endedOf 1 kTellDefault.ps kTellDefault.r) κs) → rTellDefault.Learnt κs a r e
+      → Made (Read TellDefault) (withState maps pages tables a) (withState maps pages tables a) r
+  isOverlay : (maps : Maps) (pages : List ℕ) (κs : Lfts 2) (a : Dens κs kIsOverlay.ps) (r : Value) (e : AtExit (endedOf 2 kIsOverlay.ps kIsOverlay.r) κs) → rIsOverlay.Learnt κs a r e
+      → Made (Read (IsOverlay (a .1 .1 .0) (a .1 .1 .1 .0))) (withTables maps pages a) (withTables maps pages a) r
   -- of the maps a query is lent the shared one, and its output as it is filled is of what it answers
-  query : (m : List ℕ) (q : Permissions) (p t : List ℕ) (κs : Lfts 4) (a : Dens κs kQuery.ps) (r : Reply) (e : AtExit (endedOf 4 kQuery.ps kQuery.r) κs) → rQuery.Learnt κs a r e
-      → Made (Read (Query (now (a .1 .1 .0)) (now (a .1 .1 .1 .0)))) (withShared m q p t a) (withShared m q p t a) (queries.query (now (e .1 .1 .1 .0)) r)
+  query : (private : List ℕ) (permissions : Permissions) (pages tables : List ℕ) (κs : Lfts 4) (a : Dens κs kQuery.ps) (r : Reply) (e : AtExit (endedOf 4 kQuery.ps kQuery.r) κs) → rQuery.Learnt κs a r e
+      → Made (Read (Query (now (a .1 .1 .0)) (now (a .1 .1 .1 .0)))) (withShared private permissions pages tables a) (withShared private permissions pages tables a) (queries.query (now (e .1 .1 .1 .0)) r)
   -- faults and the permission queries are lent neither the pages run nor the tables
-  fault : (p t : List ℕ) (κs : Lfts 7) (a : Dens κs kFault.ps) (r : Value) (e : AtExit (endedOf 7 kFault.ps kFault.r) κs) → rFault.Learnt κs a r e
-      → Made (Read (Fault (pastSeven a .0) (pastSeven a .1 .0) (pastSeven a .1 .1 .0) (pastSeven a .1 .1 .1 .0) (pastSeven a .1 .1 .1 .1 .0))) (withSeven p t a) (withSeven p t a) r
-  lower : (p t : List ℕ) (κs : Lfts 7) (a : Dens κs kLower.ps) (r : Value) (e : AtExit (endedOf 7 kLower.ps kLower.r) κs) → rLower.Learnt κs a r e
-      → Made (Read (Lower (pastSeven a .0) (pastSeven a .1 .0))) (withSeven p t a) (withSeven p t a) r
-  access : (p t : List ℕ) (κs : Lfts 7) (a : Dens κs kAccess.ps) (r : Value) (e : AtExit (endedOf 7 kAccess.ps kAccess.r) κs) → rAccess.Learnt κs a r e
-      → Made (Read (Access (pastSeven a .0))) (withSeven p t a) (withSeven p t a) r
+  fault : (pages tables : List ℕ) (κs : Lfts 7) (a : Dens κs kFault.ps) (r : Value) (e : AtExit (endedOf 7 kFault.ps kFault.r) κs) → rFault.Learnt κs a r e
+      → Made (Read (Fault (pastSeven a .0) (pastSeven a .1 .0) (pastSeven a .1 .1 .0) (pastSeven a .1 .1 .1 .0) (pastSeven a .1 .1 .1 .1 .0))) (withSeven pages tables a) (withSeven pages tables a) r
+  lower : (pages tables : List ℕ) (κs : Lfts 7) (a : Dens κs kLower.ps) (r : Value) (e : AtExit (endedOf 7 kLower.ps kLower.r) κs) → rLower.Learnt κs a r e
+      → Made (Read (Lower (pastSeven a .0) (pastSeven a .1 .0))) (withSeven pages tables a) (withSeven pages tables a) r
+  access : (pages tables : List ℕ) (κs : Lfts 7) (a : Dens κs kAccess.ps) (r : Value) (e : AtExit (endedOf 7 kAccess.ps kAccess.r) κs) → rAccess.Learnt κs a r e
+      → Made (Read (Access (pastSeven a .0))) (withSeven pages tables a) (withSeven pages tables a) r
 
 -- ---- a build, of a layout and settings, that was lent u, left v and replied r
 

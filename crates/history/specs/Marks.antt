@@ -18,7 +18,7 @@ use Rattle.history.specs.Observed.{Observed, isWaiting, Private, Shared,
 
 -- a page's mark in a map
 abbrev pub Has : List ℕ → ℕ → Type 0
-Has m z = bitAt 8 m z ≡ true
+Has map gpn = bitAt 8 map gpn ≡ true
 
 -- a page that was never returned, or validated and then zeroed since it was
 abbrev pub isSettled : ReturnState → Bool
@@ -28,40 +28,40 @@ isSettled Validated = false
 isSettled Zeroed = true
 
 -- both marks of a page say as what it was last taken
-pub record Exact (m : Maps) (o : Observed) (z : ℕ) : Type 0 where
-  pub private : o .last z ≡ Private → Has (m .private) z
-  pub private-only : Has (m .private) z → o .last z ≡ Private
-  pub shared : o .last z ≡ Shared → Has (m .shared) z
-  pub shared-only : Has (m .shared) z → o .last z ≡ Shared
+pub record Exact (maps : Maps) (seen : Observed) (gpn : ℕ) : Type 0 where
+  pub private : seen .last gpn ≡ Private → Has (maps .private) gpn
+  pub private-only : Has (maps .private) gpn → seen .last gpn ≡ Private
+  pub shared : seen .last gpn ≡ Shared → Has (maps .shared) gpn
+  pub shared-only : Has (maps .shared) gpn → seen .last gpn ≡ Shared
 
-pub record Marked (es : List MemoryRangeWithNode) (m : Maps) (o : Observed) : Type 0 where
+pub record Marked (entries : List MemoryRangeWithNode) (maps : Maps) (seen : Observed) : Type 0 where
   -- a RAM page not listed by the visibility change under way, nor by the one that halted
-  pub exact : (z : ℕ) → isRam es z ≡ true → among (o .listed) z ≡ false → Exact m o z
+  pub exact : (gpn : ℕ) → isRam entries gpn ≡ true → among (seen .listed) gpn ≡ false → Exact maps seen gpn
   -- and so every RAM page, with nothing under way and nothing halted
-  pub at-rest : isWaiting o ≡ false → o .halted ≡ false → (z : ℕ) → isRam es z ≡ true → Exact m o z
+  pub at-rest : isWaiting seen ≡ false → seen .halted ≡ false → (gpn : ℕ) → isRam entries gpn ≡ true → Exact maps seen gpn
   -- any page: a mark says what was last taken
-  pub private-right : (z : ℕ) → Has (m .private) z → o .last z ≡ Private
-  pub shared-right : (z : ℕ) → Has (m .shared) z → o .last z ≡ Shared
-  pub never-both : (z : ℕ) → Has (m .private) z → Has (m .shared) z → ⊥
-  pub private-ram : (z : ℕ) → Has (m .private) z → isRam es z ≡ true
-  pub shared-ram : (z : ℕ) → Has (m .shared) z → isRam es z ≡ true
+  pub private-right : (gpn : ℕ) → Has (maps .private) gpn → seen .last gpn ≡ Private
+  pub shared-right : (gpn : ℕ) → Has (maps .shared) gpn → seen .last gpn ≡ Shared
+  pub never-both : (gpn : ℕ) → Has (maps .private) gpn → Has (maps .shared) gpn → ⊥
+  pub private-ram : (gpn : ℕ) → Has (maps .private) gpn → isRam entries gpn ≡ true
+  pub shared-ram : (gpn : ℕ) → Has (maps .shared) gpn → isRam entries gpn ≡ true
 
 -- the whole claim at a stop: the marks, and on SNP a page is marked private only if it was never returned, or validated and then zeroed since its return
-pub record Holds (es : List MemoryRangeWithNode) (i : IsolationType) (m : Maps) (o : Observed) : Type 0 where
-  pub marks : Marked es m o
-  pub settled : isSnp i ≡ true → (z : ℕ) → Has (m .private) z → isSettled (o .age z) ≡ true
+pub record Holds (entries : List MemoryRangeWithNode) (isolation : IsolationType) (maps : Maps) (seen : Observed) : Type 0 where
+  pub marks : Marked entries maps seen
+  pub settled : isSnp isolation ≡ true → (gpn : ℕ) → Has (maps .private) gpn → isSettled (seen .age gpn) ≡ true
 
 -- ---- a list may begin where nothing is under way and each RAM page has one mark, as after a build: what was last taken is then read off the marks
 
 abbrev pub readOff : Maps → Observed
-readOff m = record { op = finished 0 0 0 0; table = []; halted = false; listed = []; last = λ z. tookAs (bitAt 8 (m .shared) z); age = λ z. Never }
+readOff maps = record { op = finished 0 0 0 0; table = []; halted = false; listed = []; last = λ gpn. tookAs (bitAt 8 (maps .shared) gpn); age = λ gpn. Never }
 
-pub record Settled (w : Buffers) : Type 0 where
-  pub layout : refusalOf (ramOf (w .state)) ≡ 0
-  pub idle : statusIn (w .state) ≡ 0
-  pub long : length (w .state) ≡ stateLen
-  pub lent : fits w ≡ true
-  pub private-ram : (z : ℕ) → Has (w .maps .private) z → isRam (entriesIn (w .state)) z ≡ true
-  pub shared-ram : (z : ℕ) → Has (w .maps .shared) z → isRam (entriesIn (w .state)) z ≡ true
-  pub never-both : (z : ℕ) → Has (w .maps .private) z → Has (w .maps .shared) z → ⊥
-  pub either : (z : ℕ) → isRam (entriesIn (w .state)) z ≡ true → bitAt 8 (w .maps .shared) z ≡ false → Has (w .maps .private) z
+pub record Settled (buffers : Buffers) : Type 0 where
+  pub layout : refusalOf (ramOf (buffers .state)) ≡ 0
+  pub idle : statusIn (buffers .state) ≡ 0
+  pub long : length (buffers .state) ≡ stateLen
+  pub lent : fits buffers ≡ true
+  pub private-ram : (gpn : ℕ) → Has (buffers .maps .private) gpn → isRam (entriesIn (buffers .state)) gpn ≡ true
+  pub shared-ram : (gpn : ℕ) → Has (buffers .maps .shared) gpn → isRam (entriesIn (buffers .state)) gpn ≡ true
+  pub never-both : (gpn : ℕ) → Has (buffers .maps .private) gpn → Has (buffers .maps .shared) gpn → ⊥
+  pub either : (gpn : ℕ) → isRam (entriesIn (buffers .state)) gpn ≡ true → bitAt 8 (buffers .maps .shared) gpn ≡ false → Has (buffers .maps .private) gpn

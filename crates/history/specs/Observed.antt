@@ -47,17 +47,17 @@ pub record Observed : Type 0 where
 
 -- at a build
 abbrev pub unseen : Observed
-unseen = record { op = finished 0 0 0 0; table = []; halted = false; listed = []; last = λ z. Private; age = λ z. Never }
+unseen = record { op = finished 0 0 0 0; table = []; halted = false; listed = []; last = λ gpn. Private; age = λ gpn. Never }
 
 abbrev pub asks : Reply → Bool
-asks r = not (eqb (r .operation) noOperation)
+asks reply = not (eqb (reply .operation) noOperation)
 
 -- a call is under way: its operation is outstanding
 abbrev pub isWaiting : Observed → Bool
-isWaiting o = asks (o .op)
+isWaiting seen = asks (seen .op)
 
 abbrev pub isModify : Reply → Bool
-isModify r = eqb (r .operation) operation.modify
+isModify reply = eqb (reply .operation) operation.modify
 
 -- how many of n pages an answer to Modify processed
 abbrev pub processed : BackendAnswer → ℕ → ℕ
@@ -66,7 +66,7 @@ processed (Fails code k) n = min k n
 
 -- what Modify took, once a taken answer came to it
 abbrev pub lastAfter : BackendAnswer → Observed → ℕ → Took
-lastAfter g o z = cond (isModify (o .op) && among (take (processed g (o .op .pages)) (o .table)) z) (tookAs (eqb (o .op .shared) 1)) (o .last z)
+lastAfter answer seen gpn = cond (isModify (seen .op) && among (take (processed answer (seen .op .pages)) (seen .table)) gpn) (tookAs (eqb (seen .op .shared) 1)) (seen .last gpn)
 
 -- an Accept or a Zero that is done takes the pages of its run one step on, in that order
 abbrev pub accepted : ReturnState → ReturnState
@@ -83,34 +83,34 @@ zeroed Zeroed = Zeroed
 
 abbrev pub isDone : BackendAnswer → Bool
 isDone Succeeds = true
-isDone (Fails code k) = false
+isDone (Fails code processed) = false
 
 abbrev pub inRun : Reply → ℕ → Bool
-inRun r z = between (r .first) (r .first + r .pages) z
+inRun reply gpn = between (reply .first) (reply .first + reply .pages) gpn
 
 abbrev pub ageAfter : BackendAnswer → Observed → ℕ → ReturnState
-ageAfter g o z =
-    cond (isModify (o .op) && among (take (processed g (o .op .pages)) (o .table)) z) (cond (eqb (o .op .shared) 1) Never Returned)
-    (cond (isDone g && (eqb (o .op .operation) operation.accept && inRun (o .op) z)) (accepted (o .age z))
-    (cond (isDone g && (eqb (o .op .operation) operation.zero && inRun (o .op) z)) (zeroed (o .age z))
-    (o .age z)))
+ageAfter answer seen gpn =
+    cond (isModify (seen .op) && among (take (processed answer (seen .op .pages)) (seen .table)) gpn) (cond (eqb (seen .op .shared) 1) Never Returned)
+    (cond (isDone answer && (eqb (seen .op .operation) operation.accept && inRun (seen .op) gpn)) (accepted (seen .age gpn))
+    (cond (isDone answer && (eqb (seen .op .operation) operation.zero && inRun (seen .op) gpn)) (zeroed (seen .age gpn))
+    (seen .age gpn)))
 
 -- an answer that came when nothing was halted, and was refused neither for a length (4) nor as not asked for (21)
 abbrev pub isTaken : Observed → Reply → Bool
-isTaken o r = not (o .halted) && (not (eqb (r .number) refusal.wrongLength) && not (eqb (r .number) refusal.nothingAsked))
+isTaken seen reply = not (seen .halted) && (not (eqb (reply .number) refusal.wrongLength) && not (eqb (reply .number) refusal.nothingAsked))
 
 -- a taken answer that asks on, or gives 20, leaves the call under way or halted; any other ends it
 abbrev pub goesOn : Reply → Bool
-goesOn r = asks r || eqb (r .number) refusal.halted
+goesOn reply = asks reply || eqb (reply .number) refusal.halted
 
 abbrev pub seesTaken : BackendAnswer → Reply → List ℕ → Observed → Observed
-seesTaken g r p o =
-    record { op = r; table = p; halted = eqb (r .number) refusal.halted; listed = cond (goesOn r) (o .listed) []; last = lastAfter g o; age = ageAfter g o }
+seesTaken answer reply pages seen =
+    record { op = reply; table = pages; halted = eqb (reply .number) refusal.halted; listed = cond (goesOn reply) (seen .listed) []; last = lastAfter answer seen; age = ageAfter answer seen }
 
--- an answer g that gave r and left the pages run p
+-- an answer, by what it gave and the pages run that it left
 abbrev pub seesAnswer : BackendAnswer → Reply → List ℕ → Observed → Observed
-seesAnswer g r p o = cond (isTaken o r) (seesTaken g r p o) o
+seesAnswer answer reply pages seen = cond (isTaken seen reply) (seesTaken answer reply pages seen) seen
 
--- a call that gave r and left the pages run p, of a visibility change of the pages ps; of another ps is none
+-- a call, by what it gave and the pages run that it left: of a visibility change its pages are listed, of another none
 abbrev pub seesCall : List ℕ → Reply → List ℕ → Observed → Observed
-seesCall ps r p o = cond (asks r) (record { op = r; table = p; halted = o .halted; listed = ps; last = o .last; age = o .age }) o
+seesCall listed reply pages seen = cond (asks reply) (record { op = reply; table = pages; halted = seen .halted; listed = listed; last = seen .last; age = seen .age }) seen

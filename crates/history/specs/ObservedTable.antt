@@ -28,18 +28,18 @@ abbrev flushes : Reply
 flushes = plain operation.flushAll
 
 abbrev none0 : PageRun → Reply
-none0 r = protects Snp Vtl0 noFlags r
+none0 run = protects Snp Vtl0 noFlags run
 
 abbrev none1 : PageRun → Reply
-none1 r = protects Snp Vtl1 noFlags r
+none1 run = protects Snp Vtl1 noFlags run
 
 abbrev invalidates : PageRun → Reply
-invalidates r = onRun operation.invalidate r
+invalidates run = onRun operation.invalidate run
 
 -- each answered by done in turn; the pages run is t
 unfoldable pub done : List ℕ → List Reply → Observed → Observed
-done t [] o = o
-done t (r ∷ rs) o = done t rs (seesAnswer Succeeds r t o)
+done pages [] seen = seen
+done pages (reply ∷ replies) seen = done pages replies (seesAnswer Succeeds reply pages seen)
 
 abbrev three : List ℕ
 three = 3 ∷ 9 ∷ 10 ∷ []

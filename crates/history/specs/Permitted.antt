@@ -16,15 +16,15 @@ use Rattle.protector_state.specs.Changing.{stageIn, isChanging}
 use Rattle.call_refusals.specs.Buffers.{Buffers, statusOf}
 use Rattle.history.specs.Marks.{Has}
 
-pub record Inside (es : List MemoryRangeWithNode) (m : Permissions) : Type 0 where
-  pub read : (z : ℕ) → Has (m .read) z → isRam es z ≡ true
-  pub write : (z : ℕ) → Has (m .write) z → isRam es z ≡ true
-  pub kernel : (z : ℕ) → Has (m .kernel) z → isRam es z ≡ true
-  pub user : (z : ℕ) → Has (m .user) z → isRam es z ≡ true
+pub record Inside (entries : List MemoryRangeWithNode) (permissions : Permissions) : Type 0 where
+  pub read : (gpn : ℕ) → Has (permissions .read) gpn → isRam entries gpn ≡ true
+  pub write : (gpn : ℕ) → Has (permissions .write) gpn → isRam entries gpn ≡ true
+  pub kernel : (gpn : ℕ) → Has (permissions .kernel) gpn → isRam entries gpn ≡ true
+  pub user : (gpn : ℕ) → Has (permissions .user) gpn → isRam entries gpn ≡ true
 
--- the first n pages of the table t are RAM
+-- the first count pages of the pages run are RAM
 abbrev pub OnRam : List MemoryRangeWithNode → ℕ → List ℕ → Type 0
-OnRam es n t = (j : ℕ) → j < n → j < length t → isRam es (getD t j 0) ≡ true
+OnRam entries count pages = (j : ℕ) → j < count → j < length pages → isRam entries (getD pages j 0) ≡ true
 
 abbrev pub isPages : Stage → Bool
 isPages stage.Idle = false
@@ -39,8 +39,8 @@ isPages stage.TlbWait = false
 
 -- a visibility change, or a protection change that still protects, is under way
 abbrev pub isListing : List ℕ → Bool
-isListing s = cond (isChanging s) (isPages (stageIn s)) (eqb (statusOf (phaseIn s)) refusal.busy)
+isListing state = cond (isChanging state) (isPages (stageIn state)) (eqb (statusOf (phaseIn state)) refusal.busy)
 
-pub record Permitted (es : List MemoryRangeWithNode) (w : Buffers) : Type 0 where
-  pub inside : Inside es (w .maps .permissions)
-  pub listed : isListing (w .state) ≡ true → OnRam es (requestOf (w .state) .n) (w .pages)
+pub record Permitted (entries : List MemoryRangeWithNode) (buffers : Buffers) : Type 0 where
+  pub inside : Inside entries (buffers .maps .permissions)
+  pub listed : isListing (buffers .state) ≡ true → OnRam entries (requestOf (buffers .state) .n) (buffers .pages)

@@ -8,8 +8,8 @@ use Rattle.history.specs.Tables.{Tables}
 use Rattle.history.specs.Settings.{SettingsFit}
 use Rattle.history.specs.Permitted.{Inside}
 
-pub record Rests (isolation tracked release : ℕ) (w : Buffers) : Type 0 where
-  pub settled : Settled w
-  pub tables : Tables (entriesIn (w .state)) (w .tables)
-  pub settings : SettingsFit isolation tracked release (w .state)
-  pub inside : Inside (entriesIn (w .state)) (w .maps .permissions)
+pub record Rests (isolation tracked release : ℕ) (buffers : Buffers) : Type 0 where
+  pub settled : Settled buffers
+  pub tables : Tables (entriesIn (buffers .state)) (buffers .tables)
+  pub settings : SettingsFit isolation tracked release (buffers .state)
+  pub inside : Inside (entriesIn (buffers .state)) (buffers .maps .permissions)

@@ -15,17 +15,17 @@ abbrev pub firstSettings : (isolation tracked release : ℕ) → Settings
 firstSettings isolation tracked release =
     record { isolation = isolationOf isolation; tracked = boolOf tracked; release = boolOf release; enabled = false; defaults = firstDefaults }
 
--- between calls, of the state block s: those that the build was given stay, and are numbers of such; protections are enabled only where permissions are
+-- between calls, of the state block: those that the build was given stay, and are numbers of such; protections are enabled only where permissions are
 -- tracked; the defaults are flags
-pub record SettingsFit (isolation tracked release : ℕ) (s : List ℕ) : Type 0 where
-  pub same-isolation : getD s place.isolation 0 ≡ isolation
-  pub same-tracked : getD s place.tracked 0 ≡ tracked
-  pub same-release : getD s place.release 0 ≡ release
+pub record SettingsFit (isolation tracked release : ℕ) (state : List ℕ) : Type 0 where
+  pub same-isolation : getD state place.isolation 0 ≡ isolation
+  pub same-tracked : getD state place.tracked 0 ≡ tracked
+  pub same-release : getD state place.release 0 ≡ release
   pub fit-isolation : fitIsolation isolation ≡ true
   pub fit-tracked : fitBool tracked ≡ true
   pub fit-release : fitBool release ≡ true
-  pub enabled : getD s place.enabled 0 < 2
-  pub only-tracked : getD s place.enabled 0 ≡ 1 → tracked ≡ 1
-  pub default0 : getD s place.default0 0 < flagsEnd
+  pub enabled : getD state place.enabled 0 < 2
+  pub only-tracked : getD state place.enabled 0 ≡ 1 → tracked ≡ 1
+  pub default0 : getD state place.default0 0 < flagsEnd
   -- or the number after them, where none is given
-  pub default1 : getD s place.default1 0 < flagsEnd + 1
+  pub default1 : getD state place.default1 0 < flagsEnd + 1

@@ -305,14 +305,14 @@ entries-apart (e ∷ es) from zero (suc j) h k l = entry-known es (e .end) j (or
 entries-apart (e ∷ es) from (suc i) (suc j) h k l = entries-apart es (e .end) i j (ordered-cons from e es h .1) (omega arith) (omega arith)
 
 -- each start and end is a multiple of 32,768
-pub entry-whole : (es : List MemoryRangeWithNode) (i : ℕ) → aligned es ≡ true → i < length es → (entryAt es i .start % 0x8000 ≡ 0) × (entryAt es i .end % 0x8000 ≡ 0)
+pub entry-on-bytes : (es : List MemoryRangeWithNode) (i : ℕ) → aligned es ≡ true → i < length es → (entryAt es i .start % 0x8000 ≡ 0) × (entryAt es i .end % 0x8000 ≡ 0)
 unfolding aligned
-entry-whole [] i h k = absurd (omega arith)
-entry-whole (e ∷ es) zero h k =
+entry-on-bytes [] i h k = absurd (omega arith)
+entry-on-bytes (e ∷ es) zero h k =
     let a = both-true (onBytes e) _ h in
     let b = both-true (eqb (e .start % 0x8000) 0) _ (a .0) in
     (eqb-true _ _ (b .0), eqb-true _ _ (b .1))
-entry-whole (e ∷ es) (suc i) h k = entry-whole es i (both-true (onBytes e) _ h .1) (omega arith)
+entry-on-bytes (e ∷ es) (suc i) h k = entry-on-bytes es i (both-true (onBytes e) _ h .1) (omega arith)
 
 pub ram-cons : (e : MemoryRangeWithNode) (es : List MemoryRangeWithNode) (p : ℕ) → isRam (e ∷ es) p ≡ (holdsPage e p || isRam es p)
 unfolding ramByte
@@ -361,7 +361,7 @@ ram-below (e ∷ es) b h r =
 pub page-in-map : (ws : List ℕ) (p : ℕ) → Fit ws → isRam (entriesOf ws) p ≡ true → p / 8 < mapLen (entriesOf ws)
 page-in-map ws p f r =
     let es = entriesOf ws in
-    omega (arith, ram-below es (p * 4096) (f .in-order) r, entry-whole es (length es - 1) (f .on-edges) (omega (arith, f .some)) .1)
+    omega (arith, ram-below es (p * 4096) (f .in-order) r, entry-on-bytes es (length es - 1) (f .on-edges) (omega (arith, f .some)) .1)
 
 -- ---- the spans hold the bytes that the entries hold
 

@@ -19,13 +19,13 @@ entry-page e p k h l =
     let t : e .end % 0x8000 ≡ 0 = eqb-true _ _ (b .1) in
     between-same (e .start) (e .end) (p * 4096 + k) (e .start) (e .end) (p * 4096) (λ x y. (omega arith, omega arith)) (λ x y. (omega arith, omega arith))
 
-pub page-whole : (es : List MemoryRangeWithNode) (p k : ℕ) → aligned es ≡ true → k < 4096 → ramByte es (p * 4096 + k) ≡ isRam es p
+pub page-alike : (es : List MemoryRangeWithNode) (p k : ℕ) → aligned es ≡ true → k < 4096 → ramByte es (p * 4096 + k) ≡ isRam es p
 unfolding ramByte aligned
-page-whole [] p k h l = refl
-page-whole (e ∷ es) p k h l =
+page-alike [] p k h l = refl
+page-alike (e ∷ es) p k h l =
     let a = both-true (onBytes e) _ h in
-    ap₂ (λ (x y : Bool). x || y) (entry-page e p k (a .0) l) (page-whole es p k (a .1) l)
+    ap₂ (λ (x y : Bool). x || y) (entry-page e p k (a .0) l) (page-alike es p k (a .1) l)
 
 -- so of every layout that is taken
 pub fit-page : (ws : List ℕ) → Fit ws → (p k : ℕ) → k < 4096 → ramByte (entriesOf ws) (p * 4096 + k) ≡ isRam (entriesOf ws) p
-fit-page ws f p k l = page-whole (entriesOf ws) p k (f .on-edges) l
+fit-page ws f p k l = page-alike (entriesOf ws) p k (f .on-edges) l

@@ -14,7 +14,7 @@ use Rattle.protector_state.specs.State.{settingsOf}
 use Rattle.protector_state.specs.Reply.{finished}
 use Rattle.call_refusals.specs.Buffers.{Buffers, Outcome, tablesLen, overlaysOf, fits}
 use Rattle.protector.specs.Calls.{refusedBy, carriedChange}
-pub use Rattle.protector.proofs.Tables.{overlays-written, locks-kept, vtl1-kept, vtl0-kept}
+use Rattle.protector.proofs.Tables.{overlays-written}
 use Rattle.overlay_refusals.specs.Refusals.{unregisterRefusal, registerRefusal}
 use Rattle.overlay_entries.specs.Calls.{entryIn, recounted, counting, unregisterTaken, unregisterOf, currentIn, registerTaken, registerOf}
 use Rattle.overlay_refusals.proofs.Laws as laws

@@ -31,10 +31,11 @@ use Rattle.protector_state.specs.Reply.{askedOf, flatOf}
 use Rattle.call_refusals.specs.Buffers.{Buffers, Outcome, tablesLen, overlaysOf, locksOf, isLocked, fits}
 use Rattle.protector.specs.Writes.{withoutPage, entered}
 use Rattle.protector.specs.Calls.{refusedBy, carriedChange}
+use Rattle.protector.proofs.Tables.{overlays-written}
 use Rattle.overlay_refusals.specs.Refusals.{unregisterRefusal, within, knownRefusal, guestRefusal, dmaRefusal, pageRefusal, registerRefusal}
 use Rattle.overlay_entries.specs.Calls.{entryIn, counting, unregisterTaken, unregisterOf, currentIn, registerTaken, registerOf}
 use Rattle.overlay_refusals.proofs.Laws as laws
-use Rattle.overlay_entries.proofs.Claims.{overlays-written, known-in, entry-in}
+use Rattle.overlay_entries.proofs.Claims.{known-in, entry-in}
 
 -- ---- the operations: each step that a done answer leads to
 

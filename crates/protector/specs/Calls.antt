@@ -29,110 +29,110 @@ use Rattle.call_refusals.specs.Buffers.{Buffers, Outcome, outcome, overlaysOf, 
 use Rattle.call_refusals.specs.Refusals.{buildFits, buildRefusal, visibilityRefusal, answerRefusal}
 use Rattle.protector.specs.Writes.{applied, permittedRun, entered}
 
--- a call refused by the number n changes nothing; else it gives what it does
+-- a call refused by a number changes nothing; else it gives what it does
 abbrev pub refusedBy : Buffers → ℕ → Outcome
-refusedBy w n = record { buffers = w; reply = finished n (codeOf n) 0 0 }
+refusedBy buffers number = record { buffers = buffers; reply = finished number (codeOf number) 0 0 }
 
 abbrev pub decided : Buffers → ℕ → Outcome → Outcome
-decided w n taken = cond (eqb n 0) taken (refusedBy w n)
+decided buffers number taken = cond (eqb number 0) taken (refusedBy buffers number)
 
 -- a step carried out: its writes made, its phase and request kept
 unfoldable pub carriedOut : Buffers → List ℕ → Step → Outcome
-carriedOut w table s =
-    outcome (applied table (s .writes) (w .maps)) (withRequest (s .phase) (s .request) (w .state)) table (w .tables)
-    (flatOf (settingsOf (w .state) .isolation) (s .answer))
+carriedOut buffers table step =
+    outcome (applied table (step .writes) (buffers .maps)) (withRequest (step .phase) (step .request) (buffers .state)) table (buffers .tables)
+    (flatOf (settingsOf (buffers .state) .isolation) (step .answer))
 
 -- a step of another change carried out: its permissions and its entry written, its stage and change kept
 abbrev pub withPermissions : Maps → PageRun → HvMapGpaFlags → Maps
-withPermissions m r f = record { private = m .private; shared = m .shared; permissions = permittedRun r f (m .permissions) }
+withPermissions maps run flags = record { private = maps .private; shared = maps .shared; permissions = permittedRun run flags (maps .permissions) }
 
 unfoldable pub carriedChange : Buffers → List ℕ → ChangeStep → Outcome
-carriedChange w table x =
-    outcome (withPermissions (w .maps) (x .written) (flagsOf (x .change .flags))) (withChange (x .stage) (x .change) (w .state)) table
-    (entered (x .entry) (x .change) (w .tables)) (flatOf (settingsOf (w .state) .isolation) (x .answer))
+carriedChange buffers table step =
+    outcome (withPermissions (buffers .maps) (step .written) (flagsOf (step .change .flags))) (withChange (step .stage) (step .change) (buffers .state)) table
+    (entered (step .entry) (step .change) (buffers .tables)) (flatOf (settingsOf (buffers .state) .isolation) (step .answer))
 
 -- ---- build
 
 -- every map, the state and the tables as a build leaves them, whatever they held
 unfoldable pub buildTaken : Buffers → List ℕ → ℕ → ℕ → ℕ → Outcome
-buildTaken w ram isolation tracked release =
-    outcome (built (entriesOf ram) (w .maps)) (builtState ram isolation tracked release) (replicate (length (w .pages)) 0)
-    (replicate (length (w .tables)) 0) (finished 0 0 0 0)
+buildTaken buffers ram isolation tracked release =
+    outcome (built (entriesOf ram) (buffers .maps)) (builtState ram isolation tracked release) (replicate (length (buffers .pages)) 0)
+    (replicate (length (buffers .tables)) 0) (finished 0 0 0 0)
 
 unfoldable pub buildOf : Buffers → List ℕ → ℕ → ℕ → ℕ → Outcome
-buildOf w ram isolation tracked release =
-    decided w (buildRefusal ram isolation tracked release (buildFits (mapLen (entriesOf ram)) tracked (length (w .state)) (lengthsIn w))) (buildTaken w ram isolation tracked release)
+buildOf buffers ram isolation tracked release =
+    decided buffers (buildRefusal ram isolation tracked release (buildFits (mapLen (entriesOf ram)) tracked (length (buffers .state)) (lengthsIn buffers))) (buildTaken buffers ram isolation tracked release)
 
 -- ---- a visibility change
 
 -- whether the permission maps are looked at: a share that VTL0 asks for, once protections are enabled
 abbrev pub checksPermissions : Settings → GuestVtl → Bool → Bool
-checksPermissions s v share = share && (isVtl0 v && s .enabled)
+checksPermissions settings vtl share = share && (isVtl0 vtl && settings .enabled)
 
 -- where it stops (15): how many pages come before the first that isn't readable and writable
 abbrev pub stopOf : Buffers → GuestVtl → Bool → List ℕ → ℕ
-stopOf w v share l =
-    stopAt (isReadableAndWritable (w .maps .permissions .read) (w .maps .permissions .write) (checksPermissions (settingsOf (w .state)) v share)) (pagesOf l)
+stopOf buffers vtl share list =
+    stopAt (isReadableAndWritable (buffers .maps .permissions .read) (buffers .maps .permissions .write) (checksPermissions (settingsOf (buffers .state)) vtl share)) (pagesOf list)
 
 -- the pages before the stop that aren't yet as asked, and the table that has them with their places in the list
 abbrev pub askedFor : Buffers → GuestVtl → Bool → List ℕ → List ℕ
-askedFor w v share l = pick (wanted (w .maps .shared) share) (take (stopOf w v share l) (pagesOf l))
+askedFor buffers vtl share list = pick (wanted (buffers .maps .shared) share) (take (stopOf buffers vtl share list) (pagesOf list))
 
 abbrev pub tableFor : Buffers → GuestVtl → Bool → List ℕ → List ℕ
-tableFor w v share l = tableOf (wanted (w .maps .shared) share) (take (stopOf w v share l) (pagesOf l)) (w .pages)
+tableFor buffers vtl share list = tableOf (wanted (buffers .maps .shared) share) (take (stopOf buffers vtl share list) (pagesOf list)) (buffers .pages)
 
 unfoldable pub visibilityTaken : Buffers → GuestVtl → Bool → List ℕ → Outcome
-visibilityTaken w v share l =
-    carriedOut w (tableFor w v share l)
-    (startOf (settingsOf (w .state)) v share (length (askedFor w v share l)) (stopOf w v share l) (ltb (stopOf w v share l) (length (pagesOf l))))
+visibilityTaken buffers vtl share list =
+    carriedOut buffers (tableFor buffers vtl share list)
+    (startOf (settingsOf (buffers .state)) vtl share (length (askedFor buffers vtl share list)) (stopOf buffers vtl share list) (ltb (stopOf buffers vtl share list) (length (pagesOf list))))
 
 unfoldable pub visibilityOf : Buffers → ℕ → ℕ → List ℕ → Outcome
-visibilityOf w vtl visibility l = decided w (visibilityRefusal (w .state) (fits w) (w .tables) vtl visibility l) (visibilityTaken w (vtlOf vtl) (boolOf visibility) l)
+visibilityOf buffers vtl visibility list = decided buffers (visibilityRefusal (buffers .state) (fits buffers) (buffers .tables) vtl visibility list) (visibilityTaken buffers (vtlOf vtl) (boolOf visibility) list)
 
 -- ---- the answer
 
 -- what waits is a default change's Protect: its next piece
 abbrev pub pieceAfter : Stage → List ℕ → List ℕ → List MemoryRangeWithNode → ℕ → PageRun
-pieceAfter stage.Idle private overlays es p = changes.noRun
-pieceAfter stage.Halted private overlays es p = changes.noRun
-pieceAfter stage.ProtectPages private overlays es p = changes.noRun
-pieceAfter stage.ProtectRam private overlays es p = nextPiece private overlays es p
-pieceAfter stage.ProtectNew private overlays es p = changes.noRun
-pieceAfter stage.ProtectOld private overlays es p = changes.noRun
-pieceAfter stage.Wait private overlays es p = changes.noRun
-pieceAfter stage.Flush private overlays es p = changes.noRun
-pieceAfter stage.TlbWait private overlays es p = changes.noRun
+pieceAfter stage.Idle private overlays entries gpn = changes.noRun
+pieceAfter stage.Halted private overlays entries gpn = changes.noRun
+pieceAfter stage.ProtectPages private overlays entries gpn = changes.noRun
+pieceAfter stage.ProtectRam private overlays entries gpn = nextPiece private overlays entries gpn
+pieceAfter stage.ProtectNew private overlays entries gpn = changes.noRun
+pieceAfter stage.ProtectOld private overlays entries gpn = changes.noRun
+pieceAfter stage.Wait private overlays entries gpn = changes.noRun
+pieceAfter stage.Flush private overlays entries gpn = changes.noRun
+pieceAfter stage.TlbWait private overlays entries gpn = changes.noRun
 
 abbrev pub nextIn : List ℕ → List ℕ → List ℕ → PageRun
-nextIn private s tables = pieceAfter (stageIn s) private (overlaysOf tables (changeIn s .vtl)) (entriesIn s) (changeIn s .at)
+nextIn private state tables = pieceAfter (stageIn state) private (overlaysOf tables (changeIn state .vtl)) (entriesIn state) (changeIn state .at)
 
 -- what the answer leads such a change to
 unfoldable pub afterDone : List ℕ → List ℕ → List ℕ → List ℕ → ChangeStep
-afterDone private s pages tables = changes.doneOf (settingsOf s .tracked) (stageIn s) (changeIn s) pages (nextIn private s tables)
+afterDone private state pages tables = changes.doneOf (settingsOf state .tracked) (stageIn state) (changeIn state) pages (nextIn private state tables)
 
 unfoldable pub afterFailed : List ℕ → ChangeStep
-afterFailed s = changes.failedOf (stageIn s) (changeIn s)
+afterFailed state = changes.failedOf (stageIn state) (changeIn state)
 
 -- an answer that is taken: of a visibility change, or of another
 abbrev pub doneIn : List ℕ → List ℕ → Step
-doneIn s pages = doneOf (settingsOf s) (phaseIn s) (requestOf s) pages
+doneIn state pages = doneOf (settingsOf state) (phaseIn state) (requestOf state) pages
 
 abbrev pub visibilityDone : Buffers → Outcome
-visibilityDone w = carriedOut w (w .pages) (doneIn (w .state) (w .pages))
+visibilityDone buffers = carriedOut buffers (buffers .pages) (doneIn (buffers .state) (buffers .pages))
 
 abbrev pub visibilityFailed : Buffers → ℕ → ℕ → Outcome
-visibilityFailed w code processed =
-    carriedOut w (w .pages) (failedOf (settingsOf (w .state)) (phaseIn (w .state)) (requestOf (w .state)) (w .pages) code processed)
+visibilityFailed buffers code processed =
+    carriedOut buffers (buffers .pages) (failedOf (settingsOf (buffers .state)) (phaseIn (buffers .state)) (requestOf (buffers .state)) (buffers .pages) code processed)
 
 abbrev pub changeDone : Buffers → Outcome
-changeDone w = carriedChange w (w .pages) (afterDone (w .maps .private) (w .state) (w .pages) (w .tables))
+changeDone buffers = carriedChange buffers (buffers .pages) (afterDone (buffers .maps .private) (buffers .state) (buffers .pages) (buffers .tables))
 
 abbrev pub changeFailed : Buffers → Outcome
-changeFailed w = carriedChange w (w .pages) (afterFailed (w .state))
+changeFailed buffers = carriedChange buffers (buffers .pages) (afterFailed (buffers .state))
 
 unfoldable pub answerDone : Buffers → Outcome
-answerDone w = decided w (answerRefusal (w .state) (fits w) false) (cond (isChanging (w .state)) (changeDone w) (visibilityDone w))
+answerDone buffers = decided buffers (answerRefusal (buffers .state) (fits buffers) false) (cond (isChanging (buffers .state)) (changeDone buffers) (visibilityDone buffers))
 
 unfoldable pub answerFailed : Buffers → ℕ → ℕ → Outcome
-answerFailed w code processed =
-    decided w (answerRefusal (w .state) (fits w) true) (cond (isChanging (w .state)) (changeFailed w) (visibilityFailed w code processed))
+answerFailed buffers code processed =
+    decided buffers (answerRefusal (buffers .state) (fits buffers) true) (cond (isChanging (buffers .state)) (changeFailed buffers) (visibilityFailed buffers code processed))

@@ -22,40 +22,40 @@ use Rattle.call_refusals.specs.Buffers.{overlaysOf}
 -- ---- what a step of a visibility change writes: the marks and the permissions of places of the table
 
 abbrev pub putPlaces : List ℕ → Places → Bool → List ℕ → List ℕ
-putPlaces t a s m = put t (a .from) (a .to) s m
+putPlaces pages places state map = put pages (places .from) (places .to) state map
 
 abbrev pub putPermissions : List ℕ → Places → HvMapGpaFlags → Permissions → Permissions
-putPermissions t a f m = putFlags t (a .from) (a .to) f m
+putPermissions pages places flags permissions = putFlags pages (places .from) (places .to) flags permissions
 
 unfoldable pub applied : List ℕ → Writes → Maps → Maps
-applied t w m =
+applied pages writes maps =
     record {
-      private = putPlaces t (w .private) (w .state) (m .private);
-      shared = putPlaces t (w .shared) (w .state) (m .shared);
-      permissions = putPermissions t (w .permissions) (w .flags) (m .permissions);
+      private = putPlaces pages (writes .private) (writes .state) (maps .private);
+      shared = putPlaces pages (writes .shared) (writes .state) (maps .shared);
+      permissions = putPermissions pages (writes .permissions) (writes .flags) (maps .permissions);
     }
 
 abbrev pub isEmpty : Places → Bool
-isEmpty p = leb (p .to) (p .from)
+isEmpty places = leb (places .to) (places .from)
 
 -- a step that writes nothing
 abbrev pub isNothing : Writes → Bool
-isNothing w = isEmpty (w .private) && (isEmpty (w .shared) && isEmpty (w .permissions))
+isNothing writes = isEmpty (writes .private) && (isEmpty (writes .shared) && isEmpty (writes .permissions))
 
 -- ---- what a step of another change writes: the permissions of a run of pages, and an overlay entry
 
 abbrev pub permittedRun : PageRun → HvMapGpaFlags → Permissions → Permissions
-permittedRun r f m = permitted (r .first) (r .first + r .count) f m
+permittedRun run flags permissions = permitted (run .first) (run .first + run .count) flags permissions
 
 -- the tables with other overlays of a VTL
 abbrev pub withOverlays : List ℕ → GuestVtl → List ℕ → List ℕ
-withOverlays t v o = take (overlaysLen * vtlNumber v) t ++ (o ++ drop (overlaysLen * vtlNumber v + overlaysLen) t)
+withOverlays tables vtl overlays = take (overlaysLen * vtlNumber vtl) tables ++ (overlays ++ drop (overlaysLen * vtlNumber vtl + overlaysLen) tables)
 
 -- the overlays of a VTL without a page's first
 abbrev pub withoutPage : List ℕ → ℕ → List ℕ
-withoutPage o p = cond (isOverlay o p) (removeWords o (placeOf o p)) o
+withoutPage overlays gpn = cond (isOverlay overlays gpn) (removeWords overlays (placeOf overlays gpn)) overlays
 
 unfoldable pub entered : Entry → Change → List ℕ → List ℕ
-entered Keep q t = t
-entered Add q t = withOverlays t (q .vtl) (addWords (overlaysOf t (q .vtl)) (entry (q .at) (q .previous) (q .flags) 1 (q .source)))
-entered Remove q t = withOverlays t (q .vtl) (withoutPage (overlaysOf t (q .vtl)) (q .at))
+entered Keep change tables = tables
+entered Add change tables = withOverlays tables (change .vtl) (addWords (overlaysOf tables (change .vtl)) (entry (change .at) (change .previous) (change .flags) 1 (change .source)))
+entered Remove change tables = withOverlays tables (change .vtl) (withoutPage (overlaysOf tables (change .vtl)) (change .at))

@@ -25,14 +25,14 @@ use visibility_steps::Step;
 use visibility_steps::Writes;
 
 // Whether a visibility change looks at the permission maps.
-pub fn checks_permissions(set: Settings, vtl: GuestVtl, share: bool) -> bool
-    ensures { λ r. ⌜ r ≡ checksPermissions set vtl share ⌝ }
+pub fn checks_permissions(settings: Settings, vtl: GuestVtl, share: bool) -> bool
+    ensures { λ r. ⌜ r ≡ checksPermissions settings vtl share ⌝ }
 {
     if !share {
         return false;
     }
     match vtl {
-        GuestVtl::Vtl0 => set.enabled,
+        GuestVtl::Vtl0 => settings.enabled,
         GuestVtl::Vtl1 => false,
     }
 }
@@ -45,26 +45,26 @@ fn set_marks(map: &mut [u8], pages: &[u64], places: Places, state: bool)
     request_pages::set_places(map, pages, from, to, state);
 }
 
-fn is_empty(p: Places) -> bool
-    ensures { λ r. ⌜ r ≡ isEmpty p ⌝ }
+fn is_empty(places: Places) -> bool
+    ensures { λ r. ⌜ r ≡ isEmpty places ⌝ }
 {
-    p.to <= p.from
+    places.to <= places.from
 }
 
 // Whether a step writes nothing.
-fn is_nothing(w: Writes) -> bool
-    ensures { λ r. ⌜ r ≡ isNothing w ⌝ }
+fn is_nothing(writes: Writes) -> bool
+    ensures { λ r. ⌜ r ≡ isNothing writes ⌝ }
 {
-    let p = w.private;
-    let s = w.shared;
-    let m = w.permissions;
-    if !is_empty(p) {
+    let private = writes.private;
+    let shared = writes.shared;
+    let permissions = writes.permissions;
+    if !is_empty(private) {
         return false;
     }
-    if !is_empty(s) {
+    if !is_empty(shared) {
         return false;
     }
-    is_empty(m)
+    is_empty(permissions)
 }
 
 // What a step writes. Places of no page write nothing.
@@ -76,20 +76,29 @@ fn apply(
     kernel: &mut [u8],
     user: &mut [u8],
     pages: &[u64],
-    w: Writes,
+    writes: Writes,
 )
-    ensures { λ _. ⌜ maps (now (private .exit)) (now (shared .exit)) (now (read .exit)) (now (write .exit)) (now (kernel .exit)) (now (user .exit)) ≡ applied (now (pages .entry)) w (maps (now (private .entry)) (now (shared .entry)) (now (read .entry)) (now (write .entry)) (now (kernel .entry)) (now (user .entry))) ⌝ }
+    ensures { λ _. ⌜ maps (now (private .exit)) (now (shared .exit)) (now (read .exit)) (now (write .exit)) (now (kernel .exit)) (now (user .exit)) ≡ applied (now (pages .entry)) writes (maps (now (private .entry)) (now (shared .entry)) (now (read .entry)) (now (write .entry)) (now (kernel .entry)) (now (user .entry))) ⌝ }
 {
-    let p = w.private;
-    let s = w.shared;
-    let m = w.permissions;
-    let f = w.flags;
-    if is_nothing(w) {
+    let private_places = writes.private;
+    let shared_places = writes.shared;
+    let permission_places = writes.permissions;
+    let flags = writes.flags;
+    if is_nothing(writes) {
         return;
     }
-    set_marks(private, pages, p, w.state);
-    set_marks(shared, pages, s, w.state);
-    request_pages::update_permissions(read, write, kernel, user, pages, m.from, m.to, f);
+    set_marks(private, pages, private_places, writes.state);
+    set_marks(shared, pages, shared_places, writes.state);
+    request_pages::update_permissions(
+        read,
+        write,
+        kernel,
+        user,
+        pages,
+        permission_places.from,
+        permission_places.to,
+        flags,
+    );
 }
 
 // A step carried out: its writes made, its phase and request kept.
@@ -102,19 +111,19 @@ pub fn apply_step(
     user: &mut [u8],
     state: &mut [u64],
     pages: &[u64],
-    set: Settings,
-    s: Step,
+    settings: Settings,
+    step: Step,
 ) -> Reply
     requires { ⌜ length (now state) ≡ stateLen ⌝ }
-    ensures { λ _. ⌜ maps (now (private .exit)) (now (shared .exit)) (now (read .exit)) (now (write .exit)) (now (kernel .exit)) (now (user .exit)) ≡ applied (now (pages .entry)) (s .writes) (maps (now (private .entry)) (now (shared .entry)) (now (read .entry)) (now (write .entry)) (now (kernel .entry)) (now (user .entry))) ⌝ }
-    ensures { λ _. ⌜ now (state .exit) ≡ withRequest (s .phase) (s .request) (now (state .entry)) ⌝ }
-    ensures { λ r. ⌜ r ≡ flatOf (set .isolation) (s .answer) ⌝ }
+    ensures { λ _. ⌜ maps (now (private .exit)) (now (shared .exit)) (now (read .exit)) (now (write .exit)) (now (kernel .exit)) (now (user .exit)) ≡ applied (now (pages .entry)) (step .writes) (maps (now (private .entry)) (now (shared .entry)) (now (read .entry)) (now (write .entry)) (now (kernel .entry)) (now (user .entry))) ⌝ }
+    ensures { λ _. ⌜ now (state .exit) ≡ withRequest (step .phase) (step .request) (now (state .entry)) ⌝ }
+    ensures { λ r. ⌜ r ≡ flatOf (settings .isolation) (step .answer) ⌝ }
 {
-    let writes = s.writes;
-    let phase = s.phase;
-    let request = s.request;
-    let answer = s.answer;
-    let isolation = set.isolation;
+    let writes = step.writes;
+    let phase = step.phase;
+    let request = step.request;
+    let answer = step.answer;
+    let isolation = settings.isolation;
     apply(private, shared, read, write, kernel, user, pages, writes);
     protector_state::save(state, phase, request);
     protector_state::to_reply(isolation, answer)
@@ -139,12 +148,12 @@ fn update_default_permissions(
     state: &[u64],
     pages: &[u64],
     phase: Phase,
-    n: u64,
+    count: u64,
     at: u64,
     run: PageRun,
 )
-    requires { ⌜ (length (now state) ≡ stateLen) × (n ≤ length (now pages)) × (run ≡ runIn phase (now pages) n at) ⌝ }
-    ensures { λ _. ⌜ perms (now (read .exit)) (now (write .exit)) (now (kernel .exit)) (now (user .exit)) ≡ putPermissions (now (pages .entry)) (permittedAt (settingsOf (now (state .entry))) phase (now (pages .entry)) n at) (flagsAt (settingsOf (now (state .entry))) phase) (perms (now (read .entry)) (now (write .entry)) (now (kernel .entry)) (now (user .entry))) ⌝ }
+    requires { ⌜ (length (now state) ≡ stateLen) × (count ≤ length (now pages)) × (run ≡ runIn phase (now pages) count at) ⌝ }
+    ensures { λ _. ⌜ perms (now (read .exit)) (now (write .exit)) (now (kernel .exit)) (now (user .exit)) ≡ putPermissions (now (pages .entry)) (permittedAt (settingsOf (now (state .entry))) phase (now (pages .entry)) count at) (flagsAt (settingsOf (now (state .entry))) phase) (perms (now (read .entry)) (now (write .entry)) (now (kernel .entry)) (now (user .entry))) ⌝ }
 {
     if !visibility_steps::is_default0(phase) {
         return;
@@ -152,11 +161,11 @@ fn update_default_permissions(
     if !protector_state::is_tracked(state) {
         return;
     }
-    if n <= at {
+    if count <= at {
         return;
     }
     let flags = protector_state::default_vtl0(state);
-    request_pages::update_permissions_at(read, write, kernel, user, pages, n, at, run, flags);
+    request_pages::update_permissions_at(read, write, kernel, user, pages, count, at, run, flags);
 }
 
 // What an answer leads to, carried out.
@@ -169,20 +178,21 @@ fn apply_done(
     user: &mut [u8],
     state: &mut [u64],
     pages: &[u64],
-    q: Request,
-    x: Next,
+    request: Request,
+    next: Next,
 ) -> Reply
-    requires { ⌜ (length (now state) ≡ stateLen) × (q .n ≤ length (now pages)) ⌝ }
-    ensures { λ _. ⌜ maps (now (private .exit)) (now (shared .exit)) (now (read .exit)) (now (write .exit)) (now (kernel .exit)) (now (user .exit)) ≡ applied (now (pages .entry)) (nextStep (settingsOf (now (state .entry))) q (now (pages .entry)) x .writes) (maps (now (private .entry)) (now (shared .entry)) (now (read .entry)) (now (write .entry)) (now (kernel .entry)) (now (user .entry))) ⌝ }
-    ensures { λ _. ⌜ now (state .exit) ≡ withRequest (nextStep (settingsOf (now (state .entry))) q (now (pages .entry)) x .phase) (nextStep (settingsOf (now (state .entry))) q (now (pages .entry)) x .request) (now (state .entry)) ⌝ }
-    ensures { λ r. ⌜ r ≡ flatOf (settingsOf (now (state .entry)) .isolation) (nextStep (settingsOf (now (state .entry))) q (now (pages .entry)) x .answer) ⌝ }
+    requires { ⌜ (length (now state) ≡ stateLen) × (request .n ≤ length (now pages)) ⌝ }
+    ensures { λ _. ⌜ maps (now (private .exit)) (now (shared .exit)) (now (read .exit)) (now (write .exit)) (now (kernel .exit)) (now (user .exit))
+        ≡ applied (now (pages .entry)) (nextStep (settingsOf (now (state .entry))) request (now (pages .entry)) next .writes) (maps (now (private .entry)) (now (shared .entry)) (now (read .entry)) (now (write .entry)) (now (kernel .entry)) (now (user .entry))) ⌝ }
+    ensures { λ _. ⌜ now (state .exit) ≡ withRequest (nextStep (settingsOf (now (state .entry))) request (now (pages .entry)) next .phase) (nextStep (settingsOf (now (state .entry))) request (now (pages .entry)) next .request) (now (state .entry)) ⌝ }
+    ensures { λ r. ⌜ r ≡ flatOf (settingsOf (now (state .entry)) .isolation) (nextStep (settingsOf (now (state .entry))) request (now (pages .entry)) next .answer) ⌝ }
 {
-    let turn = x.turn;
-    let phase = x.phase;
-    let m = x.marks;
-    let run = visibility_steps::run_in(phase, pages, q.n, x.at);
-    mark(private, pages, 0, m.private);
-    mark(shared, pages, m.from, m.to);
+    let turn = next.turn;
+    let phase = next.phase;
+    let marks = next.marks;
+    let run = visibility_steps::run_in(phase, pages, request.n, next.at);
+    mark(private, pages, 0, marks.private);
+    mark(shared, pages, marks.from, marks.to);
     update_default_permissions(
         read,
         write,
@@ -191,13 +201,17 @@ fn apply_done(
         state,
         pages,
         phase,
-        q.n,
-        x.at,
+        request.n,
+        next.at,
         run,
     );
-    let r = protector_state::next_reply(state, turn, phase, q, run);
-    protector_state::save(state, phase, visibility_steps::next_request(turn, q, x.at));
-    r
+    let reply = protector_state::next_reply(state, turn, phase, request, run);
+    protector_state::save(
+        state,
+        phase,
+        visibility_steps::next_request(turn, request, next.at),
+    );
+    reply
 }
 
 // The operation asked for is done.
@@ -216,10 +230,10 @@ pub fn answer_done(
     ensures { λ _. ⌜ now (state .exit) ≡ withRequest (doneIn (now (state .entry)) (now (pages .entry)) .phase) (doneIn (now (state .entry)) (now (pages .entry)) .request) (now (state .entry)) ⌝ }
     ensures { λ r. ⌜ r ≡ flatOf (settingsOf (now (state .entry)) .isolation) (doneIn (now (state .entry)) (now (pages .entry)) .answer) ⌝ }
 {
-    let set = protector_state::settings(state);
+    let settings = protector_state::settings(state);
     let phase = protector_state::phase(state);
-    let q = protector_state::load(state);
-    let x = visibility_steps::done(set, phase, q, pages);
+    let request = protector_state::load(state);
+    let next = visibility_steps::done(settings, phase, request, pages);
     apply_done(
         private,
         shared,
@@ -229,8 +243,8 @@ pub fn answer_done(
         user,
         state,
         pages,
-        q,
-        x,
+        request,
+        next,
     )
 }
 
@@ -246,21 +260,21 @@ pub fn begin(
     pages: &[u64],
     vtl: GuestVtl,
     share: bool,
-    n: u64,
+    count: u64,
     stop: u64,
     stopped: bool,
 ) -> Reply
     requires { ⌜ length (now state) ≡ stateLen ⌝ }
-    ensures { λ _. ⌜ maps (now (private .exit)) (now (shared .exit)) (now (read .exit)) (now (write .exit)) (now (kernel .exit)) (now (user .exit)) ≡ applied (now (pages .entry)) (startOf (settingsOf (now (state .entry))) vtl share n stop stopped .writes) (maps (now (private .entry)) (now (shared .entry)) (now (read .entry)) (now (write .entry)) (now (kernel .entry)) (now (user .entry))) ⌝ }
-    ensures { λ _. ⌜ now (state .exit) ≡ withRequest (startOf (settingsOf (now (state .entry))) vtl share n stop stopped .phase) (startOf (settingsOf (now (state .entry))) vtl share n stop stopped .request) (now (state .entry)) ⌝ }
-    ensures { λ r. ⌜ r ≡ flatOf (settingsOf (now (state .entry)) .isolation) (startOf (settingsOf (now (state .entry))) vtl share n stop stopped .answer) ⌝ }
+    ensures { λ _. ⌜ maps (now (private .exit)) (now (shared .exit)) (now (read .exit)) (now (write .exit)) (now (kernel .exit)) (now (user .exit)) ≡ applied (now (pages .entry)) (startOf (settingsOf (now (state .entry))) vtl share count stop stopped .writes) (maps (now (private .entry)) (now (shared .entry)) (now (read .entry)) (now (write .entry)) (now (kernel .entry)) (now (user .entry))) ⌝ }
+    ensures { λ _. ⌜ now (state .exit) ≡ withRequest (startOf (settingsOf (now (state .entry))) vtl share count stop stopped .phase) (startOf (settingsOf (now (state .entry))) vtl share count stop stopped .request) (now (state .entry)) ⌝ }
+    ensures { λ r. ⌜ r ≡ flatOf (settingsOf (now (state .entry)) .isolation) (startOf (settingsOf (now (state .entry))) vtl share count stop stopped .answer) ⌝ }
 {
-    let w = visibility_steps::clears(protector_state::is_tracked(state), vtl, share, n);
-    apply(private, shared, read, write, kernel, user, pages, w);
+    let writes = visibility_steps::clears(protector_state::is_tracked(state), vtl, share, count);
+    apply(private, shared, read, write, kernel, user, pages, writes);
     protector_state::save(
         state,
         Phase::Wait,
-        visibility_steps::asked(vtl, share, n, stop, stopped),
+        visibility_steps::asked(vtl, share, count, stop, stopped),
     );
     protector_state::plain(operation::WAIT)
 }

@@ -36,7 +36,5 @@ pub const REGISTRAR_BUILD: u64 = 16;
 
 pub const REGISTER: u64 = 17;
 
-pub const REGISTER_ALL_ALIGNED: u64 = 18;
-
-// The kinds are below it.
+// The kinds are below it; the last, `register_all_aligned`, is none of those named.
 pub const END: u64 = 19;

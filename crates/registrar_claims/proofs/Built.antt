@@ -141,7 +141,7 @@ sound-with w q r f h k words er ef =
       in-order = ap (ordered 0) es ∙ h .in-order;
       words = words;
       request = fits-at _ _ q (sym (ap lastEnd es)) k;
-      pages = record { pages = h .pages .pages; some = h .pages .some; whole = eg ∙ h .pages .whole };
+      pages = record { pages = h .pages .pages; some = h .pages .some; multiple = eg ∙ h .pages .multiple };
       room = omega (arith, h .room, kept-offset (w .state) t refl, ap lastEnd es);
       block = omega (arith, h .block, length-drop place.afterRequest (w .state));
       lengths = lengths-same (granularityOf t) (granularityOf (w .state)) (entriesIn t) (entriesIn (w .state)) r (w .registered) f (w .failed) eg es er ef ∙ h .lengths;

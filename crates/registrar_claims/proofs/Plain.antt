@@ -37,20 +37,20 @@ up-up n a b pa pb pab =
 pub record Pages (g : ℕ) : Type 0 where
   pub pages : ℕ
   pub some : zero < pages
-  pub whole : g ≡ pageSize * pages
+  pub multiple : g ≡ pageSize * pages
 
 module _ (g address len : ℕ) (k : Pages g) where
   in-pages : g / pageSize ≡ k .pages
-  in-pages = ap (λ (m : ℕ). m / pageSize) (k .whole) ∙ mul-div-cancel-left (k .pages) {n = pageSize} (omega arith)
+  in-pages = ap (λ (m : ℕ). m / pageSize) (k .multiple) ∙ mul-div-cancel-left (k .pages) {n = pageSize} (omega arith)
 
   -- THE CLAIMS: the chunk of the first byte, and the one after the chunk of the last
   pub first-plain : firstChunk g address ≡ address / g
   first-plain =
-      ap (λ (m : ℕ). address / pageSize / m) in-pages ∙ div-div-eq-div-mul address pageSize (k .pages) ∙ ap (λ (m : ℕ). address / m) (sym (k .whole))
+      ap (λ (m : ℕ). address / pageSize / m) in-pages ∙ div-div-eq-div-mul address pageSize (k .pages) ∙ ap (λ (m : ℕ). address / m) (sym (k .multiple))
 
   pub end-plain : endChunk g address len ≡ up (address + len) g
   end-plain =
-      ap (up (up (address + len) pageSize)) in-pages ∙ up-up (address + len) pageSize (k .pages) (omega arith) (k .some) (omega (arith, k .some)) ∙ ap (up (address + len)) (sym (k .whole))
+      ap (up (up (address + len) pageSize)) in-pages ∙ up-up (address + len) pageSize (k .pages) (omega arith) (k .some) (omega (arith, k .some)) ∙ ap (up (address + len)) (sym (k .multiple))
 
 power-is : (n k m : ℕ) → powerFrom n k m ≡ true → (j : ℕ) × (n ≡ 2 ^ j)
 unfolding powerFrom
@@ -66,4 +66,4 @@ fit-pages g l h = go (power-is g 0 wordBits h)
         let big : pageSize ≤ 2 ^ j = omega (arith, leb-true pageSize g l, p .1) in
         let from : 12 ≤ j = elim (decLt j 12) [ yes d ↦ absurd (omega (arith, pow-lt d, big)) | no d ↦ omega arith ] in
         let e : 12 + (j - 12) ≡ j = omega arith in
-        record { pages = 2 ^ (j - 12); some = pow-pos (j - 12); whole = p .1 ∙ ap (λ (i : ℕ). 2 ^ i) (sym e) ∙ pow-add 2 12 (j - 12) }
+        record { pages = 2 ^ (j - 12); some = pow-pos (j - 12); multiple = p .1 ∙ ap (λ (i : ℕ). 2 ^ i) (sym e) ∙ pow-add 2 12 (j - 12) }

@@ -27,30 +27,30 @@ withFailed lent AnswerFailed = marked (requestOf (lent .state) .from) (requestOf
 
 -- nothing is asked any more, and every other word of the state block stays
 abbrev pub IdleState : Buffers → Outcome → Type 0
-IdleState lent o = o .buffers .state ≡ withRequest idle (lent .state)
+IdleState lent outcome = outcome .buffers .state ≡ withRequest idle (lent .state)
 
 -- 22: what was registered before stays
-pub record Unaligned22 (lent : Buffers) (registered : List ℕ) (o : Outcome) : Type 0 where
-  pub same-state : IdleState lent o
-  pub same-registered : o .buffers .registered ≡ registered
-  pub same-failed : o .buffers .failed ≡ lent .failed
+pub record Unaligned22 (lent : Buffers) (registered : List ℕ) (outcome : Outcome) : Type 0 where
+  pub same-state : IdleState lent outcome
+  pub same-registered : outcome .buffers .registered ≡ registered
+  pub same-failed : outcome .buffers .failed ≡ lent .failed
 
 -- 23: the failed chunks are marked, and before a chunk that failed before those that ask for nothing are passed
-pub record Failed23 (lent : Buffers) (registered failed : List ℕ) (o : Outcome) : Type 0 where
+pub record Failed23 (lent : Buffers) (registered failed : List ℕ) (outcome : Outcome) : Type 0 where
   pub from : ℕ
   pub to : ℕ
-  pub same-state : IdleState lent o
-  pub same-registered : o .buffers .registered ≡ marked from to registered
+  pub same-state : IdleState lent outcome
+  pub same-registered : outcome .buffers .registered ≡ marked from to registered
   pub passed : (chunk : ℕ) → from ≤ chunk → chunk < to → passes (chunkState (granularityOf (lent .state)) (entriesIn (lent .state)) registered (lent .failed)) chunk ≡ true
-  pub same-failed : o .buffers .failed ≡ failed
+  pub same-failed : outcome .buffers .failed ≡ failed
 
 -- every other refusal changes nothing
-pub record Kept (lent : Buffers) (registered marked-failed : List ℕ) (o : Outcome) : Type 0 where
-  pub refused : notRefused (o .reply .number) ≡ false → o .buffers ≡ lent
-  pub unaligned : o .reply .number ≡ refusal.unalignedMemory → Unaligned22 lent registered o
-  pub failed : o .reply .number ≡ refusal.registrationFailed → Failed23 lent registered marked-failed o
+pub record Kept (lent : Buffers) (registered marked-failed : List ℕ) (outcome : Outcome) : Type 0 where
+  pub refused : notRefused (outcome .reply .number) ≡ false → outcome .buffers ≡ lent
+  pub unaligned : outcome .reply .number ≡ refusal.unalignedMemory → Unaligned22 lent registered outcome
+  pub failed : outcome .reply .number ≡ refusal.registrationFailed → Failed23 lent registered marked-failed outcome
 
 -- a chunk that is marked registered or failed stays so
 abbrev pub Stays : Buffers → ℕ → Outcome → Type 0
-Stays lent chunk o =
-    (bitAt wordBits (lent .registered) chunk ≡ true → bitAt wordBits (o .buffers .registered) chunk ≡ true) × (bitAt wordBits (lent .failed) chunk ≡ true → bitAt wordBits (o .buffers .failed) chunk ≡ true)
+Stays lent chunk outcome =
+    (bitAt wordBits (lent .registered) chunk ≡ true → bitAt wordBits (outcome .buffers .registered) chunk ≡ true) × (bitAt wordBits (lent .failed) chunk ≡ true → bitAt wordBits (outcome .buffers .failed) chunk ≡ true)

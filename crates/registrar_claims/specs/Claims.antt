@@ -32,23 +32,23 @@ isWithin settings address len =
 abbrev pub isAligned : Settings → ℕ → ℕ → Bool
 isAligned settings alignment ignore = leb ignore 1 && (leb (settings .granularity) alignment && isPower alignment)
 
--- a registrar v that was built so, and that awaits an answer or not
-pub record Stands (v : Buffers) (b : Settings) (awaits : Bool) : Type 0 where
+-- a registrar that was built so, and that awaits an answer or not
+pub record Stands (lent : Buffers) (settings : Settings) (awaits : Bool) : Type 0 where
   -- offset, granularity and layout are the build's
-  pub same-offset : offsetOf (v .state) ≡ b .offset
-  pub same-granularity : granularityOf (v .state) ≡ b .granularity
-  pub same-ram : ramOf (v .state) ≡ b .ram
+  pub same-offset : offsetOf (lent .state) ≡ settings .offset
+  pub same-granularity : granularityOf (lent .state) ≡ settings .granularity
+  pub same-ram : ramOf (lent .state) ≡ settings .ram
   -- all that is lent has the length that the build asked for
-  pub state-length : length (v .state) ≡ registrarLen
-  pub registered-length : length (v .registered) ≡ mapWords (b .granularity) (entriesOf (b .ram))
-  pub failed-length : length (v .failed) ≡ mapWords (b .granularity) (entriesOf (b .ram))
+  pub state-length : length (lent .state) ≡ registrarLen
+  pub registered-length : length (lent .registered) ≡ mapWords (settings .granularity) (entriesOf (settings .ram))
+  pub failed-length : length (lent .failed) ≡ mapWords (settings .granularity) (entriesOf (settings .ram))
   -- an answer that is awaited is taken, done or failed; any other is refused by 21
-  pub told : underWay v ≡ awaits
-  pub answer-taken : awaits ≡ true → (isTaken (doneOf v) ≡ true) × (isTaken (failedOf v) ≡ true)
-  pub answer-refused : awaits ≡ false → (doneOf v ≡ record { buffers = v; reply = flatOf (Refused refusal.nothingAsked) }) × (failedOf v ≡ record { buffers = v; reply = flatOf (Refused refusal.nothingAsked) })
+  pub told : underWay lent ≡ awaits
+  pub answer-taken : awaits ≡ true → (isTaken (doneOf lent) ≡ true) × (isTaken (failedOf lent) ≡ true)
+  pub answer-refused : awaits ≡ false → (doneOf lent ≡ record { buffers = lent; reply = flatOf (Refused refusal.nothingAsked) }) × (failedOf lent ≡ record { buffers = lent; reply = flatOf (Refused refusal.nothingAsked) })
   -- where none is awaited a request within the limits is taken
-  pub register-taken : awaits ≡ false → (address len : ℕ) → isWithin b address len ≡ true → isTaken (registerOf v address len) ≡ true
-  pub all-taken : awaits ≡ false → (al ignore : ℕ) → isAligned b al ignore ≡ true → isTaken (allOf v al ignore) ≡ true
+  pub register-taken : awaits ≡ false → (address len : ℕ) → isWithin settings address len ≡ true → isTaken (registerOf lent address len) ≡ true
+  pub all-taken : awaits ≡ false → (alignment ignore : ℕ) → isAligned settings alignment ignore ≡ true → isTaken (allOf lent alignment ignore) ≡ true
 
 -- ---- a call that is taken is, under any answers, the whole call as 01 writes it
 
@@ -93,24 +93,24 @@ Counts told = told .last .reply .asked ≡ 0 → isTaken (told .last) ≡ true �
 
 -- ---- all of it
 
-pub record Claim (v : Buffers) (b : Settings) (awaits : Bool) : Type 0 where
-  pub stands : Stands v b awaits
-  pub register-whole : RegisterWhole v
-  pub all-whole : AllWhole v
-  pub registered-kept : RegisteredKept v
-  pub chunks-plain : ChunksPlain v
-  pub asked-plain : AskedPlain v
-  pub refusals-keep : RefusalsKeep v
-  pub marks-stay : MarksStay v
-  pub register-counts : (address len : ℕ) (bs : List Bool) → Counts (follow (registerOf v address len) bs)
-  pub all-counts : (al ignore : ℕ) (bs : List Bool) → Counts (follow (allOf v al ignore) bs)
-  pub ends : RequestEnds v
+pub record Claim (lent : Buffers) (settings : Settings) (awaits : Bool) : Type 0 where
+  pub stands : Stands lent settings awaits
+  pub register-whole : RegisterWhole lent
+  pub all-whole : AllWhole lent
+  pub registered-kept : RegisteredKept lent
+  pub chunks-plain : ChunksPlain lent
+  pub asked-plain : AskedPlain lent
+  pub refusals-keep : RefusalsKeep lent
+  pub marks-stay : MarksStay lent
+  pub register-counts : (address len : ℕ) (answers : List Bool) → Counts (follow (registerOf lent address len) answers)
+  pub all-counts : (alignment ignore : ℕ) (answers : List Bool) → Counts (follow (allOf lent alignment ignore) answers)
+  pub ends : RequestEnds lent
 
 -- from a build that is taken on
-pub record FromBuild (w : Buffers) (ram : List ℕ) (offset g : ℕ) : Type 0 where
+pub record FromBuild (lent : Buffers) (ram : List ℕ) (offset granularity : ℕ) : Type 0 where
   -- no entry asks anything of its arguments
   pub unasked : Unasked
-  pub always : (xs : List Call) → let u : Buffers = buildOf w ram offset g .buffers in
-      Claim (after u xs) (settingsAfter u (builtWith ram offset g) xs) (awaitsAfter u false xs)
+  pub always : (calls : List Call) → let built : Buffers = buildOf lent ram offset granularity .buffers in
+      Claim (after built calls) (settingsAfter built (builtWith ram offset granularity) calls) (awaitsAfter built false calls)
   -- with no other build the settings stay this one's
-  pub stay : (xs : List Call) → quiet xs ≡ true → settingsAfter (buildOf w ram offset g .buffers) (builtWith ram offset g) xs ≡ builtWith ram offset g
+  pub stay : (calls : List Call) → quiet calls ≡ true → settingsAfter (buildOf lent ram offset granularity .buffers) (builtWith ram offset granularity) calls ≡ builtWith ram offset granularity

@@ -7,24 +7,24 @@ use lib.ListN.{replicate}
 use Rattle.registrar_state.specs.Buffers.{Buffers}
 use Rattle.registrar_claims.specs.Runs.{Call, AnswerDone, AnswerFailed, give, isBuild, isTaken, underWay, left, after, takenIn, isAnswer, onlyAnswers, answersIn}
 
--- one call of a registrar v
-pub record Falls (v : Buffers) (x : Call) : Type 0 where
+-- one call of a registrar
+pub record Falls (lent : Buffers) (call : Call) : Type 0 where
   -- an answer is taken where something is asked for and nowhere else, and then it lowers the number
-  pub answered : isAnswer x ≡ true → isTaken (give v x) ≡ underWay v
-  pub lowers : isAnswer x ≡ true → isTaken (give v x) ≡ true → left (give v x .buffers) < left v
+  pub answered : isAnswer call ≡ true → isTaken (give lent call) ≡ underWay lent
+  pub lowers : isAnswer call ≡ true → isTaken (give lent call) ≡ true → left (give lent call .buffers) < left lent
   -- meanwhile a request is refused, and what is refused changes nothing
-  pub busy : underWay v ≡ true → isAnswer x ≡ false → isBuild x ≡ false → isTaken (give v x) ≡ false
-  pub keeps : isTaken (give v x) ≡ false → give v x .buffers ≡ v
+  pub busy : underWay lent ≡ true → isAnswer call ≡ false → isBuild call ≡ false → isTaken (give lent call) ≡ false
+  pub keeps : isTaken (give lent call) ≡ false → give lent call .buffers ≡ lent
 
-pub record RequestEnds (v : Buffers) : Type 0 where
+pub record RequestEnds (lent : Buffers) : Type 0 where
   -- in any list of calls from here on
-  pub falls : (xs : List Call) (x : Call) → Falls (after v xs) x
+  pub falls : (calls : List Call) (call : Call) → Falls (after lent calls) call
   -- so, where only answers are taken, no more of them than the number says, and fewer while the request is still under way
-  pub few : (xs : List Call) → onlyAnswers v xs ≡ true → takenIn v xs + left (after v xs) ≤ left v
-  pub still : (xs : List Call) → onlyAnswers v xs ≡ true → underWay (after v xs) ≡ true → takenIn v xs < left v
+  pub few : (calls : List Call) → onlyAnswers lent calls ≡ true → takenIn lent calls + left (after lent calls) ≤ left lent
+  pub still : (calls : List Call) → onlyAnswers lent calls ≡ true → underWay (after lent calls) ≡ true → takenIn lent calls < left lent
   -- it has ended once as many answers came as the number says, done or failed in any order, with any refused calls between them; most end sooner
-  pub ends : (xs : List Call) → onlyAnswers v xs ≡ true → left v ≤ answersIn xs → underWay (after v xs) ≡ false
+  pub ends : (calls : List Call) → onlyAnswers lent calls ≡ true → left lent ≤ answersIn calls → underWay (after lent calls) ≡ false
   -- such lists exist with any number of answers, of done alone; so many end it, and so does one failed
-  pub heard : (n : ℕ) → (onlyAnswers v (replicate n AnswerDone) ≡ true) × (answersIn (replicate n AnswerDone) ≡ n)
-  pub done-ends : underWay (after v (replicate (left v) AnswerDone)) ≡ false
-  pub failed-ends : underWay (after v (AnswerFailed ∷ [])) ≡ false
+  pub heard : (n : ℕ) → (onlyAnswers lent (replicate n AnswerDone) ≡ true) × (answersIn (replicate n AnswerDone) ≡ n)
+  pub done-ends : underWay (after lent (replicate (left lent) AnswerDone)) ≡ false
+  pub failed-ends : underWay (after lent (AnswerFailed ∷ [])) ≡ false

@@ -38,7 +38,7 @@ abbrev pub notRefused : ℕ → Bool
 notRefused number = eqb number 0 || (eqb number refusal.unalignedMemory || eqb number refusal.registrationFailed)
 
 abbrev pub isTaken : Outcome → Bool
-isTaken o = notRefused (o .reply .number)
+isTaken outcome = notRefused (outcome .reply .number)
 
 -- something is asked for
 abbrev pub underWay : Buffers → Bool
@@ -120,11 +120,11 @@ abbrev pub answerOf : Bool → Buffers → Outcome
 answerOf done lent = cond done (doneOf lent) (failedOf lent)
 
 abbrev pub before : MemoryRange → Told → Told
-before r told = record { asked = r ∷ told .asked; last = told .last }
+before piece told = record { asked = piece ∷ told .asked; last = told .last }
 
 abbrev pub asksFor : Outcome → MemoryRange
-asksFor o = range (o .reply .start) (o .reply .end)
+asksFor outcome = range (outcome .reply .start) (outcome .reply .end)
 
 unfoldable pub follow : Outcome → List Bool → Told
-follow o [] = record { asked = cond (eqb (o .reply .asked) 1) (asksFor o ∷ []) []; last = o }
-follow o (done ∷ answers) = cond (eqb (o .reply .asked) 1) (before (asksFor o) (follow (answerOf done (o .buffers)) answers)) (record { asked = []; last = o })
+follow outcome [] = record { asked = cond (eqb (outcome .reply .asked) 1) (asksFor outcome ∷ []) []; last = outcome }
+follow outcome (done ∷ answers) = cond (eqb (outcome .reply .asked) 1) (before (asksFor outcome) (follow (answerOf done (outcome .buffers)) answers)) (record { asked = []; last = outcome })

@@ -86,10 +86,10 @@ wholeSpan offset granularity (suc n) from chunk answers registered failed next =
 unfoldable pub wholeSpans : ℕ → ℕ → List MemoryRangeWithNode → ℕ → ℕ → List MemoryRange → List Bool → List ℕ → List ℕ → Whole
 wholeSpans offset granularity entries alignment ignore [] answers registered failed = ended registered failed Ok
 wholeSpans offset granularity entries alignment ignore (span ∷ later) answers registered failed =
-    let p : MemoryRange = alignedPart alignment span in
+    let part : MemoryRange = alignedPart alignment span in
     cond (eqb ignore 0 && not (empty (edgeOf alignment span))) (ended registered failed (UnalignedAt (unalignedAt entries alignment span (edgeOf alignment span))))
-    (cond (empty p) (wholeSpans offset granularity entries alignment ignore later answers registered failed)
-    (wholeSpan offset granularity (p .end / granularity - p .start / granularity) (p .start / granularity) (p .start / granularity) answers registered failed (λ answers registered. wholeSpans offset granularity entries alignment ignore later answers registered failed)))
+    (cond (empty part) (wholeSpans offset granularity entries alignment ignore later answers registered failed)
+    (wholeSpan offset granularity (part .end / granularity - part .start / granularity) (part .start / granularity) (part .start / granularity) answers registered failed (λ answers registered. wholeSpans offset granularity entries alignment ignore later answers registered failed)))
 
 unfoldable pub wholeAll : Buffers → ℕ → ℕ → List Bool → Whole
 wholeAll lent alignment ignore answers =
@@ -97,7 +97,7 @@ wholeAll lent alignment ignore answers =
 
 -- ---- what the steps of a call tell
 
--- what a call replies that stands so after n operations
+-- what a call replies that stands so after count operations
 abbrev pub Says : ℕ → Reply → Status → Type 0
 Says count reply Waits = reply .asked ≡ 1
 Says count reply Ok = reply ≡ flatOf (Done (count % 2 ^ 64))
@@ -106,11 +106,11 @@ Says count reply (UnalignedAt unaligned) = reply ≡ flatOf (UnalignedMemory una
 
 -- words of 64 bits
 abbrev pub Words : List ℕ → Type 0
-Words m = (j : ℕ) → getD m j 0 < 2 ^ 64
+Words words = (j : ℕ) → getD words j 0 < 2 ^ 64
 
--- the steps of a call tell what the whole call does, k operations having been asked for before
-pub record Match (k : ℕ) (t : Told) (w : Whole) : Type 0 where
-  pub same-asked : t .asked ≡ w .asked
-  pub same-registered : t .last .buffers .registered ≡ w .registered
-  pub same-failed : t .last .buffers .failed ≡ w .failed
-  pub same-reply : Says (k + length (w .asked)) (t .last .reply) (w .status)
+-- the steps of a call tell what the whole call does, count operations having been asked for before
+pub record Match (count : ℕ) (told : Told) (whole : Whole) : Type 0 where
+  pub same-asked : told .asked ≡ whole .asked
+  pub same-registered : told .last .buffers .registered ≡ whole .registered
+  pub same-failed : told .last .buffers .failed ≡ whole .failed
+  pub same-reply : Says (count + length (whole .asked)) (told .last .reply) (whole .status)

@@ -45,11 +45,11 @@ pub walk-fits : (ws : List ℕ) (g until n e c : ℕ) → ((j : ℕ) → getD ws
 walk-fits ws g until n e c h q f k = omega (arith, below-up (lastEnd (entriesOf ws)) g c (omega arith), last-fits ws h)
 
 -- a chunk that ends at x or before has no RAM from there on
-pub whole-ends : (c g x : ℕ) → c * g ≤ x → g ≤ x - c * g → (c + 1) * g ≤ x
-whole-ends c g x h k = omega (arith, add-mul c 1 g)
+pub ended-chunk : (c g x : ℕ) → c * g ≤ x → g ≤ x - c * g → (c + 1) * g ≤ x
+ended-chunk c g x h k = omega (arith, add-mul c 1 g)
 
-pub whole-rest : (es : List MemoryRangeWithNode) (g c x : ℕ) → (c + 1) * g ≤ x → range 0 0 ≡ ramFrom g es c x
-whole-rest es g c x h = sym (ap firstOf (pieces-past es x ((c + 1) * g) 0 (spans es) h))
+pub ended-rest : (es : List MemoryRangeWithNode) (g c x : ℕ) → (c + 1) * g ≤ x → range 0 0 ≡ ramFrom g es c x
+ended-rest es g c x h = sym (ap firstOf (pieces-past es x ((c + 1) * g) 0 (spans es) h))
 
 module _ (s : ChunkState) (o n c until e t : ℕ) (he : e ≡ min until (chunkCount (s .granularity) (s .entries))) (ht : t ≡ firstNot (passes s) c e) where
   stopped : ℕ → ℕ → Plan

@@ -183,7 +183,7 @@ pub fn stop_from(
 }
 
 // Whether a chunk ends at an address or before it. Is false of a chunk past the last.
-fn is_whole(chunk: u64, granularity: u64, total: u64, address: u64) -> bool
+fn ends_by(chunk: u64, granularity: u64, total: u64, address: u64) -> bool
     requires { ⌜ (chunk < total → chunk * granularity < 2 ^ 64) ⌝ }
     ensures { λ r. ⌜ (r ≡ true → (chunk + 1) * granularity ≤ address) ⌝ }
 {
@@ -202,7 +202,7 @@ pub fn rest_of(ram: &[u64], granularity: u64, total: u64, chunk: u64, from: u64)
     requires { ⌜ total ≡ chunkCount granularity (entriesOf (now ram)) ⌝ }
     ensures { λ r. ⌜ r ≡ ramFrom granularity (entriesOf (now (ram .entry))) chunk from ⌝ }
 {
-    if is_whole(chunk, granularity, total, from) {
+    if ends_by(chunk, granularity, total, from) {
         return MemoryRange { start: 0, end: 0 };
     }
     chunks::next_ram(ram, granularity, chunk, from)

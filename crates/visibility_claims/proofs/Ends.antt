@@ -11,7 +11,6 @@ use lib.ListN.{length, getD, drop}
 use lib.Seq.{getD-drop, drop-drop}
 use borrow.Author.Tests.{eq-eqb, eqb-true, eqb-false, ltb-true, leb-false}
 use Rattle.laws.specs.Bools.{false≢true, and-left, lt-or-le}
-use Rattle.laws.specs.Refusal.{unless, when}
 use Rattle.permissions.specs.declared.OptionFlags.{OptionFlags}
 use Rattle.permissions.specs.declared.OptionFlags.the-variants.{Some, None}
 use Rattle.layout.specs.declared.MemoryRangeWithNode.{MemoryRangeWithNode}

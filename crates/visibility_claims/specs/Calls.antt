@@ -28,37 +28,37 @@ use Rattle.visibility_claims.specs.Runs.{Last, Outstanding, Gives, Ran, 
 
 -- what refuses it before its pages are looked at (01, "Order"): 20 and 19, then its input by number; a state block of another length tells nothing
 unfoldable pub inputRefusal : Buffers → ℕ → ℕ → List ℕ → ℕ
-inputRefusal w vtl visibility l =
-    ready (w .state) (fits w)
-    (when (isLong l) refusal.longList
-    (when (repeats (pagesOf l)) refusal.repeatedPage
-    (unless (fitVtl vtl && (fitBool visibility && not (isRagged l))) refusal.unfitNumber
+inputRefusal buffers vtl visibility list =
+    ready (buffers .state) (fits buffers)
+    (when (isLong list) refusal.longList
+    (when (repeats (pagesOf list)) refusal.repeatedPage
+    (unless (fitVtl vtl && (fitBool visibility && not (isRagged list))) refusal.unfitNumber
     0)))
 
 -- none of its pages refused: to shared or to private, of those that it asks for
 abbrev pub wholeOn : Buffers → GuestVtl → Bool → Requested → List BackendAnswer → Whole
-wholeOn w v true x gs = wholeShare (settingsOf (w .state)) v (pagesIn (x .listed)) (x .end) (w .maps) gs
-wholeOn w v false x gs = wholeReturn (settingsOf (w .state)) (pagesIn (x .listed)) (placesIn (x .listed)) (w .maps) gs
+wholeOn buffers vtl true requested answers = wholeShare (settingsOf (buffers .state)) vtl (pagesIn (requested .listed)) (requested .end) (buffers .maps) answers
+wholeOn buffers vtl false requested answers = wholeReturn (settingsOf (buffers .state)) (pagesIn (requested .listed)) (placesIn (requested .listed)) (buffers .maps) answers
 
 -- a page that is refused (7, 10, 11) ends it: nothing is asked for and nothing changes
 abbrev pub wholeOf : Buffers → GuestVtl → Bool → List ℕ → List BackendAnswer → Whole
-wholeOf w v share l gs =
-    cond (eqb (denial w v share (pagesOf l)) 0) (wholeOn w v share (requestedOf w v share l) gs)
-    (stands (w .maps) (Denied (denial w v share (pagesOf l))))
+wholeOf buffers vtl share list answers =
+    cond (eqb (denial buffers vtl share (pagesOf list)) 0) (wholeOn buffers vtl share (requestedOf buffers vtl share list) answers)
+    (stands (buffers .maps) (Denied (denial buffers vtl share (pagesOf list))))
 
 -- the lent run `pages` as it is from the call on
 abbrev pub pagesFor : Buffers → GuestVtl → Bool → List ℕ → List ℕ
-pagesFor w v share l = cond (eqb (denial w v share (pagesOf l)) 0) (storedIn (requestedOf w v share l .listed) (w .pages)) (w .pages)
+pagesFor buffers vtl share list = cond (eqb (denial buffers vtl share (pagesOf list)) 0) (storedIn (requestedOf buffers vtl share list .listed) (buffers .pages)) (buffers .pages)
 
 -- ---- the calls, each answer given in turn
 
 abbrev pub answerOf : BackendAnswer → Buffers → Outcome
-answerOf Succeeds w = answerDone w
-answerOf (Fails code k) w = answerFailed w code k
+answerOf Succeeds buffers = answerDone buffers
+answerOf (Fails code processed) buffers = answerFailed buffers code processed
 
 abbrev pub takenBy : BackendAnswer → Buffers → Bool
-takenBy Succeeds w = eqb (answerRefusal (w .state) (fits w) false) 0
-takenBy (Fails code k) w = eqb (answerRefusal (w .state) (fits w) true) 0
+takenBy Succeeds buffers = eqb (answerRefusal (buffers .state) (fits buffers) false) 0
+takenBy (Fails code processed) buffers = eqb (answerRefusal (buffers .state) (fits buffers) true) 0
 
 -- in the place of an operation's number: none is asked for
 abbrev pub noOperation : ℕ
@@ -66,7 +66,7 @@ noOperation = 0
 
 -- a reply that asks for an operation
 abbrev pub asksIn : Reply → List Reply
-asksIn r = cond (eqb (r .operation) noOperation) [] (r ∷ [])
+asksIn reply = cond (eqb (reply .operation) noOperation) [] (reply ∷ [])
 
 -- the replies that asked for one, in order, and what was given last by a call or a taken answer
 pub record Told : Type 0 where
@@ -74,11 +74,11 @@ pub record Told : Type 0 where
   pub last : Outcome
 
 unfoldable pub follow : Outcome → List BackendAnswer → Told
-follow o [] = record { asked = asksIn (o .reply); last = o }
-follow o (g ∷ gs) =
-    let r = follow (answerOf g (o .buffers)) gs in
-    let u = follow o gs in
-    cond (takenBy g (o .buffers)) (record { asked = asksIn (o .reply) ++ r .asked; last = r .last }) u
+follow outcome [] = record { asked = asksIn (outcome .reply); last = outcome }
+follow outcome (answer ∷ answers) =
+    let taken = follow (answerOf answer (outcome .buffers)) answers in
+    let untaken = follow outcome answers in
+    cond (takenBy answer (outcome .buffers)) (record { asked = asksIn (outcome .reply) ++ taken .asked; last = taken .last }) untaken
 
 -- ---- what they tell
 
@@ -86,62 +86,62 @@ follow o (g ∷ gs) =
 abbrev pub crossing : Operation → declared.Operation
 crossing Wait = crossed.Wait
 crossing FlushAll = crossed.FlushAll
-crossing (Protect v f r) = crossed.Protect v f r
-crossing (Invalidate r) = crossed.Invalidate r
-crossing (Release r) = crossed.Release r
-crossing (Modify share ps) = crossed.Modify share (length ps)
-crossing (Accept r) = crossed.Accept r
-crossing (Zero r) = crossed.Zero r
-crossing (Flush v) = crossed.Flush v
-crossing (TlbWait v) = crossed.TlbWait v
+crossing (Protect vtl flags run) = crossed.Protect vtl flags run
+crossing (Invalidate run) = crossed.Invalidate run
+crossing (Release run) = crossed.Release run
+crossing (Modify share pages) = crossed.Modify share (length pages)
+crossing (Accept run) = crossed.Accept run
+crossing (Zero run) = crossed.Zero run
+crossing (Flush vtl) = crossed.Flush vtl
+crossing (TlbWait vtl) = crossed.TlbWait vtl
 
 unfoldable pub replies : IsolationType → List Operation → List Reply
-replies i [] = []
-replies i (o ∷ os) = askedOf i (crossing o) ∷ replies i os
+replies isolation [] = []
+replies isolation (operation ∷ operations) = askedOf isolation (crossing operation) ∷ replies isolation operations
 
 -- and the pages themselves: the first words of the lent run `pages`, in order
 abbrev pub Names : List ℕ → Operation → Type 0
-Names t Wait = Unit {0}
-Names t FlushAll = Unit {0}
-Names t (Protect v f r) = Unit {0}
-Names t (Invalidate r) = Unit {0}
-Names t (Release r) = Unit {0}
-Names t (Modify share ps) = take (length ps) t ≡ ps
-Names t (Accept r) = Unit {0}
-Names t (Zero r) = Unit {0}
-Names t (Flush v) = Unit {0}
-Names t (TlbWait v) = Unit {0}
+Names pages Wait = Unit {0}
+Names pages FlushAll = Unit {0}
+Names pages (Protect vtl flags run) = Unit {0}
+Names pages (Invalidate run) = Unit {0}
+Names pages (Release run) = Unit {0}
+Names pages (Modify share gpns) = take (length gpns) pages ≡ gpns
+Names pages (Accept run) = Unit {0}
+Names pages (Zero run) = Unit {0}
+Names pages (Flush vtl) = Unit {0}
+Names pages (TlbWait vtl) = Unit {0}
 
 unfoldable pub NamesAll : List ℕ → List Operation → Type 0
-NamesAll t [] = Unit {0}
-NamesAll t (o ∷ os) = Names t o × NamesAll t os
+NamesAll pages [] = Unit {0}
+NamesAll pages (operation ∷ operations) = Names pages operation × NamesAll pages operations
 
 abbrev pub Says : IsolationType → Last → Reply → Type 0
-Says i Outstanding r = eqb (r .operation) noOperation ≡ false
-Says i (Gives a) r = r ≡ flatOf i a
+Says isolation Outstanding reply = eqb (reply .operation) noOperation ≡ false
+Says isolation (Gives answer) reply = reply ≡ flatOf isolation answer
 
--- the same operations, maps and answer, and the run `pages` names the pages of Modify; this run stays t, overlays and locks as in `tables`, settings and layout
+-- the same operations, maps and answer, and the run `pages` names the pages of Modify; this run stays `pages`, overlays and locks as in `tables`, settings and layout
 -- as in `rest`
-pub record Match (tables rest t : List ℕ) (i : IsolationType) (r : Ran) (x : Told) : Type 0 where
-  pub same-asked : x .asked ≡ replies i (r .asked)
-  pub same-named : NamesAll (x .last .buffers .pages) (r .asked)
-  pub same-maps : x .last .buffers .maps ≡ r .maps
-  pub same-reply : Says i (r .last) (x .last .reply)
-  pub same-pages : x .last .buffers .pages ≡ t
-  pub same-tables : x .last .buffers .tables ≡ tables
-  pub same-rest : drop place.afterRequest (x .last .buffers .state) ≡ rest
+pub record Match (tables rest pages : List ℕ) (isolation : IsolationType) (ran : Ran) (told : Told) : Type 0 where
+  pub same-asked : told .asked ≡ replies isolation (ran .asked)
+  pub same-named : NamesAll (told .last .buffers .pages) (ran .asked)
+  pub same-maps : told .last .buffers .maps ≡ ran .maps
+  pub same-reply : Says isolation (ran .last) (told .last .reply)
+  pub same-pages : told .last .buffers .pages ≡ pages
+  pub same-tables : told .last .buffers .tables ≡ tables
+  pub same-rest : drop place.afterRequest (told .last .buffers .state) ≡ rest
 
 -- ---- THE CLAIMS: a visibility change that isn't refused before its pages are looked at, with its answers in turn, is the whole call; Modify being the last
 -- operation asked for, the run `pages` names its pages then
 
 abbrev pub VisibilityIsWhole : Type 0
 VisibilityIsWhole =
-    (w : Buffers) (vtl visibility : ℕ) (l : List ℕ) (gs : List BackendAnswer) → inputRefusal w vtl visibility l ≡ 0
-    → Match (w .tables) (drop place.afterRequest (w .state)) (pagesFor w (vtlOf vtl) (boolOf visibility) l) (settingsOf (w .state) .isolation)
-    (whole (wholeOf w (vtlOf vtl) (boolOf visibility) l gs)) (follow (visibilityOf w vtl visibility l) gs)
+    (buffers : Buffers) (vtl visibility : ℕ) (list : List ℕ) (answers : List BackendAnswer) → inputRefusal buffers vtl visibility list ≡ 0
+    → Match (buffers .tables) (drop place.afterRequest (buffers .state)) (pagesFor buffers (vtlOf vtl) (boolOf visibility) list) (settingsOf (buffers .state) .isolation)
+    (whole (wholeOf buffers (vtlOf vtl) (boolOf visibility) list answers)) (follow (visibilityOf buffers vtl visibility list) answers)
 
 -- one that is refused before gives that number, and changes nothing
 abbrev pub VisibilityRefused : Type 0
 VisibilityRefused =
-    (w : Buffers) (vtl visibility : ℕ) (l : List ℕ) → (inputRefusal w vtl visibility l ≡ 0 → ⊥)
-    → visibilityOf w vtl visibility l ≡ refusedBy w (inputRefusal w vtl visibility l)
+    (buffers : Buffers) (vtl visibility : ℕ) (list : List ℕ) → (inputRefusal buffers vtl visibility list ≡ 0 → ⊥)
+    → visibilityOf buffers vtl visibility list ≡ refusedBy buffers (inputRefusal buffers vtl visibility list)

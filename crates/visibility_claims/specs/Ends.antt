@@ -18,80 +18,80 @@ use Rattle.call_refusals.specs.Buffers.{Buffers, fits, statusIn}
 use Rattle.visibility_claims.specs.Whole.{BackendAnswer, Succeeds}
 use Rattle.visibility_claims.specs.Calls.{answerOf, takenBy}
 
--- no fewer than the operations to come, with the one outstanding: of n pages, the run at place a being under way
+-- no fewer than the operations to come, with the one outstanding: of count pages, the run at place a being under way
 abbrev pub left : Phase → ℕ → ℕ → ℕ
-left Idle n a = 0
-left Halted n a = 0
-left Wait n a = 7 * n + 3
-left FlushAll n a = 7 * n + 2
-left ProtectNone0 n a = 3 * (n - suc a) + 4 * n + 4
-left ProtectNone1 n a = 3 * (n - suc a) + 4 * n + 3
-left Invalidate n a = 3 * (n - suc a) + 4 * n + 2
-left Release n a = 3 * (n - suc a) + 4 * n + 2
-left Modify n a = 4 * n + 1
-left Accept n a = 2 * (n - suc a) + 2 * n + 2
-left Zero n a = 2 * (n - suc a) + 2 * n + 1
-left ProtectDefault0 n a = 2 * (n - suc a) + 2
-left ProtectDefault1 n a = 2 * (n - suc a) + 1
+left Idle count a = 0
+left Halted count a = 0
+left Wait count a = 7 * count + 3
+left FlushAll count a = 7 * count + 2
+left ProtectNone0 count a = 3 * (count - suc a) + 4 * count + 4
+left ProtectNone1 count a = 3 * (count - suc a) + 4 * count + 3
+left Invalidate count a = 3 * (count - suc a) + 4 * count + 2
+left Release count a = 3 * (count - suc a) + 4 * count + 2
+left Modify count a = 4 * count + 1
+left Accept count a = 2 * (count - suc a) + 2 * count + 2
+left Zero count a = 2 * (count - suc a) + 2 * count + 1
+left ProtectDefault0 count a = 2 * (count - suc a) + 2
+left ProtectDefault1 count a = 2 * (count - suc a) + 1
 
 -- the same of another change: of a default change, whose next piece is sought from page a on, no more than the pages up to the last of RAM
 abbrev pub leftAt : Stage → ℕ → ℕ → ℕ → ℕ
-leftAt stage.Idle n a end = 0
-leftAt stage.Halted n a end = 0
-leftAt stage.ProtectPages n a end = n - suc a + 4
-leftAt stage.ProtectRam n a end = end - a + 4
-leftAt stage.ProtectNew n a end = 4
-leftAt stage.ProtectOld n a end = 4
-leftAt stage.Wait n a end = 3
-leftAt stage.Flush n a end = 2
-leftAt stage.TlbWait n a end = 1
+leftAt stage.Idle count a end = 0
+leftAt stage.Halted count a end = 0
+leftAt stage.ProtectPages count a end = count - suc a + 4
+leftAt stage.ProtectRam count a end = end - a + 4
+leftAt stage.ProtectNew count a end = 4
+leftAt stage.ProtectOld count a end = 4
+leftAt stage.Wait count a end = 3
+leftAt stage.Flush count a end = 2
+leftAt stage.TlbWait count a end = 1
 
 -- no entry has a page from here on
 unfoldable pub pageEnd : List MemoryRangeWithNode → ℕ
 pageEnd [] = 0
-pageEnd (e ∷ es) = max (pageUp (e .end)) (pageEnd es)
+pageEnd (entry ∷ entries) = max (pageUp (entry .end)) (pageEnd entries)
 
 abbrev pub leftIn : Buffers → ℕ
-leftIn w =
-    cond (isChanging (w .state)) (leftAt (stageIn (w .state)) (changeIn (w .state) .n) (changeIn (w .state) .at) (pageEnd (entriesIn (w .state))))
-    (left (phaseIn (w .state)) (requestOf (w .state) .n) (requestOf (w .state) .at))
+leftIn buffers =
+    cond (isChanging (buffers .state)) (leftAt (stageIn (buffers .state)) (changeIn (buffers .state) .n) (changeIn (buffers .state) .at) (pageEnd (entriesIn (buffers .state))))
+    (left (phaseIn (buffers .state)) (requestOf (buffers .state) .n) (requestOf (buffers .state) .at))
 
 -- an operation waits for its answer (19)
 abbrev pub underWay : Buffers → Bool
-underWay w = eqb (statusIn (w .state)) refusal.busy
+underWay buffers = eqb (statusIn (buffers .state)) refusal.busy
 
 -- the buffers once answers were given in turn, and how many of them were taken
 unfoldable pub afterAll : Buffers → List BackendAnswer → Buffers
-afterAll w [] = w
-afterAll w (g ∷ gs) = afterAll (answerOf g w .buffers) gs
+afterAll buffers [] = buffers
+afterAll buffers (answer ∷ answers) = afterAll (answerOf answer buffers .buffers) answers
 
 unfoldable pub takenOf : Buffers → List BackendAnswer → ℕ
-takenOf w [] = 0
-takenOf w (g ∷ gs) = cond (takenBy g w) 1 0 + takenOf (answerOf g w .buffers) gs
+takenOf buffers [] = 0
+takenOf buffers (answer ∷ answers) = cond (takenBy answer buffers) 1 0 + takenOf (answerOf answer buffers .buffers) answers
 
 -- while a request is under way, none of the answers is refused
 unfoldable pub unrefused : Buffers → List BackendAnswer → Type 0
-unrefused w [] = Unit {0}
-unrefused w (g ∷ gs) = (underWay w ≡ true → takenBy g w ≡ true) × unrefused (answerOf g w .buffers) gs
+unrefused buffers [] = Unit {0}
+unrefused buffers (answer ∷ answers) = (underWay buffers ≡ true → takenBy answer buffers ≡ true) × unrefused (answerOf answer buffers .buffers) answers
 
 -- ---- THE CLAIMS, from any state
 
 -- a taken answer, done or failed, lowers the number
 abbrev pub TakenLowers : Type 0
-TakenLowers = (w : Buffers) (g : BackendAnswer) → takenBy g w ≡ true → leftIn (answerOf g w .buffers) < leftIn w
+TakenLowers = (buffers : Buffers) (answer : BackendAnswer) → takenBy answer buffers ≡ true → leftIn (answerOf answer buffers .buffers) < leftIn buffers
 
 -- an answer that isn't taken changes nothing
 abbrev pub UntakenKeeps : Type 0
-UntakenKeeps = (w : Buffers) (g : BackendAnswer) → takenBy g w ≡ false → answerOf g w .buffers ≡ w
+UntakenKeeps = (buffers : Buffers) (answer : BackendAnswer) → takenBy answer buffers ≡ false → answerOf answer buffers .buffers ≡ buffers
 
 -- once so many answers were taken as the number says, nothing is under way
 abbrev pub TakenEnd : Type 0
-TakenEnd = (w : Buffers) (gs : List BackendAnswer) → leftIn w ≤ takenOf w gs → underWay (afterAll w gs) ≡ false
+TakenEnd = (buffers : Buffers) (answers : List BackendAnswer) → leftIn buffers ≤ takenOf buffers answers → underWay (afterAll buffers answers) ≡ false
 
 -- as many answers as the number says, none of them refused while the request is under way, end it
 abbrev pub EveryRequestEnds : Type 0
-EveryRequestEnds = (w : Buffers) (gs : List BackendAnswer) → unrefused w gs → leftIn w ≤ length gs → underWay (afterAll w gs) ≡ false
+EveryRequestEnds = (buffers : Buffers) (answers : List BackendAnswer) → unrefused buffers answers → leftIn buffers ≤ length answers → underWay (afterAll buffers answers) ≡ false
 
 -- done is refused by no request that is under way, where what is lent has its lengths
 abbrev pub DoneTaken : Type 0
-DoneTaken = (w : Buffers) → length (w .state) ≡ stateLen → fits w ≡ true → underWay w ≡ true → takenBy Succeeds w ≡ true
+DoneTaken = (buffers : Buffers) → length (buffers .state) ≡ stateLen → fits buffers ≡ true → underWay buffers ≡ true → takenBy Succeeds buffers ≡ true

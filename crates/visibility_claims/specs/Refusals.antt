@@ -32,35 +32,35 @@ pub record Gave : Type 0 where
   pub reply : Reply
 
 abbrev pub gave : List ℕ → Outcome → Gave
-gave out o = record { lent = record { buffers = o .buffers; out = out }; reply = o .reply }
+gave out outcome = record { lent = record { buffers = outcome .buffers; out = out }; reply = outcome .reply }
 
 unfoldable pub give : Lent → Call → Gave
-give x (Build ram isolation tracked release) = gave (x .out) (buildOf (x .buffers) ram isolation tracked release)
-give x (ChangeVisibility vtl visibility l) = gave (x .out) (visibilityOf (x .buffers) vtl visibility l)
-give x (AnswerWith g) = gave (x .out) (answerOf g (x .buffers))
-give x (QueryVisibility l) =
-    let q = queryOf (x .buffers .state) (x .buffers .maps .shared) l (x .out) in
-    record { lent = record { buffers = x .buffers; out = q .out }; reply = q .reply }
+give lent (Build ram isolation tracked release) = gave (lent .out) (buildOf (lent .buffers) ram isolation tracked release)
+give lent (ChangeVisibility vtl visibility list) = gave (lent .out) (visibilityOf (lent .buffers) vtl visibility list)
+give lent (AnswerWith answer) = gave (lent .out) (answerOf answer (lent .buffers))
+give lent (QueryVisibility list) =
+    let query = queryOf (lent .buffers .state) (lent .buffers .maps .shared) list (lent .out) in
+    record { lent = record { buffers = lent .buffers; out = query .out }; reply = query .reply }
 
 -- 0 where it is taken
 unfoldable pub refusal : Lent → Call → ℕ
-refusal x (Build ram isolation tracked release) = buildRefusal ram isolation tracked release (buildFits (mapLen (entriesOf ram)) tracked (length (x .buffers .state)) (lengthsIn (x .buffers)))
-refusal x (ChangeVisibility vtl visibility l) = visibilityRefusal (x .buffers .state) (fits (x .buffers)) (x .buffers .tables) vtl visibility l
-refusal x (AnswerWith Succeeds) = answerRefusal (x .buffers .state) (fits (x .buffers)) false
-refusal x (AnswerWith (Fails code k)) = answerRefusal (x .buffers .state) (fits (x .buffers)) true
-refusal x (QueryVisibility l) =
-    let n = queryRefusal (x .buffers .state) (length (x .buffers .maps .shared)) l in
-    cond (eqb n 0) (cond (ltb (ramBefore (x .buffers .state) l) (length (pagesOf l))) refusals.notRam 0) n
+refusal lent (Build ram isolation tracked release) = buildRefusal ram isolation tracked release (buildFits (mapLen (entriesOf ram)) tracked (length (lent .buffers .state)) (lengthsIn (lent .buffers)))
+refusal lent (ChangeVisibility vtl visibility list) = visibilityRefusal (lent .buffers .state) (fits (lent .buffers)) (lent .buffers .tables) vtl visibility list
+refusal lent (AnswerWith Succeeds) = answerRefusal (lent .buffers .state) (fits (lent .buffers)) false
+refusal lent (AnswerWith (Fails code processed)) = answerRefusal (lent .buffers .state) (fits (lent .buffers)) true
+refusal lent (QueryVisibility list) =
+    let number = queryRefusal (lent .buffers .state) (length (lent .buffers .maps .shared)) list in
+    cond (eqb number 0) (cond (ltb (ramBefore (lent .buffers .state) list) (length (pagesOf list))) refusals.notRam 0) number
 
 -- Ok or an operation asked for, 15, 16, 20: every other number changes nothing
 abbrev pub mayChange : ℕ → Bool
-mayChange n = eqb n 0 || (eqb n refusals.accessDenied || (eqb n refusals.backendFailed || eqb n refusals.halted))
+mayChange number = eqb number 0 || (eqb number refusals.accessDenied || (eqb number refusals.backendFailed || eqb number refusals.halted))
 
 -- ---- THE CLAIMS: a call that is refused changes nothing
 
 abbrev pub RefusedKeeps : Type 0
-RefusedKeeps = (x : Lent) (c : Call) → (refusal x c ≡ 0 → ⊥) → give x c .lent ≡ x
+RefusedKeeps = (lent : Lent) (call : Call) → (refusal lent call ≡ 0 → ⊥) → give lent call .lent ≡ lent
 
 -- the same by the number alone that a call gave
 abbrev pub OtherNumbersKeep : Type 0
-OtherNumbersKeep = (x : Lent) (c : Call) → mayChange (give x c .reply .number) ≡ false → give x c .lent ≡ x
+OtherNumbersKeep = (lent : Lent) (call : Call) → mayChange (give lent call .reply .number) ≡ false → give lent call .lent ≡ lent

@@ -23,34 +23,34 @@ use Rattle.visibility_claims.specs.Whole.{Status, Ok, StoppedAt}
 -- and locks are those of the calling VTL
 
 abbrev pub isOverlayPage : Buffers → GuestVtl → ℕ → Bool
-isOverlayPage w v p = isOverlay (overlaysOf (w .tables) v) p
+isOverlayPage buffers vtl gpn = isOverlay (overlaysOf (buffers .tables) vtl) gpn
 
 -- an overlay frees a page from its locks
 abbrev pub isLockedPage : Buffers → GuestVtl → ℕ → Bool
-isLockedPage w v p = cond (isOverlayPage w v p) false (heldIn (locksOf (w .tables) v) p)
+isLockedPage buffers vtl gpn = cond (isOverlayPage buffers vtl gpn) false (heldIn (locksOf (buffers .tables) vtl) gpn)
 
 -- the number that the first refused page has, or 0
 unfoldable pub denial : Buffers → GuestVtl → Bool → List ℕ → ℕ
-denial w v share [] = 0
-denial w v share (p ∷ ps) =
-    cond (not (isRam (entriesIn (w .state)) p)) refusal.notRam
-    (cond (isLockedPage w v p) refusal.locked
-    (cond (share && isOverlayPage w v p) refusal.overlay
-    (denial w v share ps)))
+denial buffers vtl share [] = 0
+denial buffers vtl share (gpn ∷ rest) =
+    cond (not (isRam (entriesIn (buffers .state)) gpn)) refusal.notRam
+    (cond (isLockedPage buffers vtl gpn) refusal.locked
+    (cond (share && isOverlayPage buffers vtl gpn) refusal.overlay
+    (denial buffers vtl share rest)))
 
 -- ---- then the list is gone through from its first page on
 
 -- 15: VTL0 shares, protections are enabled, and the page isn't both readable and writable
 abbrev pub accessDenied : Buffers → GuestVtl → Bool → ℕ → Bool
-accessDenied w Vtl0 true p =
-    settingsOf (w .state) .enabled && not (bitAt 8 (w .maps .permissions .read) p && bitAt 8 (w .maps .permissions .write) p)
-accessDenied w Vtl0 false p = false
-accessDenied w Vtl1 share p = false
+accessDenied buffers Vtl0 true gpn =
+    settingsOf (buffers .state) .enabled && not (bitAt 8 (buffers .maps .permissions .read) gpn && bitAt 8 (buffers .maps .permissions .write) gpn)
+accessDenied buffers Vtl0 false gpn = false
+accessDenied buffers Vtl1 share gpn = false
 
 -- marked already as it is asked for: the shared mark tells it both ways
 abbrev pub isSoMarked : Buffers → Bool → ℕ → Bool
-isSoMarked w true p = bitAt 8 (w .maps .shared) p
-isSoMarked w false p = not (bitAt 8 (w .maps .shared) p)
+isSoMarked buffers true gpn = bitAt 8 (buffers .maps .shared) gpn
+isSoMarked buffers false gpn = not (bitAt 8 (buffers .maps .shared) gpn)
 
 -- a page asked for, with its place in the list as sent
 pub record Listed : Type 0 where
@@ -66,37 +66,37 @@ abbrev pub noMore : Status → Requested
 noMore end = record { listed = []; end = end }
 
 abbrev pub withPage : ℕ → ℕ → Requested → Requested
-withPage p i x = record { listed = record { page = p; place = i } ∷ x .listed; end = x .end }
+withPage gpn i rest = record { listed = record { page = gpn; place = i } ∷ rest .listed; end = rest .end }
 
 -- from place i on: a page stops the list, or drops out, or is asked for
 unfoldable pub requestedFrom : Buffers → GuestVtl → Bool → ℕ → List ℕ → Requested
-requestedFrom w v share i [] = noMore Ok
-requestedFrom w v share i (p ∷ ps) =
-    cond (accessDenied w v share p) (noMore (StoppedAt i))
-    (cond (isSoMarked w share p) (requestedFrom w v share (suc i) ps)
-    (withPage p i (requestedFrom w v share (suc i) ps)))
+requestedFrom buffers vtl share i [] = noMore Ok
+requestedFrom buffers vtl share i (gpn ∷ rest) =
+    cond (accessDenied buffers vtl share gpn) (noMore (StoppedAt i))
+    (cond (isSoMarked buffers share gpn) (requestedFrom buffers vtl share (suc i) rest)
+    (withPage gpn i (requestedFrom buffers vtl share (suc i) rest)))
 
 abbrev pub requestedOf : Buffers → GuestVtl → Bool → List ℕ → Requested
-requestedOf w v share l = requestedFrom w v share 0 (pagesOf l)
+requestedOf buffers vtl share list = requestedFrom buffers vtl share 0 (pagesOf list)
 
 unfoldable pub pagesIn : List Listed → List ℕ
 pagesIn [] = []
-pagesIn (x ∷ xs) = x .page ∷ pagesIn xs
+pagesIn (first ∷ rest) = first .page ∷ pagesIn rest
 
 unfoldable pub placesIn : List Listed → List ℕ
 placesIn [] = []
-placesIn (x ∷ xs) = x .place ∷ placesIn xs
+placesIn (first ∷ rest) = first .place ∷ placesIn rest
 
 -- the lent run `pages` while the call is under way: the pages asked for from word 0 on, their places from word 512 on, every other word as it was
 abbrev pub storedIn : List Listed → List ℕ → List ℕ
-storedIn xs t = over (pagesIn xs) (take placesStart t) ++ over (placesIn xs) (drop placesStart t)
+storedIn listed pages = over (pagesIn listed) (take placesStart pages) ++ over (placesIn listed) (drop placesStart pages)
 
 -- ---- THE CLAIM on places: each holds its page in the list as sent, and they ascend
 
-pub record Placed (ps : List ℕ) (xs : List Listed) : Type 0 where
-  pub inside : (j : ℕ) → j < length xs → getD (placesIn xs) j 0 < length ps
-  pub holds : (j : ℕ) → j < length xs → getD ps (getD (placesIn xs) j 0) 0 ≡ getD (pagesIn xs) j 0
-  pub ascend : strict true (placesIn xs) ≡ true
+pub record Placed (pages : List ℕ) (listed : List Listed) : Type 0 where
+  pub inside : (j : ℕ) → j < length listed → getD (placesIn listed) j 0 < length pages
+  pub holds : (j : ℕ) → j < length listed → getD pages (getD (placesIn listed) j 0) 0 ≡ getD (pagesIn listed) j 0
+  pub ascend : strict true (placesIn listed) ≡ true
 
 abbrev pub PlacesHold : Type 0
-PlacesHold = (w : Buffers) (v : GuestVtl) (share : Bool) (l : List ℕ) → Placed (pagesOf l) (requestedOf w v share l .listed)
+PlacesHold = (buffers : Buffers) (vtl : GuestVtl) (share : Bool) (list : List ℕ) → Placed (pagesOf list) (requestedOf buffers vtl share list .listed)

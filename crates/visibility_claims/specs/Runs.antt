@@ -26,59 +26,59 @@ pub record Ran : Type 0 where
   pub maps : Maps
   pub last : Last
 
--- an operation of a step, whose Modify is for the first n words of the table t
+-- an operation of a step, whose Modify is for the first words of the table
 abbrev pub named : List ℕ → declared.Operation → Operation
-named t crossed.Wait = Wait
-named t crossed.FlushAll = FlushAll
-named t (crossed.Protect v f r) = Protect v f r
-named t (crossed.Invalidate r) = Invalidate r
-named t (crossed.Release r) = Release r
-named t (crossed.Modify share n) = Modify share (take n t)
-named t (crossed.Accept r) = Accept r
-named t (crossed.Zero r) = Zero r
-named t (crossed.Flush v) = Flush v
-named t (crossed.TlbWait v) = TlbWait v
+named pages crossed.Wait = Wait
+named pages crossed.FlushAll = FlushAll
+named pages (crossed.Protect vtl flags run) = Protect vtl flags run
+named pages (crossed.Invalidate run) = Invalidate run
+named pages (crossed.Release run) = Release run
+named pages (crossed.Modify share count) = Modify share (take count pages)
+named pages (crossed.Accept run) = Accept run
+named pages (crossed.Zero run) = Zero run
+named pages (crossed.Flush vtl) = Flush vtl
+named pages (crossed.TlbWait vtl) = TlbWait vtl
 
 abbrev pub askedBy : List ℕ → Answer → List Operation
-askedBy t (Done n) = []
-askedBy t (AccessDenied i n) = []
-askedBy t (Failed code i n) = []
-askedBy t (Halted n) = []
-askedBy t (Ask o) = named t o ∷ []
-askedBy t (Refused n) = []
+askedBy pages (Done count) = []
+askedBy pages (AccessDenied index count) = []
+askedBy pages (Failed code index count) = []
+askedBy pages (Halted count) = []
+askedBy pages (Ask operation) = named pages operation ∷ []
+askedBy pages (Refused number) = []
 
 abbrev pub lastOf : Answer → Last
-lastOf (Done n) = Gives (Done n)
-lastOf (AccessDenied i n) = Gives (AccessDenied i n)
-lastOf (Failed code i n) = Gives (Failed code i n)
-lastOf (Halted n) = Gives (Halted n)
-lastOf (Ask o) = Outstanding
-lastOf (Refused n) = Gives (Refused n)
+lastOf (Done count) = Gives (Done count)
+lastOf (AccessDenied index count) = Gives (AccessDenied index count)
+lastOf (Failed code index count) = Gives (Failed code index count)
+lastOf (Halted count) = Gives (Halted count)
+lastOf (Ask operation) = Outstanding
+lastOf (Refused number) = Gives (Refused number)
 
 abbrev pub before : List Operation → Ran → Ran
-before os r = record { asked = os ++ r .asked; maps = r .maps; last = r .last }
+before operations ran = record { asked = operations ++ ran .asked; maps = ran .maps; last = ran .last }
 
 -- from a step on, with the maps before it: an answer that isn't taken changes nothing
 unfoldable pub run : Settings → List ℕ → Step → Maps → List BackendAnswer → Ran
-run s t x m [] = record { asked = askedBy t (x .answer); maps = applied t (x .writes) m; last = lastOf (x .answer) }
-run s t x m (Succeeds ∷ gs) =
-    cond (takes (x .phase) false) (before (askedBy t (x .answer)) (run s t (doneOf s (x .phase) (x .request) t) (applied t (x .writes) m) gs)) (run s t x m gs)
-run s t x m (Fails code k ∷ gs) =
-    cond (takes (x .phase) true) (before (askedBy t (x .answer)) (run s t (failedOf s (x .phase) (x .request) t code k) (applied t (x .writes) m) gs)) (run s t x m gs)
+run settings pages step maps [] = record { asked = askedBy pages (step .answer); maps = applied pages (step .writes) maps; last = lastOf (step .answer) }
+run settings pages step maps (Succeeds ∷ answers) =
+    cond (takes (step .phase) false) (before (askedBy pages (step .answer)) (run settings pages (doneOf settings (step .phase) (step .request) pages) (applied pages (step .writes) maps) answers)) (run settings pages step maps answers)
+run settings pages step maps (Fails code processed ∷ answers) =
+    cond (takes (step .phase) true) (before (askedBy pages (step .answer)) (run settings pages (failedOf settings (step .phase) (step .request) pages code processed) (applied pages (step .writes) maps) answers)) (run settings pages step maps answers)
 
--- ---- what the whole call gives, after c operations asked for before it
+-- ---- what the whole call gives, after count operations asked for before it
 
 abbrev pub told : ℕ → Status → Last
-told n (Denied k) = Gives (Refused k)
-told n Waits = Outstanding
-told n Ok = Gives (Done n)
-told n (StoppedAt i) = Gives (AccessDenied i n)
-told n (FailedAt code i) = Gives (Failed code i n)
-told n Halts = Gives (Halted n)
+told count (Denied number) = Gives (Refused number)
+told count Waits = Outstanding
+told count Ok = Gives (Done count)
+told count (StoppedAt index) = Gives (AccessDenied index count)
+told count (FailedAt code index) = Gives (Failed code index count)
+told count Halts = Gives (Halted count)
 
 abbrev pub after : ℕ → Whole → Ran
-after c w = record { asked = w .asked; maps = w .maps; last = told ((c + length (w .asked)) % 2 ^ 64) (w .status) }
+after count call = record { asked = call .asked; maps = call .maps; last = told ((count + length (call .asked)) % 2 ^ 64) (call .status) }
 
 -- and the whole call: what it tells is counted by its operations
 abbrev pub whole : Whole → Ran
-whole w = record { asked = w .asked; maps = w .maps; last = told (length (w .asked)) (w .status) }
+whole call = record { asked = call .asked; maps = call .maps; last = told (length (call .asked)) (call .status) }

@@ -33,7 +33,7 @@ ram = 0 ∷ 65536 ∷ 0 ∷ 131072 ∷ 163840 ∷ 1 ∷ []
 
 -- a page below 256 in a list
 abbrev pub page : ℕ → List ℕ → List ℕ
-page p l = p ∷ 0 ∷ 0 ∷ 0 ∷ 0 ∷ 0 ∷ 0 ∷ 0 ∷ l
+page gpn list = gpn ∷ 0 ∷ 0 ∷ 0 ∷ 0 ∷ 0 ∷ 0 ∷ 0 ∷ list
 
 abbrev pub dones : ℕ → List BackendAnswer
 dones n = replicate n Succeeds
@@ -47,7 +47,7 @@ fresh = buffers (built (entriesOf ram) (maps lent lent lent lent lent lent)) (bu
 
 -- it with these maps, and with protections enabled
 abbrev with : Buffers → Maps → Buffers
-with w m = buffers m (w .state) (w .pages) (w .tables)
+with old maps = buffers maps (old .state) (old .pages) (old .tables)
 
 abbrev pub enabled : Buffers
 enabled = buffers (fresh .maps) (set (fresh .state) place.enabled 1) (fresh .pages) (fresh .tables)
@@ -64,11 +64,11 @@ abbrev dropped : Whole
 dropped = wholeOf (with fresh (P2 .maps)) Vtl0 false (page 9 (page 4 (page 10 []))) (Succeeds ∷ Succeeds ∷ Fails 77 1 ∷ dones 3)
 
 abbrev P5 : GuestVtl → ℕ → Whole
-P5 v n = wholeOf enabled v true (page 3 []) (dones n)
+P5 vtl n = wholeOf enabled vtl true (page 3 []) (dones n)
 
 -- again, from what that left
 abbrev P5-again : GuestVtl → ℕ → Whole
-P5-again v n = wholeOf (with enabled (P5 v n .maps)) v true (page 3 []) (dones 3)
+P5-again vtl n = wholeOf (with enabled (P5 vtl n .maps)) vtl true (page 3 []) (dones 3)
 
 -- ---- 15: the pages of RAM, without page 5, without page 3, and page 3 alone
 
@@ -142,8 +142,8 @@ guarded =
 -- ---- long lists: the pages from p on, n of them, below page 65,536; and a protector on SNP with 512 pages of RAM
 
 unfoldable pub bytesFrom : ℕ → ℕ → List ℕ
-bytesFrom p zero = []
-bytesFrom p (suc n) = p % 256 ∷ p / 256 ∷ 0 ∷ 0 ∷ 0 ∷ 0 ∷ 0 ∷ 0 ∷ bytesFrom (suc p) n
+bytesFrom gpn zero = []
+bytesFrom gpn (suc n) = gpn % 256 ∷ gpn / 256 ∷ 0 ∷ 0 ∷ 0 ∷ 0 ∷ 0 ∷ 0 ∷ bytesFrom (suc gpn) n
 
 abbrev pub broad : Buffers
 broad =

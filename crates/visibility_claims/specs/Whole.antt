@@ -53,41 +53,41 @@ pub record Whole : Type 0 where
   pub status : Status
 
 abbrev pub stands : Maps → Status → Whole
-stands m x = record { asked = []; maps = m; status = x }
+stands maps status = record { asked = []; maps = maps; status = status }
 
 abbrev pub asking : Operation → Whole → Whole
-asking o w = record { asked = o ∷ w .asked; maps = w .maps; status = w .status }
+asking operation call = record { asked = operation ∷ call .asked; maps = call .maps; status = call .status }
 
 -- "From the state" 21: Wait, TlbWait and a flush cannot fail
 abbrev pub fails : Operation → Bool
 fails Wait = false
 fails FlushAll = false
-fails (Protect v f r) = true
-fails (Invalidate r) = true
-fails (Release r) = true
-fails (Modify share ps) = true
-fails (Accept r) = true
-fails (Zero r) = true
-fails (Flush v) = false
-fails (TlbWait v) = false
+fails (Protect vtl flags run) = true
+fails (Invalidate run) = true
+fails (Release run) = true
+fails (Modify share pages) = true
+fails (Accept run) = true
+fails (Zero run) = true
+fails (Flush vtl) = false
+fails (TlbWait vtl) = false
 
 -- one operation: it waits for its answer, and goes on by it; a failure that isn't taken leaves it as it is
 unfoldable pub one : Operation → Maps → List BackendAnswer → (List BackendAnswer → Whole) → (ℕ → ℕ → List BackendAnswer → Whole) → Whole
-one o m [] next failed = asking o (stands m Waits)
-one o m (Succeeds ∷ gs) next failed = asking o (next gs)
-one o m (Fails code k ∷ gs) next failed = cond (fails o) (asking o (failed code k gs)) (one o m gs next failed)
+one operation maps [] next failed = asking operation (stands maps Waits)
+one operation maps (Succeeds ∷ answers) next failed = asking operation (next answers)
+one operation maps (Fails code processed ∷ answers) next failed = cond (fails operation) (asking operation (failed code processed answers)) (one operation maps answers next failed)
 
 -- operations in turn, each after what is written before it (20: a failure halts)
 unfoldable pub inTurn : (Operation → Maps → Maps) → List Operation → Maps → List BackendAnswer → (Maps → List BackendAnswer → Whole) → Whole
-inTurn before [] m gs next = next m gs
-inTurn before (o ∷ os) m gs next =
-    one o (before o m) gs (λ gs. inTurn before os (before o m) gs next) (λ code k gs. stands (before o m) Halts)
+inTurn before [] maps answers next = next maps answers
+inTurn before (operation ∷ operations) maps answers next =
+    one operation (before operation maps) answers (λ answers. inTurn before operations (before operation maps) answers next) (λ code processed answers. stands (before operation maps) Halts)
 
 -- ---- the operations
 
 unfoldable pub perRun : (PageRun → List Operation) → List PageRun → List Operation
-perRun f [] = []
-perRun f (r ∷ rs) = f r ++ perRun f rs
+perRun operations [] = []
+perRun operations (run ∷ runs) = operations run ++ perRun operations runs
 
 abbrev pub flushes : IsolationType → List Operation
 flushes Snp = FlushAll ∷ []
@@ -96,86 +96,86 @@ flushes Cca = []
 
 -- what a run is asked before it is shared
 abbrev pub unaccepts : IsolationType → Bool → PageRun → List Operation
-unaccepts Snp release r = Protect Vtl0 noFlags r ∷ Protect Vtl1 noFlags r ∷ Invalidate r ∷ []
-unaccepts Tdx release r = cond release (Release r ∷ []) []
-unaccepts Cca release r = []
+unaccepts Snp release run = Protect Vtl0 noFlags run ∷ Protect Vtl1 noFlags run ∷ Invalidate run ∷ []
+unaccepts Tdx release run = cond release (Release run ∷ []) []
+unaccepts Cca release run = []
 
 -- what it is asked once it is private
 abbrev pub accepts : IsolationType → PageRun → List Operation
-accepts Snp r = Accept r ∷ Zero r ∷ []
-accepts Tdx r = Accept r ∷ []
-accepts Cca r = []
+accepts Snp run = Accept run ∷ Zero run ∷ []
+accepts Tdx run = Accept run ∷ []
+accepts Cca run = []
 
 abbrev pub defaults : HvMapGpaFlags → OptionFlags → PageRun → List Operation
-defaults f (Some g) r = Protect Vtl0 f r ∷ Protect Vtl1 g r ∷ []
-defaults f None r = Protect Vtl0 f r ∷ []
+defaults vtl0 (Some vtl1) run = Protect Vtl0 vtl0 run ∷ Protect Vtl1 vtl1 run ∷ []
+defaults vtl0 None run = Protect Vtl0 vtl0 run ∷ []
 
 abbrev pub shareOperations : Settings → List ℕ → List Operation
-shareOperations s ps =
-    Wait ∷ flushes (s .isolation) ++ (perRun (unaccepts (s .isolation) (s .release)) (runsOf ps) ++ (Modify true ps ∷ []))
+shareOperations settings pages =
+    Wait ∷ flushes (settings .isolation) ++ (perRun (unaccepts (settings .isolation) (settings .release)) (runsOf pages) ++ (Modify true pages ∷ []))
 
 -- ---- the maps
 
 abbrev pub marked : List ℕ → Bool → List ℕ → List ℕ
-marked ps s m = written 8 (among ps) s m
+marked pages state map = written 8 (among pages) state map
 
 abbrev pub withPrivate : List ℕ → Bool → Maps → Maps
-withPrivate ps s m = record { private = marked ps s (m .private); shared = m .shared; permissions = m .permissions }
+withPrivate pages state maps = record { private = marked pages state (maps .private); shared = maps .shared; permissions = maps .permissions }
 
 abbrev pub withShared : List ℕ → Bool → Maps → Maps
-withShared ps s m = record { private = m .private; shared = marked ps s (m .shared); permissions = m .permissions }
+withShared pages state maps = record { private = maps .private; shared = marked pages state (maps .shared); permissions = maps .permissions }
 
 abbrev pub withPermissions : Permissions → Maps → Maps
-withPermissions p m = record { private = m .private; shared = m .shared; permissions = p }
+withPermissions permissions maps = record { private = maps .private; shared = maps .shared; permissions = permissions }
 
 abbrev pub forbidden : List ℕ → Permissions → Permissions
-forbidden ps m = perms (marked ps false (m .read)) (marked ps false (m .write)) (marked ps false (m .kernel)) (marked ps false (m .user))
+forbidden pages permissions = perms (marked pages false (permissions .read)) (marked pages false (permissions .write)) (marked pages false (permissions .kernel)) (marked pages false (permissions .user))
 
 -- what a Protect of VTL0 writes before it is asked for, where permissions are tracked; no other operation writes so
 abbrev pub protecting : Bool → Operation → Maps → Maps
-protecting tracked Wait m = m
-protecting tracked FlushAll m = m
-protecting tracked (Protect Vtl0 f r) m = cond tracked (withPermissions (permitted (r .first) (r .first + r .count) f (m .permissions)) m) m
-protecting tracked (Protect Vtl1 f r) m = m
-protecting tracked (Invalidate r) m = m
-protecting tracked (Release r) m = m
-protecting tracked (Modify share ps) m = m
-protecting tracked (Accept r) m = m
-protecting tracked (Zero r) m = m
-protecting tracked (Flush v) m = m
-protecting tracked (TlbWait v) m = m
+protecting tracked Wait maps = maps
+protecting tracked FlushAll maps = maps
+protecting tracked (Protect Vtl0 flags run) maps = cond tracked (withPermissions (permitted (run .first) (run .first + run .count) flags (maps .permissions)) maps) maps
+protecting tracked (Protect Vtl1 flags run) maps = maps
+protecting tracked (Invalidate run) maps = maps
+protecting tracked (Release run) maps = maps
+protecting tracked (Modify share pages) maps = maps
+protecting tracked (Accept run) maps = maps
+protecting tracked (Zero run) maps = maps
+protecting tracked (Flush vtl) maps = maps
+protecting tracked (TlbWait vtl) maps = maps
 
 -- the two Protects of a share, and what comes before a return's, write none
 abbrev pub writingNone : Operation → Maps → Maps
-writingNone o m = m
+writingNone operation maps = maps
 
--- ---- To shared: ps are the pages asked for, and `end` is how the call ends once they are shared: Ok, or 15 where its list stopped
+-- ---- To shared: `pages` are the pages asked for, and `end` is how the call ends once they are shared: Ok, or 15 where its list stopped
 
 abbrev pub clearedBy : Bool → GuestVtl → Maps → List ℕ → Maps
-clearedBy tracked Vtl0 m ps = withPrivate ps false (withPermissions (cond tracked (forbidden ps (m .permissions)) (m .permissions)) m)
-clearedBy tracked Vtl1 m ps = withPrivate ps false m
+clearedBy tracked Vtl0 maps pages = withPrivate pages false (withPermissions (cond tracked (forbidden pages (maps .permissions)) (maps .permissions)) maps)
+clearedBy tracked Vtl1 maps pages = withPrivate pages false maps
 
 unfoldable pub wholeShare : Settings → GuestVtl → List ℕ → Status → Maps → List BackendAnswer → Whole
-wholeShare s v ps end m gs =
-    inTurn writingNone (shareOperations s ps) (clearedBy (s .tracked) v m ps) gs
-    (λ m gs. stands (withShared ps true m) end)
+wholeShare settings vtl pages end maps answers =
+    inTurn writingNone (shareOperations settings pages) (clearedBy (settings .tracked) vtl maps pages) answers
+    (λ maps answers. stands (withShared pages true maps) end)
 
--- ---- To private: ps are the pages asked for, at these places of the list
+-- ---- To private: `pages` are the pages asked for, at these places of the list
 
--- once Modify took ps
+-- once Modify took them
 unfoldable pub returned : Settings → List ℕ → Maps → List BackendAnswer → Status → Whole
-returned s ps m gs end =
-    inTurn writingNone (perRun (accepts (s .isolation)) (runsOf ps)) m gs
-    (λ m gs. inTurn (protecting (s .tracked)) (perRun (defaults (s .defaults .vtl0) (s .defaults .vtl1)) (runsOf ps)) (withPrivate ps true m) gs
-    (λ m gs. stands m end))
+returned settings pages maps answers end =
+    inTurn writingNone (perRun (accepts (settings .isolation)) (runsOf pages)) maps answers
+    (λ maps answers. inTurn (protecting (settings .tracked)) (perRun (defaults (settings .defaults .vtl0) (settings .defaults .vtl1)) (runsOf pages)) (withPrivate pages true maps) answers
+    (λ maps answers. stands maps end))
 
 -- Modify: what it didn't process is marked shared again, and the call ends with 16 at the place of the first such page
 unfoldable pub modified : Settings → List ℕ → List ℕ → Maps → List BackendAnswer → Whole
-modified s ps places m gs =
-    one (Modify false ps) m gs (λ gs. returned s ps m gs Ok)
-    (λ code k gs. cond (ltb k (length ps)) (returned s (take k ps) (withShared (drop k ps) true m) gs (FailedAt code (getD places k 0)))
-    (stands m Halts))
+modified settings pages places maps answers =
+    one (Modify false pages) maps answers (λ answers. returned settings pages maps answers Ok)
+    (λ code processed answers. cond (ltb processed (length pages)) (returned settings (take processed pages) (withShared (drop processed pages) true maps) answers (FailedAt code (getD places processed 0)))
+    (stands maps Halts))
 
 unfoldable pub wholeReturn : Settings → List ℕ → List ℕ → Maps → List BackendAnswer → Whole
-wholeReturn s ps places m gs =
-    inTurn writingNone (Wait ∷ flushes (s .isolation)) (withShared ps false m) gs (λ m gs. modified s ps places m gs)
+wholeReturn settings pages places maps answers =
+    inTurn writingNone (Wait ∷ flushes (settings .isolation)) (withShared pages false maps) answers (λ maps answers. modified settings pages places maps answers)

@@ -29,19 +29,19 @@ marks private from to = record { private = private; from = from; to = to }
 
 -- what they set alone
 abbrev pub markedBy : Marks → Writes
-markedBy m = writes true (places 0 (m .private)) (places (m .from) (m .to)) (places 0 0) noFlags
+markedBy marks = writes true (places 0 (marks .private)) (places (marks .from) (marks .to)) (places 0 0) noFlags
 
 abbrev pub next : Turn → Phase → ℕ → Marks → Next
-next k p a m = record { turn = k; phase = p; at = a; marks = m }
+next turn phase a marks = record { turn = turn; phase = phase; at = a; marks = marks }
 
 abbrev pub asks : Phase → ℕ → Marks → Next
-asks p a m = next turn.Ask p a m
+asks phase a marks = next turn.Ask phase a marks
 
 abbrev pub ends : Marks → Next
-ends m = next turn.End at.Idle 0 m
+ends marks = next turn.End at.Idle 0 marks
 
 abbrev pub keeps : Phase → Next
-keeps p = next turn.Keep p 0 (marks 0 0 0)
+keeps phase = next turn.Keep phase 0 (marks 0 0 0)
 
 -- whether the operation of a phase is on a run of pages, and whether it gives VTL0 its default
 abbrev pub hasRun : Phase → Bool
@@ -74,31 +74,31 @@ isDefault0 at.Zero = false
 isDefault0 at.ProtectDefault0 = true
 isDefault0 at.ProtectDefault1 = false
 
--- the run that a phase asks for at place a, of the first n pages
+-- the run that a phase asks for at place a, of the first count pages
 abbrev pub runIn : Phase → List ℕ → ℕ → ℕ → PageRun
-runIn p t n a = cond (hasRun p) (runAt t n a) (run 0 0)
+runIn phase pages count a = cond (hasRun phase) (runAt pages count a) (run 0 0)
 
 abbrev pub answerBy : Turn → Settings → Phase → Request → PageRun → Answer
-answerBy turn.Ask s p q r = answer.Ask (operationOn s p q r)
-answerBy turn.End s p q r = finished q
-answerBy turn.Keep s p q r = answer.Refused refusal.nothingAsked
+answerBy turn.Ask settings phase request run = answer.Ask (operationOn settings phase request run)
+answerBy turn.End settings phase request run = finished request
+answerBy turn.Keep settings phase request run = answer.Refused refusal.nothingAsked
 
 abbrev pub requestBy : Turn → Request → ℕ → Request
-requestBy turn.Ask q a = counted q a
-requestBy turn.End q a = noRequest
-requestBy turn.Keep q a = q
+requestBy turn.Ask request a = counted request a
+requestBy turn.End request a = noRequest
+requestBy turn.Keep request a = request
 
 -- VTL0's default is written in the maps before it is asked for
 abbrev pub permittedAt : Settings → Phase → List ℕ → ℕ → ℕ → Places
-permittedAt s p t n a = cond (isDefault0 p) (places a (cond (s .tracked) (runEnd t n a) a)) (places 0 0)
+permittedAt settings phase pages count a = cond (isDefault0 phase) (places a (cond (settings .tracked) (runEnd pages count a) a)) (places 0 0)
 
 abbrev pub flagsAt : Settings → Phase → HvMapGpaFlags
-flagsAt s p = cond (isDefault0 p) (s .defaults .vtl0) noFlags
+flagsAt settings phase = cond (isDefault0 phase) (settings .defaults .vtl0) noFlags
 
 abbrev pub writesAt : Settings → Phase → List ℕ → ℕ → ℕ → Marks → Writes
-writesAt s p t n a m = writes true (places 0 (m .private)) (places (m .from) (m .to)) (permittedAt s p t n a) (flagsAt s p)
+writesAt settings phase pages count a marks = writes true (places 0 (marks .private)) (places (marks .from) (marks .to)) (permittedAt settings phase pages count a) (flagsAt settings phase)
 
 unfoldable pub nextStep : Settings → Request → List ℕ → Next → Step
-nextStep s q t x =
-    step (x .phase) (requestBy (x .turn) q (x .at)) (answerBy (x .turn) s (x .phase) q (runIn (x .phase) t (q .n) (x .at)))
-    (writesAt s (x .phase) t (q .n) (x .at) (x .marks))
+nextStep settings request pages next =
+    step (next .phase) (requestBy (next .turn) request (next .at)) (answerBy (next .turn) settings (next .phase) request (runIn (next .phase) pages (request .n) (next .at)))
+    (writesAt settings (next .phase) pages (request .n) (next .at) (next .marks))

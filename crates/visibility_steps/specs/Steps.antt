@@ -48,70 +48,70 @@ releases Cca flag = false
 
 -- the places of the request's table whose marks and permissions a step writes, and what it writes there
 abbrev pub places : ℕ → ℕ → Places
-places a b = record { from = a; to = b }
+places from to = record { from = from; to = to }
 
 abbrev pub writes : Bool → Places → Places → Places → HvMapGpaFlags → Writes
-writes s p h m f = record { state = s; private = p; shared = h; permissions = m; flags = f }
+writes state private shared permissions flags = record { state = state; private = private; shared = shared; permissions = permissions; flags = flags }
 
 abbrev pub noWrites : Writes
 noWrites = writes true (places 0 0) (places 0 0) (places 0 0) noFlags
 
 abbrev pub setPrivate : Writes → ℕ → Writes
-setPrivate w n = writes (w .state) (places 0 n) (w .shared) (w .permissions) (w .flags)
+setPrivate old count = writes (old .state) (places 0 count) (old .shared) (old .permissions) (old .flags)
 
 abbrev pub setShared : Writes → ℕ → ℕ → Writes
-setShared w a b = writes (w .state) (w .private) (places a b) (w .permissions) (w .flags)
+setShared old from to = writes (old .state) (old .private) (places from to) (old .permissions) (old .flags)
 
 abbrev pub setPermissions : Writes → ℕ → ℕ → HvMapGpaFlags → Writes
-setPermissions w a b f = writes (w .state) (w .private) (w .shared) (places a b) f
+setPermissions old from to flags = writes (old .state) (old .private) (old .shared) (places from to) flags
 
 abbrev pub step : Phase → Request → Answer → Writes → Step
-step p q a w = record { phase = p; request = q; answer = a; writes = w }
+step phase request answer writes = record { phase = phase; request = request; answer = answer; writes = writes }
 
 abbrev pub orNone : OptionFlags → HvMapGpaFlags
-orNone (Some f) = f
+orNone (Some flags) = flags
 orNone None = noFlags
 
 -- the run that the request is at
 abbrev pub runOf : Request → List ℕ → PageRun
-runOf q t = runAt t (q .n) (q .at)
+runOf request pages = runAt pages (request .n) (request .at)
 
 -- the operation of a phase, on the run that it is at
 abbrev pub operationOn : Settings → Phase → Request → PageRun → Operation
-operationOn s at.Idle q r = Wait
-operationOn s at.Halted q r = Wait
-operationOn s at.Wait q r = Wait
-operationOn s at.FlushAll q r = FlushAll
-operationOn s at.ProtectNone0 q r = Protect Vtl0 noFlags r
-operationOn s at.ProtectNone1 q r = Protect Vtl1 noFlags r
-operationOn s at.Invalidate q r = Invalidate r
-operationOn s at.Release q r = Release r
-operationOn s at.Modify q r = Modify (q .share) (q .n)
-operationOn s at.Accept q r = Accept r
-operationOn s at.Zero q r = Zero r
-operationOn s at.ProtectDefault0 q r = Protect Vtl0 (s .defaults .vtl0) r
-operationOn s at.ProtectDefault1 q r = Protect Vtl1 (orNone (s .defaults .vtl1)) r
+operationOn settings at.Idle request run = Wait
+operationOn settings at.Halted request run = Wait
+operationOn settings at.Wait request run = Wait
+operationOn settings at.FlushAll request run = FlushAll
+operationOn settings at.ProtectNone0 request run = Protect Vtl0 noFlags run
+operationOn settings at.ProtectNone1 request run = Protect Vtl1 noFlags run
+operationOn settings at.Invalidate request run = Invalidate run
+operationOn settings at.Release request run = Release run
+operationOn settings at.Modify request run = Modify (request .share) (request .n)
+operationOn settings at.Accept request run = Accept run
+operationOn settings at.Zero request run = Zero run
+operationOn settings at.ProtectDefault0 request run = Protect Vtl0 (settings .defaults .vtl0) run
+operationOn settings at.ProtectDefault1 request run = Protect Vtl1 (orNone (settings .defaults .vtl1)) run
 
 unfoldable pub operationOf : Settings → Phase → Request → List ℕ → Operation
-operationOf s p q t = operationOn s p q (runOf q t)
+operationOf settings phase request pages = operationOn settings phase request (runOf request pages)
 
 -- the request with one operation more, at a place; a count of 64 bits
 abbrev pub counted : Request → ℕ → Request
-counted q a =
+counted request a =
     record {
-      share = q .share;
-      vtl = q .vtl;
-      n = q .n;
+      share = request .share;
+      vtl = request .vtl;
+      n = request .n;
       at = a;
-      stopped = q .stopped;
-      failed = q .failed;
-      index = q .index;
-      code = q .code;
-      count = (q .count + 1) % 2 ^ 64;
+      stopped = request .stopped;
+      failed = request .failed;
+      index = request .index;
+      code = request .code;
+      count = (request .count + 1) % 2 ^ 64;
     }
 
 unfoldable pub ask : Settings → Phase → Request → List ℕ → ℕ → Writes → Step
-ask s p q t a w = step p (counted q a) (Ask (operationOf s p (counted q a) t)) w
+ask settings phase request pages a writes = step phase (counted request a) (Ask (operationOf settings phase (counted request a) pages)) writes
 
 abbrev pub noRequest : Request
 noRequest =
@@ -129,115 +129,115 @@ noRequest =
 
 -- 15 at its index, 16 at its index with its code, else Ok; each with the number of operations
 abbrev pub finished : Request → Answer
-finished q =
-    cond (q .stopped) (AccessDenied (q .index) (q .count))
-    (cond (q .failed) (Failed (q .code) (q .index) (q .count))
-    (Done (q .count)))
+finished request =
+    cond (request .stopped) (AccessDenied (request .index) (request .count))
+    (cond (request .failed) (Failed (request .code) (request .index) (request .count))
+    (Done (request .count)))
 
 abbrev pub finish : Answer → Writes → Step
-finish a w = step at.Idle noRequest a w
+finish answer writes = step at.Idle noRequest answer writes
 
 unfoldable pub end : Request → Writes → Step
-end q w = finish (finished q) w
+end request writes = finish (finished request) writes
 
 -- 20
 unfoldable pub halt : Request → Step
-halt q = step at.Halted q (Halted (q .count)) noWrites
+halt request = step at.Halted request (Halted (request .count)) noWrites
 
 -- 21
 unfoldable pub keep : Phase → Request → Step
-keep p q = step p q (Refused refusal.nothingAsked) noWrites
+keep phase request = step phase request (Refused refusal.nothingAsked) noWrites
 
 -- To shared, from the run at place a on: its operations, or Modify where no run is left or asks for any
 unfoldable pub shareRun : Settings → Request → List ℕ → ℕ → Step
-shareRun s q t a =
-    cond (ltb a (q .n) && isSnp (s .isolation)) (ask s at.ProtectNone0 q t a noWrites)
-    (cond (ltb a (q .n) && releases (s .isolation) (s .release)) (ask s at.Release q t a noWrites)
-    (ask s at.Modify q t 0 noWrites))
+shareRun settings request pages a =
+    cond (ltb a (request .n) && isSnp (settings .isolation)) (ask settings at.ProtectNone0 request pages a noWrites)
+    (cond (ltb a (request .n) && releases (settings .isolation) (settings .release)) (ask settings at.Release request pages a noWrites)
+    (ask settings at.Modify request pages 0 noWrites))
 
 -- To private, the default permissions from the run at place a on, in the maps before they are asked for; then the end
 unfoldable pub defaultRun : Settings → Request → List ℕ → ℕ → Writes → Step
-defaultRun s q t a w =
-    cond (ltb a (q .n))
-    (ask s at.ProtectDefault0 q t a (setPermissions w a (cond (s .tracked) (runEnd t (q .n) a) a) (s .defaults .vtl0)))
-    (end q w)
+defaultRun settings request pages a writes =
+    cond (ltb a (request .n))
+    (ask settings at.ProtectDefault0 request pages a (setPermissions writes a (cond (settings .tracked) (runEnd pages (request .n) a) a) (settings .defaults .vtl0)))
+    (end request writes)
 
 -- To private, acceptance from the run at place a on; then the private marks of all
 unfoldable pub returnRun : Settings → Request → List ℕ → ℕ → Writes → Step
-returnRun s q t a w =
-    cond (ltb a (q .n))
-    (cond (isCca (s .isolation)) (defaultRun s q t 0 (setPrivate w (q .n))) (ask s at.Accept q t a w))
-    (defaultRun s q t 0 (setPrivate w (q .n)))
+returnRun settings request pages a writes =
+    cond (ltb a (request .n))
+    (cond (isCca (settings .isolation)) (defaultRun settings request pages 0 (setPrivate writes (request .n))) (ask settings at.Accept request pages a writes))
+    (defaultRun settings request pages 0 (setPrivate writes (request .n)))
 
 unfoldable pub afterFlush : Settings → Request → List ℕ → Step
-afterFlush s q t = cond (q .share) (shareRun s q t 0) (ask s at.Modify q t 0 noWrites)
+afterFlush settings request pages = cond (request .share) (shareRun settings request pages 0) (ask settings at.Modify request pages 0 noWrites)
 
 unfoldable pub afterWait : Settings → Request → List ℕ → Step
-afterWait s q t = cond (isSnp (s .isolation)) (ask s at.FlushAll q t 0 noWrites) (afterFlush s q t)
+afterWait settings request pages = cond (isSnp (settings .isolation)) (ask settings at.FlushAll request pages 0 noWrites) (afterFlush settings request pages)
 
 unfoldable pub afterModify : Settings → Request → List ℕ → Step
-afterModify s q t = cond (q .share) (end q (setShared noWrites 0 (q .n))) (returnRun s q t 0 noWrites)
+afterModify settings request pages = cond (request .share) (end request (setShared noWrites 0 (request .n))) (returnRun settings request pages 0 noWrites)
 
 unfoldable pub afterAccept : Settings → Request → List ℕ → Step
-afterAccept s q t =
-    cond (isSnp (s .isolation)) (ask s at.Zero q t (q .at) noWrites) (returnRun s q t (runEnd t (q .n) (q .at)) noWrites)
+afterAccept settings request pages =
+    cond (isSnp (settings .isolation)) (ask settings at.Zero request pages (request .at) noWrites) (returnRun settings request pages (runEnd pages (request .n) (request .at)) noWrites)
 
 abbrev pub afterDefault0 : OptionFlags → Settings → Request → List ℕ → Step
-afterDefault0 (Some f) s q t = ask s at.ProtectDefault1 q t (q .at) noWrites
-afterDefault0 None s q t = defaultRun s q t (runEnd t (q .n) (q .at)) noWrites
+afterDefault0 (Some flags) settings request pages = ask settings at.ProtectDefault1 request pages (request .at) noWrites
+afterDefault0 None settings request pages = defaultRun settings request pages (runEnd pages (request .n) (request .at)) noWrites
 
 -- a failed Modify: of a return with k pages processed, fewer than asked for, the others are marked shared again
 abbrev pub cutAt : Request → ℕ → ℕ → ℕ → Request
-cutAt q k code i =
+cutAt request processed code index =
     record {
-      share = q .share;
-      vtl = q .vtl;
-      n = k;
-      at = q .at;
-      stopped = q .stopped;
+      share = request .share;
+      vtl = request .vtl;
+      n = processed;
+      at = request .at;
+      stopped = request .stopped;
       failed = true;
-      index = i;
+      index = index;
       code = code;
-      count = q .count;
+      count = request .count;
     }
 
 unfoldable pub failedModify : Settings → Request → List ℕ → ℕ → ℕ → Step
-failedModify s q t code k =
-    cond (q .share) (halt q)
-    (cond (leb (q .n) k) (halt q)
-    (returnRun s (cutAt q k code (getD t (placesStart + k) 0)) t 0 (setShared noWrites k (q .n))))
+failedModify settings request pages code processed =
+    cond (request .share) (halt request)
+    (cond (leb (request .n) processed) (halt request)
+    (returnRun settings (cutAt request processed code (getD pages (placesStart + processed) 0)) pages 0 (setShared noWrites processed (request .n))))
 
 -- the operation outstanding is done
 unfoldable pub doneOf : Settings → Phase → Request → List ℕ → Step
-doneOf s at.Idle q t = keep at.Idle q
-doneOf s at.Halted q t = keep at.Halted q
-doneOf s at.Wait q t = afterWait s q t
-doneOf s at.FlushAll q t = afterFlush s q t
-doneOf s at.ProtectNone0 q t = ask s at.ProtectNone1 q t (q .at) noWrites
-doneOf s at.ProtectNone1 q t = ask s at.Invalidate q t (q .at) noWrites
-doneOf s at.Invalidate q t = shareRun s q t (runEnd t (q .n) (q .at))
-doneOf s at.Release q t = shareRun s q t (runEnd t (q .n) (q .at))
-doneOf s at.Modify q t = afterModify s q t
-doneOf s at.Accept q t = afterAccept s q t
-doneOf s at.Zero q t = returnRun s q t (runEnd t (q .n) (q .at)) noWrites
-doneOf s at.ProtectDefault0 q t = afterDefault0 (s .defaults .vtl1) s q t
-doneOf s at.ProtectDefault1 q t = defaultRun s q t (runEnd t (q .n) (q .at)) noWrites
+doneOf settings at.Idle request pages = keep at.Idle request
+doneOf settings at.Halted request pages = keep at.Halted request
+doneOf settings at.Wait request pages = afterWait settings request pages
+doneOf settings at.FlushAll request pages = afterFlush settings request pages
+doneOf settings at.ProtectNone0 request pages = ask settings at.ProtectNone1 request pages (request .at) noWrites
+doneOf settings at.ProtectNone1 request pages = ask settings at.Invalidate request pages (request .at) noWrites
+doneOf settings at.Invalidate request pages = shareRun settings request pages (runEnd pages (request .n) (request .at))
+doneOf settings at.Release request pages = shareRun settings request pages (runEnd pages (request .n) (request .at))
+doneOf settings at.Modify request pages = afterModify settings request pages
+doneOf settings at.Accept request pages = afterAccept settings request pages
+doneOf settings at.Zero request pages = returnRun settings request pages (runEnd pages (request .n) (request .at)) noWrites
+doneOf settings at.ProtectDefault0 request pages = afterDefault0 (settings .defaults .vtl1) settings request pages
+doneOf settings at.ProtectDefault1 request pages = defaultRun settings request pages (runEnd pages (request .n) (request .at)) noWrites
 
 -- the operation outstanding failed
 unfoldable pub failedOf : Settings → Phase → Request → List ℕ → ℕ → ℕ → Step
-failedOf s at.Idle q t code k = keep at.Idle q
-failedOf s at.Halted q t code k = keep at.Halted q
-failedOf s at.Wait q t code k = keep at.Wait q
-failedOf s at.FlushAll q t code k = keep at.FlushAll q
-failedOf s at.ProtectNone0 q t code k = halt q
-failedOf s at.ProtectNone1 q t code k = halt q
-failedOf s at.Invalidate q t code k = halt q
-failedOf s at.Release q t code k = halt q
-failedOf s at.Modify q t code k = failedModify s q t code k
-failedOf s at.Accept q t code k = halt q
-failedOf s at.Zero q t code k = halt q
-failedOf s at.ProtectDefault0 q t code k = halt q
-failedOf s at.ProtectDefault1 q t code k = halt q
+failedOf settings at.Idle request pages code processed = keep at.Idle request
+failedOf settings at.Halted request pages code processed = keep at.Halted request
+failedOf settings at.Wait request pages code processed = keep at.Wait request
+failedOf settings at.FlushAll request pages code processed = keep at.FlushAll request
+failedOf settings at.ProtectNone0 request pages code processed = halt request
+failedOf settings at.ProtectNone1 request pages code processed = halt request
+failedOf settings at.Invalidate request pages code processed = halt request
+failedOf settings at.Release request pages code processed = halt request
+failedOf settings at.Modify request pages code processed = failedModify settings request pages code processed
+failedOf settings at.Accept request pages code processed = halt request
+failedOf settings at.Zero request pages code processed = halt request
+failedOf settings at.ProtectDefault0 request pages code processed = halt request
+failedOf settings at.ProtectDefault1 request pages code processed = halt request
 
 -- a call that is taken: n pages are asked for, of a list that stops before its end or not
 abbrev pub asked : GuestVtl → Bool → ℕ → ℕ → Bool → Request
@@ -256,9 +256,9 @@ asked vtl share n stop stopped =
 
 -- what it clears at once
 unfoldable pub cleared : Bool → GuestVtl → Bool → ℕ → Writes
-cleared tracked vtl share n =
-    cond share (writes false (places 0 n) (places 0 0) (places 0 (cond (isVtl0 vtl && tracked) n 0)) noFlags)
-    (writes false (places 0 0) (places 0 n) (places 0 0) noFlags)
+cleared tracked vtl share count =
+    cond share (writes false (places 0 count) (places 0 0) (places 0 (cond (isVtl0 vtl && tracked) count 0)) noFlags)
+    (writes false (places 0 0) (places 0 count) (places 0 0) noFlags)
 
 unfoldable pub startOf : Settings → GuestVtl → Bool → ℕ → ℕ → Bool → Step
-startOf s vtl share n stop stopped = step at.Wait (asked vtl share n stop stopped) (Ask Wait) (cleared (s .tracked) vtl share n)
+startOf settings vtl share count stop stopped = step at.Wait (asked vtl share count stop stopped) (Ask Wait) (cleared (settings .tracked) vtl share count)

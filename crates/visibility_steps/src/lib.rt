@@ -127,35 +127,35 @@ pub struct Next {
     pub marks: Marks,
 }
 
-fn is_snp(set: Settings) -> bool
-    ensures { λ r. ⌜ r ≡ isSnp (set .isolation) ⌝ }
+fn is_snp(settings: Settings) -> bool
+    ensures { λ r. ⌜ r ≡ isSnp (settings .isolation) ⌝ }
 {
-    let i = set.isolation;
-    match i {
+    let isolation = settings.isolation;
+    match isolation {
         IsolationType::Snp => true,
         IsolationType::Tdx => false,
         IsolationType::Cca => false,
     }
 }
 
-fn is_cca(set: Settings) -> bool
-    ensures { λ r. ⌜ r ≡ isCca (set .isolation) ⌝ }
+fn is_cca(settings: Settings) -> bool
+    ensures { λ r. ⌜ r ≡ isCca (settings .isolation) ⌝ }
 {
-    let i = set.isolation;
-    match i {
+    let isolation = settings.isolation;
+    match isolation {
         IsolationType::Snp => false,
         IsolationType::Tdx => false,
         IsolationType::Cca => true,
     }
 }
 
-fn is_releasing(set: Settings) -> bool
-    ensures { λ r. ⌜ r ≡ releases (set .isolation) (set .release) ⌝ }
+fn is_releasing(settings: Settings) -> bool
+    ensures { λ r. ⌜ r ≡ releases (settings .isolation) (settings .release) ⌝ }
 {
-    let i = set.isolation;
-    match i {
+    let isolation = settings.isolation;
+    match isolation {
         IsolationType::Snp => false,
-        IsolationType::Tdx => set.release,
+        IsolationType::Tdx => settings.release,
         IsolationType::Cca => false,
     }
 }
@@ -172,20 +172,20 @@ fn no_writes() -> Writes
     }
 }
 
-pub fn or_none(f: OptionFlags) -> HvMapGpaFlags
-    ensures { λ r. ⌜ r ≡ orNone f ⌝ }
+pub fn or_none(flags: OptionFlags) -> HvMapGpaFlags
+    ensures { λ r. ⌜ r ≡ orNone flags ⌝ }
 {
-    match f {
-        OptionFlags::Some(f) => f,
+    match flags {
+        OptionFlags::Some(flags) => flags,
         OptionFlags::None => HvMapGpaFlags::none(),
     }
 }
 
 // The operation of a phase, on a run.
-fn operation_on(set: Settings, phase: Phase, q: Request, run: PageRun) -> Operation
-    ensures { λ r. ⌜ r ≡ operationOn set phase q run ⌝ }
+fn operation_on(settings: Settings, phase: Phase, request: Request, run: PageRun) -> Operation
+    ensures { λ r. ⌜ r ≡ operationOn settings phase request run ⌝ }
 {
-    let defaults = set.defaults;
+    let defaults = settings.defaults;
     let vtl0 = defaults.vtl0;
     let vtl1 = defaults.vtl1;
     match phase {
@@ -206,8 +206,8 @@ fn operation_on(set: Settings, phase: Phase, q: Request, run: PageRun) -> Operat
         Phase::Invalidate => Operation::Invalidate(run),
         Phase::Release => Operation::Release(run),
         Phase::Modify => Operation::Modify {
-            share: q.share,
-            count: q.n,
+            share: request.share,
+            count: request.n,
         },
         Phase::Accept => Operation::Accept(run),
         Phase::Zero => Operation::Zero(run),
@@ -225,12 +225,12 @@ fn operation_on(set: Settings, phase: Phase, q: Request, run: PageRun) -> Operat
 }
 
 // The request with one operation more, at a place.
-fn counted(q: Request, at: u64) -> Request
-    ensures { λ r. ⌜ r ≡ counted q at ⌝ }
+fn counted(request: Request, at: u64) -> Request
+    ensures { λ r. ⌜ r ≡ counted request at ⌝ }
 {
-    let mut next = q;
+    let mut next = request;
     next.at = at;
-    next.count = std::num::wrapping_add_u64(q.count, 1);
+    next.count = std::num::wrapping_add_u64(request.count, 1);
     next
 }
 
@@ -251,33 +251,33 @@ fn no_request() -> Request
 }
 
 // What a call that ends gives.
-fn finished(q: Request) -> Answer
-    ensures { λ r. ⌜ r ≡ finished q ⌝ }
+fn finished(request: Request) -> Answer
+    ensures { λ r. ⌜ r ≡ finished request ⌝ }
 {
-    if q.stopped {
+    if request.stopped {
         return Answer::AccessDenied {
-            index: q.index,
-            count: q.count,
+            index: request.index,
+            count: request.count,
         };
     }
-    if q.failed {
+    if request.failed {
         return Answer::Failed {
-            code: q.code,
-            index: q.index,
-            count: q.count,
+            code: request.code,
+            index: request.index,
+            count: request.count,
         };
     }
-    Answer::Done(q.count)
+    Answer::Done(request.count)
 }
 
 // The marks remain as they are.
-fn halt(q: Request) -> Step
-    ensures { λ r. ⌜ r ≡ halt q ⌝ }
+fn halt(request: Request) -> Step
+    ensures { λ r. ⌜ r ≡ halt request ⌝ }
 {
     Step {
         phase: Phase::Halted,
-        request: q,
-        answer: Answer::Halted(q.count),
+        request: request,
+        answer: Answer::Halted(request.count),
         writes: Writes {
             state: true,
             private: Places { from: 0, to: 0 },
@@ -289,12 +289,12 @@ fn halt(q: Request) -> Step
 }
 
 // An answer that isn't taken: the operation still waits.
-fn keep(phase: Phase, q: Request) -> Step
-    ensures { λ r. ⌜ r ≡ keep phase q ⌝ }
+fn keep(phase: Phase, request: Request) -> Step
+    ensures { λ r. ⌜ r ≡ keep phase request ⌝ }
 {
     Step {
         phase: phase,
-        request: q,
+        request: request,
         answer: Answer::Refused(refusal::NOTHING_ASKED),
         writes: no_writes(),
     }
@@ -310,35 +310,35 @@ fn no_marks() -> Marks
     }
 }
 
-fn with_private(m: Marks, n: u64) -> Marks
-    ensures { λ r. ⌜ r ≡ marks n (m .from) (m .to) ⌝ }
+fn with_private(old: Marks, private: u64) -> Marks
+    ensures { λ r. ⌜ r ≡ marks private (old .from) (old .to) ⌝ }
 {
     Marks {
-        private: n,
-        from: m.from,
-        to: m.to,
+        private: private,
+        from: old.from,
+        to: old.to,
     }
 }
 
-fn asks(phase: Phase, at: u64, m: Marks) -> Next
-    ensures { λ r. ⌜ r ≡ asks phase at m ⌝ }
+fn asks(phase: Phase, at: u64, marks: Marks) -> Next
+    ensures { λ r. ⌜ r ≡ asks phase at marks ⌝ }
 {
     Next {
         turn: Turn::Ask,
         phase: phase,
         at: at,
-        marks: m,
+        marks: marks,
     }
 }
 
-fn ends(m: Marks) -> Next
-    ensures { λ r. ⌜ r ≡ ends m ⌝ }
+fn ends(marks: Marks) -> Next
+    ensures { λ r. ⌜ r ≡ ends marks ⌝ }
 {
     Next {
         turn: Turn::End,
         phase: Phase::Idle,
         at: 0,
-        marks: m,
+        marks: marks,
     }
 }
 
@@ -356,118 +356,140 @@ fn keeps(phase: Phase) -> Next
 // Up to `done` the table is what the contracts speak of; only the end of a run is read from it.
 
 // Sharing, from the run at a place on.
-fn share_run(set: Settings, q: Request, t: &[u64], at: u64) -> Next
-    ensures { λ r. ⌜ nextStep set q (now (t .entry)) r ≡ shareRun set q (now (t .entry)) at ⌝ }
+fn share_run(settings: Settings, request: Request, pages: &[u64], at: u64) -> Next
+    ensures { λ r. ⌜ nextStep settings request (now (pages .entry)) r ≡ shareRun settings request (now (pages .entry)) at ⌝ }
 {
-    if q.n <= at {
+    if request.n <= at {
         return asks(Phase::Modify, 0, no_marks());
     }
-    if is_snp(set) {
+    if is_snp(settings) {
         return asks(Phase::ProtectNone0, at, no_marks());
     }
-    if is_releasing(set) {
+    if is_releasing(settings) {
         return asks(Phase::Release, at, no_marks());
     }
     asks(Phase::Modify, 0, no_marks())
 }
 
 // The default permissions, from the run at a place on; then the end.
-fn default_run(set: Settings, q: Request, t: &[u64], at: u64, m: Marks) -> Next
-    ensures { λ r. ⌜ nextStep set q (now (t .entry)) r ≡ defaultRun set q (now (t .entry)) at (markedBy m) ⌝ }
+fn default_run(settings: Settings, request: Request, pages: &[u64], at: u64, marks: Marks) -> Next
+    ensures { λ r. ⌜ nextStep settings request (now (pages .entry)) r ≡ defaultRun settings request (now (pages .entry)) at (markedBy marks) ⌝ }
 {
-    if q.n <= at {
-        return ends(m);
+    if request.n <= at {
+        return ends(marks);
     }
-    asks(Phase::ProtectDefault0, at, m)
+    asks(Phase::ProtectDefault0, at, marks)
 }
 
 // Acceptance, from the run at a place on; then the private marks.
-fn return_run(set: Settings, q: Request, t: &[u64], at: u64, m: Marks) -> Next
-    ensures { λ r. ⌜ nextStep set q (now (t .entry)) r ≡ returnRun set q (now (t .entry)) at (markedBy m) ⌝ }
+fn return_run(settings: Settings, request: Request, pages: &[u64], at: u64, marks: Marks) -> Next
+    ensures { λ r. ⌜ nextStep settings request (now (pages .entry)) r ≡ returnRun settings request (now (pages .entry)) at (markedBy marks) ⌝ }
 {
-    if q.n <= at {
-        return default_run(set, q, t, 0, with_private(m, q.n));
+    if request.n <= at {
+        return default_run(settings, request, pages, 0, with_private(marks, request.n));
     }
-    if is_cca(set) {
-        return default_run(set, q, t, 0, with_private(m, q.n));
+    if is_cca(settings) {
+        return default_run(settings, request, pages, 0, with_private(marks, request.n));
     }
-    asks(Phase::Accept, at, m)
+    asks(Phase::Accept, at, marks)
 }
 
-fn after_flush(set: Settings, q: Request, t: &[u64]) -> Next
-    ensures { λ r. ⌜ nextStep set q (now (t .entry)) r ≡ afterFlush set q (now (t .entry)) ⌝ }
+fn after_flush(settings: Settings, request: Request, pages: &[u64]) -> Next
+    ensures { λ r. ⌜ nextStep settings request (now (pages .entry)) r ≡ afterFlush settings request (now (pages .entry)) ⌝ }
 {
-    if q.share {
-        return share_run(set, q, t, 0);
+    if request.share {
+        return share_run(settings, request, pages, 0);
     }
     asks(Phase::Modify, 0, no_marks())
 }
 
-fn after_wait(set: Settings, q: Request, t: &[u64]) -> Next
-    ensures { λ r. ⌜ nextStep set q (now (t .entry)) r ≡ afterWait set q (now (t .entry)) ⌝ }
+fn after_wait(settings: Settings, request: Request, pages: &[u64]) -> Next
+    ensures { λ r. ⌜ nextStep settings request (now (pages .entry)) r ≡ afterWait settings request (now (pages .entry)) ⌝ }
 {
-    if is_snp(set) {
+    if is_snp(settings) {
         return asks(Phase::FlushAll, 0, no_marks());
     }
-    after_flush(set, q, t)
+    after_flush(settings, request, pages)
 }
 
-fn after_modify(set: Settings, q: Request, t: &[u64]) -> Next
-    ensures { λ r. ⌜ nextStep set q (now (t .entry)) r ≡ afterModify set q (now (t .entry)) ⌝ }
+fn after_modify(settings: Settings, request: Request, pages: &[u64]) -> Next
+    ensures { λ r. ⌜ nextStep settings request (now (pages .entry)) r ≡ afterModify settings request (now (pages .entry)) ⌝ }
 {
-    if q.share {
+    if request.share {
         return ends(Marks {
             private: 0,
             from: 0,
-            to: q.n,
+            to: request.n,
         });
     }
-    return_run(set, q, t, 0, no_marks())
+    return_run(settings, request, pages, 0, no_marks())
 }
 
-fn after_accept(set: Settings, q: Request, t: &[u64]) -> Next
-    ensures { λ r. ⌜ nextStep set q (now (t .entry)) r ≡ afterAccept set q (now (t .entry)) ⌝ }
+fn after_accept(settings: Settings, request: Request, pages: &[u64]) -> Next
+    ensures { λ r. ⌜ nextStep settings request (now (pages .entry)) r ≡ afterAccept settings request (now (pages .entry)) ⌝ }
 {
-    if is_snp(set) {
-        return asks(Phase::Zero, q.at, no_marks());
+    if is_snp(settings) {
+        return asks(Phase::Zero, request.at, no_marks());
     }
-    let next = request_pages::run_end(t, q.n, q.at);
-    return_run(set, q, t, next, no_marks())
+    let next = request_pages::run_end(pages, request.n, request.at);
+    return_run(settings, request, pages, next, no_marks())
 }
 
-fn after_default0(set: Settings, q: Request, t: &[u64]) -> Next
-    ensures { λ r. ⌜ nextStep set q (now (t .entry)) r ≡ afterDefault0 (set .defaults .vtl1) set q (now (t .entry)) ⌝ }
+fn after_default0(settings: Settings, request: Request, pages: &[u64]) -> Next
+    ensures { λ r. ⌜ nextStep settings request (now (pages .entry)) r ≡ afterDefault0 (settings .defaults .vtl1) settings request (now (pages .entry)) ⌝ }
 {
-    let defaults = set.defaults;
+    let defaults = settings.defaults;
     let vtl1 = defaults.vtl1;
     match vtl1 {
-        OptionFlags::Some(_) => asks(Phase::ProtectDefault1, q.at, no_marks()),
+        OptionFlags::Some(_) => asks(Phase::ProtectDefault1, request.at, no_marks()),
         OptionFlags::None => {
-            let next = request_pages::run_end(t, q.n, q.at);
-            default_run(set, q, t, next, no_marks())
+            let next = request_pages::run_end(pages, request.n, request.at);
+            default_run(settings, request, pages, next, no_marks())
         }
     }
 }
 
 // The operation outstanding is done.
-pub fn done(set: Settings, phase: Phase, q: Request, t: &[u64]) -> Next
-    ensures { λ r. ⌜ nextStep set q (now (t .entry)) r ≡ doneOf set phase q (now (t .entry)) ⌝ }
+pub fn done(settings: Settings, phase: Phase, request: Request, pages: &[u64]) -> Next
+    ensures { λ r. ⌜ nextStep settings request (now (pages .entry)) r ≡ doneOf settings phase request (now (pages .entry)) ⌝ }
 {
     match phase {
         Phase::Idle => keeps(phase),
         Phase::Halted => keeps(phase),
-        Phase::Wait => after_wait(set, q, t),
-        Phase::FlushAll => after_flush(set, q, t),
-        Phase::ProtectNone0 => asks(Phase::ProtectNone1, q.at, no_marks()),
-        Phase::ProtectNone1 => asks(Phase::Invalidate, q.at, no_marks()),
-        Phase::Invalidate => share_run(set, q, t, request_pages::run_end(t, q.n, q.at)),
-        Phase::Release => share_run(set, q, t, request_pages::run_end(t, q.n, q.at)),
-        Phase::Modify => after_modify(set, q, t),
-        Phase::Accept => after_accept(set, q, t),
-        Phase::Zero => return_run(set, q, t, request_pages::run_end(t, q.n, q.at), no_marks()),
-        Phase::ProtectDefault0 => after_default0(set, q, t),
+        Phase::Wait => after_wait(settings, request, pages),
+        Phase::FlushAll => after_flush(settings, request, pages),
+        Phase::ProtectNone0 => asks(Phase::ProtectNone1, request.at, no_marks()),
+        Phase::ProtectNone1 => asks(Phase::Invalidate, request.at, no_marks()),
+        Phase::Invalidate => share_run(
+            settings,
+            request,
+            pages,
+            request_pages::run_end(pages, request.n, request.at),
+        ),
+        Phase::Release => share_run(
+            settings,
+            request,
+            pages,
+            request_pages::run_end(pages, request.n, request.at),
+        ),
+        Phase::Modify => after_modify(settings, request, pages),
+        Phase::Accept => after_accept(settings, request, pages),
+        Phase::Zero => return_run(
+            settings,
+            request,
+            pages,
+            request_pages::run_end(pages, request.n, request.at),
+            no_marks(),
+        ),
+        Phase::ProtectDefault0 => after_default0(settings, request, pages),
         Phase::ProtectDefault1 => {
-            default_run(set, q, t, request_pages::run_end(t, q.n, q.at), no_marks())
+            default_run(
+                settings,
+                request,
+                pages,
+                request_pages::run_end(pages, request.n, request.at),
+                no_marks(),
+            )
         }
     }
 }
@@ -514,64 +536,70 @@ pub fn is_default0(phase: Phase) -> bool
     }
 }
 
-// The run that a phase asks for at a place, of the first n pages.
-pub fn run_in(phase: Phase, t: &[u64], n: u64, at: u64) -> PageRun
-    ensures { λ r. ⌜ r ≡ runIn phase (now (t .entry)) n at ⌝ }
+// The run that a phase asks for at a place, of the first `count` pages.
+pub fn run_in(phase: Phase, pages: &[u64], count: u64, at: u64) -> PageRun
+    ensures { λ r. ⌜ r ≡ runIn phase (now (pages .entry)) count at ⌝ }
 {
     if has_run(phase) {
-        return page_list::run_at(t, n, at);
+        return page_list::run_at(pages, count, at);
     }
     PageRun { first: 0, count: 0 }
 }
 
 // The request that is left.
-pub fn next_request(turn: Turn, q: Request, at: u64) -> Request
-    ensures { λ r. ⌜ r ≡ requestBy turn q at ⌝ }
+pub fn next_request(turn: Turn, request: Request, at: u64) -> Request
+    ensures { λ r. ⌜ r ≡ requestBy turn request at ⌝ }
 {
     match turn {
-        Turn::Ask => counted(q, at),
+        Turn::Ask => counted(request, at),
         Turn::End => no_request(),
-        Turn::Keep => q,
+        Turn::Keep => request,
     }
 }
 
-fn next_answer(turn: Turn, set: Settings, phase: Phase, q: Request, run: PageRun) -> Answer
-    ensures { λ r. ⌜ r ≡ answerBy turn set phase q run ⌝ }
+fn next_answer(
+    turn: Turn,
+    settings: Settings,
+    phase: Phase,
+    request: Request,
+    run: PageRun,
+) -> Answer
+    ensures { λ r. ⌜ r ≡ answerBy turn settings phase request run ⌝ }
 {
     match turn {
-        Turn::Ask => Answer::Ask(operation_on(set, phase, q, run)),
-        Turn::End => finished(q),
+        Turn::Ask => Answer::Ask(operation_on(settings, phase, request, run)),
+        Turn::End => finished(request),
         Turn::Keep => Answer::Refused(refusal::NOTHING_ASKED),
     }
 }
 
 // The place to which a run's permissions are written.
-fn permission_end(tracked: bool, t: &[u64], n: u64, at: u64) -> u64
-    ensures { λ r. ⌜ r ≡ cond tracked (runEnd (now (t .entry)) n at) at ⌝ }
+fn permission_end(tracked: bool, pages: &[u64], count: u64, at: u64) -> u64
+    ensures { λ r. ⌜ r ≡ cond tracked (runEnd (now (pages .entry)) count at) at ⌝ }
 {
     if tracked {
-        request_pages::run_end(t, n, at)
+        request_pages::run_end(pages, count, at)
     } else {
         at
     }
 }
 
-fn permitted_at(set: Settings, phase: Phase, t: &[u64], n: u64, at: u64) -> Places
-    ensures { λ r. ⌜ r ≡ permittedAt set phase (now (t .entry)) n at ⌝ }
+fn permitted_at(settings: Settings, phase: Phase, pages: &[u64], count: u64, at: u64) -> Places
+    ensures { λ r. ⌜ r ≡ permittedAt settings phase (now (pages .entry)) count at ⌝ }
 {
     if is_default0(phase) {
         return Places {
             from: at,
-            to: permission_end(set.tracked, t, n, at),
+            to: permission_end(settings.tracked, pages, count, at),
         };
     }
     Places { from: 0, to: 0 }
 }
 
-fn flags_at(set: Settings, phase: Phase) -> HvMapGpaFlags
-    ensures { λ r. ⌜ r ≡ flagsAt set phase ⌝ }
+fn flags_at(settings: Settings, phase: Phase) -> HvMapGpaFlags
+    ensures { λ r. ⌜ r ≡ flagsAt settings phase ⌝ }
 {
-    let defaults = set.defaults;
+    let defaults = settings.defaults;
     let vtl0 = defaults.vtl0;
     if is_default0(phase) {
         return vtl0;
@@ -580,100 +608,124 @@ fn flags_at(set: Settings, phase: Phase) -> HvMapGpaFlags
 }
 
 // The step in full.
-fn step_of(set: Settings, q: Request, t: &[u64], x: Next) -> Step
-    ensures { λ r. ⌜ r ≡ nextStep set q (now (t .entry)) x ⌝ }
+fn step_of(settings: Settings, request: Request, pages: &[u64], next: Next) -> Step
+    ensures { λ r. ⌜ r ≡ nextStep settings request (now (pages .entry)) next ⌝ }
 {
-    let turn = x.turn;
-    let phase = x.phase;
-    let m = x.marks;
+    let turn = next.turn;
+    let phase = next.phase;
+    let marks = next.marks;
     Step {
         phase: phase,
-        request: next_request(turn, q, x.at),
-        answer: next_answer(turn, set, phase, q, run_in(phase, t, q.n, x.at)),
+        request: next_request(turn, request, next.at),
+        answer: next_answer(
+            turn,
+            settings,
+            phase,
+            request,
+            run_in(phase, pages, request.n, next.at),
+        ),
         writes: Writes {
             state: true,
             private: Places {
                 from: 0,
-                to: m.private,
+                to: marks.private,
             },
             shared: Places {
-                from: m.from,
-                to: m.to,
+                from: marks.from,
+                to: marks.to,
             },
-            permissions: permitted_at(set, phase, t, q.n, x.at),
-            flags: flags_at(set, phase),
+            permissions: permitted_at(settings, phase, pages, request.n, next.at),
+            flags: flags_at(settings, phase),
         },
     }
 }
 
 // Modify failed: of a return with fewer pages processed than asked for, the others are shared again.
-fn failed_modify(set: Settings, q: Request, t: &[u64], code: u64, processed: u64) -> Step
-    ensures { λ r. ⌜ r ≡ failedModify set q (now (t .entry)) code processed ⌝ }
+fn failed_modify(
+    settings: Settings,
+    request: Request,
+    pages: &[u64],
+    code: u64,
+    processed: u64,
+) -> Step
+    ensures { λ r. ⌜ r ≡ failedModify settings request (now (pages .entry)) code processed ⌝ }
 {
-    if q.share {
-        return halt(q);
+    if request.share {
+        return halt(request);
     }
-    if q.n <= processed {
-        return halt(q);
+    if request.n <= processed {
+        return halt(request);
     }
-    let mut cut = q;
+    let mut cut = request;
     cut.n = processed;
     cut.failed = true;
     cut.code = code;
-    cut.index = request_pages::place_at(t, processed);
+    cut.index = request_pages::place_at(pages, processed);
     let restored = Marks {
         private: 0,
         from: processed,
-        to: q.n,
+        to: request.n,
     };
-    step_of(set, cut, t, return_run(set, cut, t, 0, restored))
+    step_of(
+        settings,
+        cut,
+        pages,
+        return_run(settings, cut, pages, 0, restored),
+    )
 }
 
 // The operation outstanding failed.
-pub fn failed(set: Settings, phase: Phase, q: Request, t: &[u64], code: u64, processed: u64) -> Step
-    ensures { λ r. ⌜ r ≡ failedOf set phase q (now (t .entry)) code processed ⌝ }
+pub fn failed(
+    settings: Settings,
+    phase: Phase,
+    request: Request,
+    pages: &[u64],
+    code: u64,
+    processed: u64,
+) -> Step
+    ensures { λ r. ⌜ r ≡ failedOf settings phase request (now (pages .entry)) code processed ⌝ }
 {
     match phase {
-        Phase::Idle => keep(phase, q),
-        Phase::Halted => keep(phase, q),
-        Phase::Wait => keep(phase, q),
-        Phase::FlushAll => keep(phase, q),
-        Phase::ProtectNone0 => halt(q),
-        Phase::ProtectNone1 => halt(q),
-        Phase::Invalidate => halt(q),
-        Phase::Release => halt(q),
-        Phase::Modify => failed_modify(set, q, t, code, processed),
-        Phase::Accept => halt(q),
-        Phase::Zero => halt(q),
-        Phase::ProtectDefault0 => halt(q),
-        Phase::ProtectDefault1 => halt(q),
+        Phase::Idle => keep(phase, request),
+        Phase::Halted => keep(phase, request),
+        Phase::Wait => keep(phase, request),
+        Phase::FlushAll => keep(phase, request),
+        Phase::ProtectNone0 => halt(request),
+        Phase::ProtectNone1 => halt(request),
+        Phase::Invalidate => halt(request),
+        Phase::Release => halt(request),
+        Phase::Modify => failed_modify(settings, request, pages, code, processed),
+        Phase::Accept => halt(request),
+        Phase::Zero => halt(request),
+        Phase::ProtectDefault0 => halt(request),
+        Phase::ProtectDefault1 => halt(request),
     }
 }
 
 // How many pages of VTL0's permissions a sharing clears.
-fn cleared_permissions(tracked: bool, vtl: GuestVtl, n: u64) -> u64
-    ensures { λ r. ⌜ r ≡ cond (isVtl0 vtl && tracked) n 0 ⌝ }
+fn cleared_permissions(tracked: bool, vtl: GuestVtl, count: u64) -> u64
+    ensures { λ r. ⌜ r ≡ cond (isVtl0 vtl && tracked) count 0 ⌝ }
 {
     if permissions::is_vtl0(vtl) {
-        if tracked { n } else { 0 }
+        if tracked { count } else { 0 }
     } else {
         0
     }
 }
 
 // What a taken call clears at once.
-pub fn clears(tracked: bool, vtl: GuestVtl, share: bool, n: u64) -> Writes
-    ensures { λ r. ⌜ r ≡ cleared tracked vtl share n ⌝ }
+pub fn clears(tracked: bool, vtl: GuestVtl, share: bool, count: u64) -> Writes
+    ensures { λ r. ⌜ r ≡ cleared tracked vtl share count ⌝ }
 {
     let none = Places { from: 0, to: 0 };
     if share {
         return Writes {
             state: false,
-            private: Places { from: 0, to: n },
+            private: Places { from: 0, to: count },
             shared: none,
             permissions: Places {
                 from: 0,
-                to: cleared_permissions(tracked, vtl, n),
+                to: cleared_permissions(tracked, vtl, count),
             },
             flags: HvMapGpaFlags::none(),
         };
@@ -681,7 +733,7 @@ pub fn clears(tracked: bool, vtl: GuestVtl, share: bool, n: u64) -> Writes
     Writes {
         state: false,
         private: none,
-        shared: Places { from: 0, to: n },
+        shared: Places { from: 0, to: count },
         permissions: none,
         flags: HvMapGpaFlags::none(),
     }

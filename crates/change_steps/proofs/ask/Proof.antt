@@ -11,7 +11,7 @@ no-run-requires : tie.Need-no-run-requires
 no-run-requires c κs = search needs
 
 returns : tie.Need-returns
-returns c = let a = c .before .before .args in laws.asks (a .q) (c .before .counted .result) (a .stage) (a .operation) (c .no-run .result) (a .entry) (c .before .counted .ensures) (c .no-run .ensures)
+returns c = let a = c .before .before .args in laws.asks (a .change) (c .before .counted .result) (a .stage) (a .operation) (c .no-run .result) (a .entry) (c .before .counted .ensures) (c .no-run .ensures)
 
 pub ask-spec : {M : Type 1} → statement M
 ask-spec = tie.close (tie.spec counted-requires no-run-requires returns)

@@ -65,39 +65,39 @@ finish-requires c κs = search needs
 
 returns : tie.Need-returns
 unfolding doneOf
-returns c = let a = c .before .before .before .before .args in c .keep .ensures ∙ ap (λ (g : Stage). keep g (a .q)) (c .before .enum-told .given .1) ∙ ap (λ (g : Stage). doneOf (a .tracked) g (a .q) (a .t .now) (a .next)) (sym (c .before .enum-told .given .1))
+returns c = let a = c .before .before .before .before .args in c .keep .ensures ∙ ap (λ (g : Stage). keep g (a .change)) (c .before .enum-told .given .1) ∙ ap (λ (g : Stage). doneOf (a .tracked) g (a .change) (a .pages .now) (a .next)) (sym (c .before .enum-told .given .1))
 
 returns-2 : tie.Need-returns-2
 unfolding doneOf
-returns-2 c = let a = c .before .before .before .before .args in c .keep2 .ensures ∙ ap (λ (g : Stage). keep g (a .q)) (c .before .enum-told2 .given .1) ∙ ap (λ (g : Stage). doneOf (a .tracked) g (a .q) (a .t .now) (a .next)) (sym (c .before .enum-told2 .given .1))
+returns-2 c = let a = c .before .before .before .before .args in c .keep2 .ensures ∙ ap (λ (g : Stage). keep g (a .change)) (c .before .enum-told2 .given .1) ∙ ap (λ (g : Stage). doneOf (a .tracked) g (a .change) (a .pages .now) (a .next)) (sym (c .before .enum-told2 .given .1))
 
 returns-3 : tie.Need-returns-3
 unfolding doneOf
-returns-3 c = let a = c .before .before .before .before .before .args in c .protect-pages .ensures ∙ ap (protectPages (a .tracked) (a .q) (a .t .now)) (c .before .run-end .ensures) ∙ ap (λ (g : Stage). doneOf (a .tracked) g (a .q) (a .t .now) (a .next)) (sym (c .before .before .enum-told3 .given .1))
+returns-3 c = let a = c .before .before .before .before .before .args in c .protect-pages .ensures ∙ ap (protectPages (a .tracked) (a .change) (a .pages .now)) (c .before .run-end .ensures) ∙ ap (λ (g : Stage). doneOf (a .tracked) g (a .change) (a .pages .now) (a .next)) (sym (c .before .before .enum-told3 .given .1))
 
 returns-4 : tie.Need-returns-4
 unfolding doneOf
-returns-4 c = let a = c .before .before .before .before .args in c .protect-ram .ensures ∙ ap (λ (g : Stage). doneOf (a .tracked) g (a .q) (a .t .now) (a .next)) (sym (c .before .enum-told4 .given .1))
+returns-4 c = let a = c .before .before .before .before .args in c .protect-ram .ensures ∙ ap (λ (g : Stage). doneOf (a .tracked) g (a .change) (a .pages .now) (a .next)) (sym (c .before .enum-told4 .given .1))
 
 returns-5 : tie.Need-returns-5
 unfolding doneOf
-returns-5 c = let a = c .before .before .before .before .args in c .wait .ensures ∙ ap (λ (g : Stage). doneOf (a .tracked) g (a .q) (a .t .now) (a .next)) (sym (c .before .enum-told5 .given .1))
+returns-5 c = let a = c .before .before .before .before .args in c .wait .ensures ∙ ap (λ (g : Stage). doneOf (a .tracked) g (a .change) (a .pages .now) (a .next)) (sym (c .before .enum-told5 .given .1))
 
 returns-6 : tie.Need-returns-6
 unfolding doneOf
-returns-6 c = let a = c .before .before .before .before .args in c .wait2 .ensures ∙ ap (λ (g : Stage). doneOf (a .tracked) g (a .q) (a .t .now) (a .next)) (sym (c .before .enum-told6 .given .1))
+returns-6 c = let a = c .before .before .before .before .args in c .wait2 .ensures ∙ ap (λ (g : Stage). doneOf (a .tracked) g (a .change) (a .pages .now) (a .next)) (sym (c .before .enum-told6 .given .1))
 
 returns-7 : tie.Need-returns-7
 unfolding doneOf
-returns-7 c = let a = c .before .before .before .before .args in c .ask .ensures ∙ ap (λ (g : Stage). doneOf (a .tracked) g (a .q) (a .t .now) (a .next)) (sym (c .before .enum-told7 .given .1))
+returns-7 c = let a = c .before .before .before .before .args in c .ask .ensures ∙ ap (λ (g : Stage). doneOf (a .tracked) g (a .change) (a .pages .now) (a .next)) (sym (c .before .enum-told7 .given .1))
 
 returns-8 : tie.Need-returns-8
 unfolding doneOf
-returns-8 c = let a = c .before .before .before .before .args in c .ask2 .ensures ∙ ap (λ (g : Stage). doneOf (a .tracked) g (a .q) (a .t .now) (a .next)) (sym (c .before .enum-told8 .given .1))
+returns-8 c = let a = c .before .before .before .before .args in c .ask2 .ensures ∙ ap (λ (g : Stage). doneOf (a .tracked) g (a .change) (a .pages .now) (a .next)) (sym (c .before .enum-told8 .given .1))
 
 returns-9 : tie.Need-returns-9
 unfolding doneOf
-returns-9 c = let a = c .before .before .before .before .args in c .finish .ensures ∙ ap (λ (g : Stage). doneOf (a .tracked) g (a .q) (a .t .now) (a .next)) (sym (c .before .enum-told9 .given .1))
+returns-9 c = let a = c .before .before .before .before .args in c .finish .ensures ∙ ap (λ (g : Stage). doneOf (a .tracked) g (a .change) (a .pages .now) (a .next)) (sym (c .before .enum-told9 .given .1))
 
 pub done-spec : {M : Type 1} → statement M
 done-spec =

@@ -61,31 +61,31 @@ counted-requires-2 : tie.Need-counted-requires-2
 counted-requires-2 c κs = search needs
 
 returns : tie.Need-returns
-returns c = c .no-change .ensures ∙ ap (λ (g : Stage). flushChange g (c .before .before .before .args .q)) (sym (c .before .enum-told .given .1))
+returns c = c .no-change .ensures ∙ ap (λ (g : Stage). flushChange g (c .before .before .before .args .change)) (sym (c .before .enum-told .given .1))
 
 returns-2 : tie.Need-returns-2
-returns-2 c = c .no-change2 .ensures ∙ ap (λ (g : Stage). flushChange g (c .before .before .before .args .q)) (sym (c .before .enum-told2 .given .1))
+returns-2 c = c .no-change2 .ensures ∙ ap (λ (g : Stage). flushChange g (c .before .before .before .args .change)) (sym (c .before .enum-told2 .given .1))
 
 returns-3 : tie.Need-returns-3
-returns-3 c = c .no-change3 .ensures ∙ ap (λ (g : Stage). flushChange g (c .before .before .before .args .q)) (sym (c .before .enum-told3 .given .1))
+returns-3 c = c .no-change3 .ensures ∙ ap (λ (g : Stage). flushChange g (c .before .before .before .args .change)) (sym (c .before .enum-told3 .given .1))
 
 returns-4 : tie.Need-returns-4
-returns-4 c = c .no-change4 .ensures ∙ ap (λ (g : Stage). flushChange g (c .before .before .before .args .q)) (sym (c .before .enum-told4 .given .1))
+returns-4 c = c .no-change4 .ensures ∙ ap (λ (g : Stage). flushChange g (c .before .before .before .args .change)) (sym (c .before .enum-told4 .given .1))
 
 returns-5 : tie.Need-returns-5
-returns-5 c = c .no-change5 .ensures ∙ ap (λ (g : Stage). flushChange g (c .before .before .before .args .q)) (sym (c .before .enum-told5 .given .1))
+returns-5 c = c .no-change5 .ensures ∙ ap (λ (g : Stage). flushChange g (c .before .before .before .args .change)) (sym (c .before .enum-told5 .given .1))
 
 returns-6 : tie.Need-returns-6
-returns-6 c = c .no-change6 .ensures ∙ ap (λ (g : Stage). flushChange g (c .before .before .before .args .q)) (sym (c .before .enum-told6 .given .1))
+returns-6 c = c .no-change6 .ensures ∙ ap (λ (g : Stage). flushChange g (c .before .before .before .args .change)) (sym (c .before .enum-told6 .given .1))
 
 returns-7 : tie.Need-returns-7
-returns-7 c = c .no-change7 .ensures ∙ ap (λ (g : Stage). flushChange g (c .before .before .before .args .q)) (sym (c .before .enum-told7 .given .1))
+returns-7 c = c .no-change7 .ensures ∙ ap (λ (g : Stage). flushChange g (c .before .before .before .args .change)) (sym (c .before .enum-told7 .given .1))
 
 returns-8 : tie.Need-returns-8
-returns-8 c = c .counted .ensures ∙ ap (λ (g : Stage). flushChange g (c .before .before .before .args .q)) (sym (c .before .enum-told8 .given .1))
+returns-8 c = c .counted .ensures ∙ ap (λ (g : Stage). flushChange g (c .before .before .before .args .change)) (sym (c .before .enum-told8 .given .1))
 
 returns-9 : tie.Need-returns-9
-returns-9 c = c .counted2 .ensures ∙ ap (λ (g : Stage). flushChange g (c .before .before .before .args .q)) (sym (c .before .enum-told9 .given .1))
+returns-9 c = c .counted2 .ensures ∙ ap (λ (g : Stage). flushChange g (c .before .before .before .args .change)) (sym (c .before .enum-told9 .given .1))
 
 pub flush-change-spec : {M : Type 1} → statement M
 flush-change-spec =

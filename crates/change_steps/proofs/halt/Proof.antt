@@ -8,7 +8,7 @@ no-run-requires : tie.Need-no-run-requires
 no-run-requires c κs = search needs
 
 returns : tie.Need-returns
-returns c = let a = c .before .args in laws.halts (c .no-run .result) (c .no-run .ensures) (a .q)
+returns c = let a = c .before .args in laws.halts (c .no-run .result) (c .no-run .ensures) (a .change)
 
 pub halt-spec : {M : Type 1} → statement M
 halt-spec = tie.close (tie.spec no-run-requires returns)

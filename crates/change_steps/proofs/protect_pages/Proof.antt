@@ -8,7 +8,7 @@ wait-requires : tie.Need-wait-requires
 wait-requires c κs = search needs
 
 returns : tie.Need-returns
-returns c = let a = c .before .before .before .before .args in laws.pages-none (a .tracked) (a .q) (c .wait .result) (a .t .now) (a .at) (c .before .if1 .taken) (c .wait .ensures)
+returns c = let a = c .before .before .before .before .args in laws.pages-none (a .tracked) (a .change) (c .wait .result) (a .pages .now) (a .at) (c .before .if1 .taken) (c .wait .ensures)
 
 run-at-requires : tie.Need-run-at-requires
 run-at-requires c κs = search needs
@@ -17,7 +17,7 @@ protect-requires : tie.Need-protect-requires
 protect-requires c κs = search needs
 
 returns-2 : tie.Need-returns-2
-returns-2 c = let a = c .before .before .before .before .before .args in laws.pages-next (a .tracked) (a .q) (c .protect .result) (a .t .now) (a .at) (c .before .run-at .result) (c .before .before .if1 .left) (c .before .run-at .ensures) (c .protect .ensures)
+returns-2 c = let a = c .before .before .before .before .before .args in laws.pages-next (a .tracked) (a .change) (c .protect .result) (a .pages .now) (a .at) (c .before .run-at .result) (c .before .before .if1 .left) (c .before .run-at .ensures) (c .protect .ensures)
 
 pub protect-pages-spec : {M : Type 1} → statement M
 protect-pages-spec =

@@ -8,7 +8,7 @@ wait-requires : tie.Need-wait-requires
 wait-requires c κs = search needs
 
 returns : tie.Need-returns
-returns c = let a = c .before .before .before .args in laws.ram-none (a .tracked) (a .q) (c .wait .result) (a .piece) (c .before .if1 .taken) (c .wait .ensures)
+returns c = let a = c .before .before .before .args in laws.ram-none (a .tracked) (a .change) (c .wait .result) (a .piece) (c .before .if1 .taken) (c .wait .ensures)
 
 add-protect : tie.Need-add-protect
 add-protect c = search needs
@@ -17,7 +17,7 @@ protect-requires : tie.Need-protect-requires
 protect-requires c κs = search needs
 
 returns-2 : tie.Need-returns-2
-returns-2 c = let a = c .before .before .before .before .args in laws.ram-next (a .tracked) (a .q) (c .protect .result) (a .piece) (c .before .before .if1 .left) (c .protect .ensures)
+returns-2 c = let a = c .before .before .before .before .args in laws.ram-next (a .tracked) (a .change) (c .protect .result) (a .piece) (c .before .before .if1 .left) (c .protect .ensures)
 
 pub protect-ram-spec : {M : Type 1} → statement M
 protect-ram-spec =

@@ -13,7 +13,7 @@ protect-pages-requires : tie.Need-protect-pages-requires
 protect-pages-requires c κs = search needs
 
 returns : tie.Need-returns
-returns c = let a = c .before .before .before .args in c .protect-pages .ensures ∙ ap (λ (q : Change). protectPages (a .tracked) q (a .t .now) 0) (c .before .change-of .ensures)
+returns c = let a = c .before .before .before .args in c .protect-pages .ensures ∙ ap (λ (q : Change). protectPages (a .tracked) q (a .pages .now) 0) (c .before .change-of .ensures)
 
 pub start-pages-spec : {M : Type 1} → statement M
 start-pages-spec = tie.close (tie.spec change-of-requires protect-pages-requires returns)

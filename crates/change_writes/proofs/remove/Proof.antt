@@ -39,13 +39,13 @@ same-length : tie.Need-same-length
 same-length c = search needs
 
 returns : tie.Need-returns
-returns c = laws.put-vtl0 (c .before .before .before .before .before .before .before .args .tables .now) _ (λ o. withoutPage o (c .before .before .before .before .before .before .before .args .q .at)) (c .before .before .before .before .before .before .before .args .q .vtl) (c .before .before .remove-in .ensures) (c .before .before .before .before .enum-told .given .1)
+returns c = laws.put-vtl0 (c .before .before .before .before .before .before .before .args .tables .now) _ (λ o. withoutPage o (c .before .before .before .before .before .before .before .args .change .at)) (c .before .before .before .before .before .before .before .args .change .vtl) (c .before .before .remove-in .ensures) (c .before .before .before .before .enum-told .given .1)
 
 same-length-2 : tie.Need-same-length-2
 same-length-2 c = search needs
 
 returns-2 : tie.Need-returns-2
-returns-2 c = laws.put-vtl1 (c .before .before .before .before .before .before .before .args .tables .now) _ (λ o. withoutPage o (c .before .before .before .before .before .before .before .args .q .at)) (c .before .before .before .before .before .before .before .args .q .vtl) (c .before .before .remove-in2 .ensures) (c .before .before .before .before .enum-told2 .given .1)
+returns-2 c = laws.put-vtl1 (c .before .before .before .before .before .before .before .args .tables .now) _ (λ o. withoutPage o (c .before .before .before .before .before .before .before .args .change .at)) (c .before .before .before .before .before .before .before .args .change .vtl) (c .before .before .remove-in2 .ensures) (c .before .before .before .before .enum-told2 .given .1)
 
 pub remove-spec : {M : Type 1} → statement M
 remove-spec =

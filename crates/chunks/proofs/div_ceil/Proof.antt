@@ -15,7 +15,7 @@ add-result : tie.Need-add-result
 add-result c = omega (arith, laws.up-fits (c .before .before .args .n) (c .before .before .args .divisor) (c .before .div .result) (c .before .div .ensures) (c .if1 .left))
 
 returns : tie.Need-returns
-returns c = laws.up-whole (c .before .before .args .n) (c .before .before .args .divisor) (c .before .div .result) (c .before .div .ensures) (c .if1 .taken)
+returns c = laws.up-exact (c .before .before .args .n) (c .before .before .args .divisor) (c .before .div .result) (c .before .div .ensures) (c .if1 .taken)
 
 returns-2 : tie.Need-returns-2
 returns-2 c = laws.up-over (c .before .before .args .n) (c .before .before .args .divisor) (c .before .div .result) (c .before .div .ensures) (c .if1 .left)

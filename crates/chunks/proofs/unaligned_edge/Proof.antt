@@ -8,7 +8,7 @@ aligned-subrange-requires : tie.Need-aligned-subrange-requires
 aligned-subrange-requires c κs = search needs
 
 returns : tie.Need-returns
-returns c = laws.edge-whole (c .before .before .before .args .alignment) (c .before .before .before .args .span) (c .before .before .aligned-subrange .result) (c .before .before .aligned-subrange .ensures) (c .if1 .taken)
+returns c = laws.edge-all (c .before .before .before .args .alignment) (c .before .before .before .args .span) (c .before .before .aligned-subrange .result) (c .before .before .aligned-subrange .ensures) (c .if1 .taken)
 
 returns-2 : tie.Need-returns-2
 returns-2 c = laws.edge-front (c .before .before .before .before .before .before .args .alignment) (c .before .before .before .before .before .before .args .span) (c .before .before .before .before .before .aligned-subrange .result) (c .before .before .before .before .before .aligned-subrange .ensures) (c .before .before .before .if1 .left) (c .if2 .taken)

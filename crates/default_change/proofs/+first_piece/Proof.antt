@@ -68,7 +68,7 @@ first-piece-returns t c =
     let i = c .before .before .find-inside .result in
     let e = c .before .before .find-inside .ensures in
     let all : used (a .overlays .now) ≤ i = omega (arith, c .if1 .taken, c .before .entry-count .ensures) in
-    (laws.piece-start-whole (a .overlays .now) (a .first) (a .count) i e all, laws.piece-len-whole (a .overlays .now) (a .first) (a .count) i e all)
+    (laws.piece-start-all (a .overlays .now) (a .first) (a .count) i e all, laws.piece-len-all (a .overlays .now) (a .first) (a .count) i e all)
 
 first-piece-mul-word-at : (t : ℕ) → first-piece-lts.Need-mul-word-at (
   find-inside-reads.Asked,

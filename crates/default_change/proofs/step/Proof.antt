@@ -8,14 +8,14 @@ use borrow.Author.Needs.{needs}
 use Rattle.default_change.proofs.step.Statement.{statement}
 use Rattle.default_change.proofs.step.Tie as tie
 
-is-whole-requires : tie.Need-is-whole-requires
-is-whole-requires c κs = search needs
+is-alike-byte-requires : tie.Need-is-alike-byte-requires
+is-alike-byte-requires c κs = search needs
 
-whole-step-requires : tie.Need-whole-step-requires
-whole-step-requires c κs = search needs
+byte-step-requires : tie.Need-byte-step-requires
+byte-step-requires c κs = search needs
 
 returns : tie.Need-returns
-returns c = let a = c .before .before .before .before .args in let h = c .before .before .is-whole .ensures (c .before .if1 .taken) in laws.whole-step (a .state) (a .map .now) (a .p) (a .end) (c .whole-step .result) (h .0) (h .1) (c .whole-step .ensures)
+returns c = let a = c .before .before .before .before .args in let h = c .before .before .is-alike-byte .ensures (c .before .if1 .taken) in laws.byte-step (a .state) (a .map .now) (a .p) (a .end) (c .byte-step .result) (h .0) (h .1) (c .byte-step .ensures)
 
 is-state-requires : tie.Need-is-state-requires
 is-state-requires c κs = search needs
@@ -29,4 +29,4 @@ returns-3 c = let a = c .before .before .before .before .before .args in (omega 
 pub step-spec : {M : Type 1} → statement M
 step-spec =
     tie.close
-    (tie.spec is-whole-requires whole-step-requires returns is-state-requires returns-2 returns-3)
+    (tie.spec is-alike-byte-requires byte-step-requires returns is-state-requires returns-2 returns-3)

@@ -12,7 +12,7 @@ returns : tie.Need-returns
 returns c =
     let c13 = c .before .before .before .before .before .before .before .before .before .before .before .before .before in
     let a = c13 .args in
-    laws.nothing-applied (a .pages .now) (a .w) (maps (a .private .now) (a .shared .now) (a .read .now) (a .write .now) (a .kernel .now) (a .user .now)) _ (c .before .is-nothing .ensures) (c .if1 .taken)
+    laws.nothing-applied (a .pages .now) (a .writes) (maps (a .private .now) (a .shared .now) (a .read .now) (a .write .now) (a .kernel .now) (a .user .now)) _ (c .before .is-nothing .ensures) (c .if1 .taken)
 
 set-marks-requires : tie.Need-set-marks-requires
 set-marks-requires c κs = search needs
@@ -45,7 +45,7 @@ returns-2 : tie.Need-returns-2
 returns-2 c =
     let c8 = c .before .before .before .before .before .before .before .before in let c15 = c8 .before .before .before .before .before .before .before in let c19 = c15 .before .before .before .before in let c34 = c19 .before .before .before .before .before .before .before .before .before .before .before .before .before .before .before in
     let a = c34 .args in
-    laws.applies (a .pages .now) (a .w) (maps (a .private .now) (a .shared .now) (a .read .now) (a .write .now) (a .kernel .now) (a .user .now)) (c19 .set-marks .last .0)
+    laws.applies (a .pages .now) (a .writes) (maps (a .private .now) (a .shared .now) (a .read .now) (a .write .now) (a .kernel .now) (a .user .now)) (c19 .set-marks .last .0)
     (c15 .set-marks2 .last .0) _ (c19 .set-marks .ensures) (c15 .set-marks2 .ensures) (c8 .update-permissions .ensures)
 
 pub apply-spec : {M : Type 1} → statement M

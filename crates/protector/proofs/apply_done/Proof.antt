@@ -54,11 +54,11 @@ returns c =
     let a = c29 .before .before .before .before .before .before .before .before .before .before .args in
     let m = maps (a .private .now) (a .shared .now) (a .read .now) (a .write .now) (a .kernel .now) (a .user .now) in
     let s = settingsOf (a .state .now) in (
-      laws.marks-applied s (a .q) (a .pages .now) (a .x) m _ _ _ (c27 .mark .ensures) (c23 .mark2 .ensures) (c15 .update-default-permissions .ensures),
+      laws.marks-applied s (a .request) (a .pages .now) (a .next) m _ _ _ (c27 .mark .ensures) (c23 .mark2 .ensures) (c15 .update-default-permissions .ensures),
       (
-        laws.next-saved s (a .q) (a .pages .now) (a .x) m (a .state .now) _ _ (c .before .before .save .ensures) (c .before .before .before .next-request .ensures),
+        laws.next-saved s (a .request) (a .pages .now) (a .next) m (a .state .now) _ _ (c .before .before .save .ensures) (c .before .before .before .next-request .ensures),
         laws.next-replies s
-            (a .q) (a .pages .now) (a .x) m _ _ (c5 .next-reply .ensures) (c29 .run-in .ensures),
+            (a .request) (a .pages .now) (a .next) m _ _ (c5 .next-reply .ensures) (c29 .run-in .ensures),
       ),
     )
 

@@ -59,7 +59,7 @@ returns c =
     let a = c26 .before .before .before .before .before .before .before .before .before .before .args in
     let m = maps (a .private .now) (a .shared .now) (a .read .now) (a .write .now) (a .kernel .now) (a .user .now) in (
       c18 .apply .ensures ∙ ap (λ (w : Writes). applied (a .pages .now) w m)
-          (c25 .clears .ensures ∙ ap (λ (b : Bool). cleared b (a .vtl) (a .share) (a .n)) (c26 .is-tracked .ensures)),
+          (c25 .clears .ensures ∙ ap (λ (b : Bool). cleared b (a .vtl) (a .share) (a .count)) (c26 .is-tracked .ensures)),
       (c .before .before .before .save .ensures ∙ ap (λ (q : Request). withRequest Wait q (a .state .now)) (c4 .asked .ensures), c .plain .ensures),
     )
 

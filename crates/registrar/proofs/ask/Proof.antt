@@ -29,7 +29,9 @@ same-length : tie.Need-same-length
 same-length c = search needs
 
 returns : tie.Need-returns
-returns c = (c .before .before .before .before .before .save .ensures ∙ ap (λ (q : Request). withRequest q (c .before .before .before .before .before .before .before .before .before .before .args .state .now)) (c .before .before .before .before .before .before .piece .ensures), c .asked .ensures ∙ ap₂ (λ (x y : ℕ). simple 0 1 0 x y 0) (c .before .before .wrapping-add-u64 .ensures) (c .before .wrapping-add-u642 .ensures))
+returns c =
+    let c2 = c .before .before in let c5 = c2 .before .before .before in let c6 = c5 .before in let c10 = c6 .before .before .before .before in
+    (c5 .save .ensures ∙ ap (λ (q : Request). withRequest q (c10 .args .state .now)) (c6 .piece .ensures), c .asked .ensures ∙ ap₂ (λ (x y : ℕ). simple 0 1 0 x y 0) (c2 .wrapping-add-u64 .ensures) (c .before .wrapping-add-u642 .ensures))
 
 pub ask-spec : {M : Type 1} → statement M
 ask-spec =

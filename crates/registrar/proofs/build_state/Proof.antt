@@ -35,11 +35,12 @@ slice-write-state-3 c = simp length-set (omega (arith, c .before .before .clear 
 
 loop-holds : tie.Need-loop-holds Inv-loop μ-loop
 loop-holds c =
-    let s = c .before .before .before .before .before .before .before .args .state .now in
-    let t = laws.filled-none s (c .before .before .before .before .before .before .before .args .ram .now) (c .before .before .before .before .before .before .before .args .offset) (c .before .before .before .before .before .before .before .args .granularity) (c .before .before .before .before .entry-count .result) (c .before .before .before .before .before .before .before .pre .0) (c .before .before .before .before .entry-count .ensures) in
-    let q = ap (λ (l : List ℕ). set (set (set l place.offset (c .before .before .before .before .before .before .before .args .offset)) place.granularity (c .before .before .before .before .before .before .before .args .granularity)) place.entries (c .before .before .before .before .entry-count .result)) (c .before .before .clear .ensures) in
-    let given = c .before .before .before .before .before .before .before .pre in
-    (omega arith, simp length-set (c .before .before .clear .kept .0 ∙ given .0), given .1, q ∙ t)
+    let c2 = c .before .before in let c4 = c2 .before .before in let c7 = c4 .before .before .before in let a = c7 .args in
+    let s = a .state .now in
+    let t = laws.filled-none s (a .ram .now) (a .offset) (a .granularity) (c4 .entry-count .result) (c7 .pre .0) (c4 .entry-count .ensures) in
+    let q = ap (λ (l : List ℕ). set (set (set l place.offset (a .offset)) place.granularity (a .granularity)) place.entries (c4 .entry-count .result)) (c2 .clear .ensures) in
+    let given = c7 .pre in
+    (omega arith, simp length-set (c2 .clear .kept .0 ∙ given .0), given .1, q ∙ t)
 
 mul-state : tie.Need-mul-state Inv-loop μ-loop
 mul-state c = search needs

@@ -38,11 +38,12 @@ same-length-2 c = search needs
 
 returns : tie.Need-returns
 returns c =
-    let a = c .before .before .before .before .before .before .before .before .before .before .before .before .before .before .before .before .before .args in
+    let c2 = c .before .before in let c3 = c2 .before in let c5 = c3 .before .before in let c6 = c5 .before in let c9 = c6 .before .before .before in let c11 = c9 .before .before in let c17 = c11 .before .before .before .before .before .before in
+    let a = c17 .args in
     let w = buffers (a .state .now) (a .registered .now) (a .failed .now) in
-    let t = c .before .before .before .before .before .before .before .before .before .before .before .register-stop in
-    let piece = c .before .before .before .piece in
-    (laws.go-asked w (a .total) (a .count) (a .from) (a .until) (c .before .before .before .before .before .before .before .before .before .before .before .before .before .before .before .before .before .pre .1) (t .result) (t .ensures .0) _ _ (c .before .before .before .before .before .before .before .before .before .set-chunks .ensures) (piece .result) (sym (c .before .before .before .before .before .before .has-ram .ensures) ∙ c .before .before .before .before .before .if1 .taken) (piece .ensures) (c .before .before .save .ensures), t .ensures .1)
+    let t = c11 .register-stop in
+    let piece = c3 .piece in
+    (laws.go-asked w (a .total) (a .count) (a .from) (a .until) (c17 .pre .1) (t .result) (t .ensures .0) _ _ (c9 .set-chunks .ensures) (piece .result) (sym (c6 .has-ram .ensures) ∙ c5 .if1 .taken) (piece .ensures) (c2 .save .ensures), t .ensures .1)
 
 idle-requires : tie.Need-idle-requires
 idle-requires c κs = search needs
@@ -58,11 +59,12 @@ same-length-4 c = search needs
 
 returns-2 : tie.Need-returns-2
 returns-2 c =
-    let a = c .before .before .before .before .before .before .before .before .before .before .before .before .before .before .before .before .before .args in
+    let c2 = c .before .before in let c3 = c2 .before in let c5 = c3 .before .before in let c6 = c5 .before in let c9 = c6 .before .before .before in let c11 = c9 .before .before in let c17 = c11 .before .before .before .before .before .before in
+    let a = c17 .args in
     let w = buffers (a .state .now) (a .registered .now) (a .failed .now) in
-    let t = c .before .before .before .before .before .before .before .before .before .before .before .register-stop in
-    let idle = c .before .before .before .idle in
-    (laws.go-ended w (a .total) (a .count) (a .from) (a .until) (c .before .before .before .before .before .before .before .before .before .before .before .before .before .before .before .before .before .pre .1) (t .result) (t .ensures .0) _ _ (c .before .before .before .before .before .before .before .before .before .set-chunks .ensures) (idle .result) (sym (c .before .before .before .before .before .before .has-ram .ensures) ∙ c .before .before .before .before .before .if1 .left) (idle .ensures) (c .before .before .save2 .ensures), t .ensures .1)
+    let t = c11 .register-stop in
+    let idle = c3 .idle in
+    (laws.go-ended w (a .total) (a .count) (a .from) (a .until) (c17 .pre .1) (t .result) (t .ensures .0) _ _ (c9 .set-chunks .ensures) (idle .result) (sym (c6 .has-ram .ensures) ∙ c5 .if1 .left) (idle .ensures) (c2 .save2 .ensures), t .ensures .1)
 
 pub register-from-spec : {M : Type 1} → statement M
 register-from-spec =

@@ -66,12 +66,13 @@ same-length-6 c = search needs
 returns-2 : tie.Need-returns-2
 unfolding failedOf
 returns-2 c =
-    let a = c .before .before .before .before .before .before .before .before .before .before .before .before .before .before .before .before .before .before .before .before .before .before .args in
+    let c3 = c .before .before .before in let c4 = c3 .before in let c8 = c4 .before .before .before .before in let c10 = c8 .before .before in let c12 = c10 .before .before in let c13 = c12 .before in let c22 = c13 .before .before .before .before .before .before .before .before .before in
+    let a = c22 .args in
     let w = buffers (a .state .now) (a .registered .now) (a .failed .now) in
-    let n = c .before .before .before .before .before .before .before .before .before .before .before .before .before .answer-refusal in
-    let load = c .before .before .before .before .before .before .before .before .before .before .load in
-    let idle = c .before .before .before .before .idle in
-    laws.call-answered w (n .result) _ (n .ensures) _ _ (c .before .before .before .before .before .before .before .before .before .before .before .before .if1 .left) (laws.failed-made w (load .result) (idle .result) _ _ (c .to-reply .result) (load .ensures) (idle .ensures) (c .before .before .before .save .ensures) (c .before .before .before .before .before .before .before .before .set-chunks .ensures) (c .to-reply .ensures))
+    let n = c13 .answer-refusal in
+    let load = c10 .load in
+    let idle = c4 .idle in
+    laws.call-answered w (n .result) _ (n .ensures) _ _ (c12 .if1 .left) (laws.failed-made w (load .result) (idle .result) _ _ (c .to-reply .result) (load .ensures) (idle .ensures) (c3 .save .ensures) (c8 .set-chunks .ensures) (c .to-reply .ensures))
 
 pub registrar-answer-failed-spec : {M : Type 1} → statement M
 registrar-answer-failed-spec =

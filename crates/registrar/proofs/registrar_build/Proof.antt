@@ -54,10 +54,11 @@ same-length-6 c = search needs
 returns-2 : tie.Need-returns-2
 unfolding buildOf
 returns-2 c =
-    let a = c .before .before .before .before .before .before .before .before .before .before .before .before .before .before .before .before .before .before .before .before .before .before .args in
+    let c3 = c .before .before .before in let c7 = c3 .before .before .before .before in let c11 = c7 .before .before .before .before in let c13 = c11 .before .before in let c14 = c13 .before in let c22 = c14 .before .before .before .before .before .before .before .before in
+    let a = c22 .args in
     let w = buffers (a .state .now) (a .registered .now) (a .failed .now) in
-    let n = c .before .before .before .before .before .before .before .before .before .before .before .before .before .before .build-refusal in
-    laws.call-answered w (n .result) _ (n .ensures) _ _ (c .before .before .before .before .before .before .before .before .before .before .before .before .before .if1 .left) (laws.build-made w (a .ram .now) (a .offset) (a .granularity) _ _ _ (c .done .result) (c .before .before .before .before .before .before .before .before .before .before .before .build-state .ensures) (c .before .before .before .before .before .before .before .clear .ensures) (c .before .before .before .clear2 .ensures) (c .done .ensures))
+    let n = c14 .build-refusal in
+    laws.call-answered w (n .result) _ (n .ensures) _ _ (c13 .if1 .left) (laws.build-made w (a .ram .now) (a .offset) (a .granularity) _ _ _ (c .done .result) (c11 .build-state .ensures) (c7 .clear .ensures) (c3 .clear2 .ensures) (c .done .ensures))
 
 pub registrar-build-spec : {M : Type 1} → statement M
 registrar-build-spec =

@@ -120,17 +120,18 @@ same-length-9 c = search needs
 returns-3 : tie.Need-returns-3
 unfolding registerOf
 returns-3 c =
-    let a = c .before .before .before .before .before .before .before .before .before .before .before .before .before .before .before .before .before .before .before .before .before .before .before .before .before .before .before .before .args in
+    let c6 = c .before .before .before .before .before .before in let c14 = c6 .before .before .before .before .before .before .before .before in let c15 = c14 .before in let c19 = c15 .before .before .before .before in let c21 = c19 .before .before in let c22 = c21 .before in let c23 = c22 .before in let c28 = c23 .before .before .before .before .before in
+    let a = c28 .args in
     let w = buffers (a .state .now) (a .registered .now) (a .failed .now) in
-    let g = c .before .before .before .before .before .before .before .before .before .before .before .before .before .before .before .before .before .before .before .before .before .before .before .granularity in
-    let f = c .before .before .before .before .before .before .before .before .before .before .before .before .before .before .before .before .before .before .before .before .before .before .first-chunk in
-    let e = c .before .before .before .before .before .before .before .before .before .before .before .before .before .before .before .before .before .before .before .before .before .end-chunk in
-    let n = c .before .before .before .before .before .before .before .before .before .before .before .before .before .before .before .register-refusal in
+    let g = c23 .granularity in
+    let f = c22 .first-chunk in
+    let e = c21 .end-chunk in
+    let n = c15 .register-refusal in
     let nh = laws.touched-refusal w (a .address) (a .len) (g .result) (f .result) (e .result) (g .ensures) (f .ensures) (e .ensures) (n .result) (n .ensures) in
-    let long = laws.register-long w (n .result) (c .before .before .before .before .before .before .before .before .before .before .before .before .before .before .if1 .left) (a .address) (a .len) nh in
-    let o = c .before .before .before .before .before .before .register-from in
-    let chunk-count = c .before .before .before .before .before .before .before .before .before .before .before .before .before .before .before .before .before .before .before .chunk-count in
-    laws.call-answered w (n .result) _ nh _ _ (c .before .before .before .before .before .before .before .before .before .before .before .before .before .before .if1 .left) (laws.go-answered w (chunk-count .result) 0 (f .result) (e .result) (count-in (a .state .now) _ (chunk-count .ensures) long) _ _ (o .result) (c .answer .result) (o .ensures .0) (c .answer .ensures) ∙ ap (carriedOut w) (laws.touched-plan w (a .address) (a .len) (g .result) (f .result) (e .result) (g .ensures) (f .ensures) (e .ensures)))
+    let long = laws.register-long w (n .result) (c14 .if1 .left) (a .address) (a .len) nh in
+    let o = c6 .register-from in
+    let chunk-count = c19 .chunk-count in
+    laws.call-answered w (n .result) _ nh _ _ (c14 .if1 .left) (laws.go-answered w (chunk-count .result) 0 (f .result) (e .result) (count-in (a .state .now) _ (chunk-count .ensures) long) _ _ (o .result) (c .answer .result) (o .ensures .0) (c .answer .ensures) ∙ ap (carriedOut w) (laws.touched-plan w (a .address) (a .len) (g .result) (f .result) (e .result) (g .ensures) (f .ensures) (e .ensures)))
 
 pub registrar-register-spec : {M : Type 1} → statement M
 registrar-register-spec =

@@ -73,23 +73,25 @@ lengths-fit-requires c κs = search needs
 
 returns-7 : tie.Need-returns-7
 returns-7 c =
-    let a = c .before .before .before .before .before .before .before .before .before .before .before .before .before .before .before .before .args in
+    let c2 = c .before .before in let c3 = c2 .before in let c4 = c3 .before in let c5 = c4 .before in let c6 = c5 .before in let c8 = c6 .before .before in let c9 = c8 .before in let c10 = c9 .before in let c11 = c10 .before in let c16 = c11 .before .before .before .before .before in
+    let a = c16 .args in
     let w = buffers (a .state .now) (a .registered .now) (a .failed .now) in
-    let e = c .before .before .before .before .before .before .before .before .before .before .before .refusal in
-    let chunk-count = c .before .before .chunk-count in
+    let e = c11 .refusal in
+    let chunk-count = c2 .chunk-count in
     passes _ _ _ _ (sym (laws.lengths-fit (a .registered .now) (a .failed .now) (chunk-count .result) (a .granularity) (entriesOf (a .ram .now)) _ (chunk-count .ensures) (c .before .lengths-fit .ensures)) ∙ c .if7 .taken) refl
-    ∙ laws.build-last w (a .ram .now) (a .offset) (a .granularity) (e .result) (e .ensures) (c .before .before .before .before .before .before .before .before .before .before .if1 .left) (c .before .before .before .before .before .before .before .before .before .if2 .left) (omega (arith, c .before .before .before .before .before .before .before .before .last-end .ensures)) (c .before .before .before .before .before .before .if4 .left)
-    (c .before .before .before .before .before .if5 .left) (sym (c .before .before .before .before .is-power-from .ensures) ∙ not-false _ (c .before .before .before .if6 .left))
+    ∙ laws.build-last w (a .ram .now) (a .offset) (a .granularity) (e .result) (e .ensures) (c10 .if1 .left) (c9 .if2 .left) (omega (arith, c8 .last-end .ensures)) (c6 .if4 .left)
+    (c5 .if5 .left) (sym (c4 .is-power-from .ensures) ∙ not-false _ (c3 .if6 .left))
 
 returns-8 : tie.Need-returns-8
 returns-8 c =
-    let a = c .before .before .before .before .before .before .before .before .before .before .before .before .before .before .before .before .args in
+    let c2 = c .before .before in let c3 = c2 .before in let c4 = c3 .before in let c5 = c4 .before in let c6 = c5 .before in let c8 = c6 .before .before in let c9 = c8 .before in let c10 = c9 .before in let c11 = c10 .before in let c16 = c11 .before .before .before .before .before in
+    let a = c16 .args in
     let w = buffers (a .state .now) (a .registered .now) (a .failed .now) in
-    let e = c .before .before .before .before .before .before .before .before .before .before .before .refusal in
-    let chunk-count = c .before .before .chunk-count in
+    let e = c11 .refusal in
+    let chunk-count = c2 .chunk-count in
     refuses _ _ _ (sym (laws.lengths-fit (a .registered .now) (a .failed .now) (chunk-count .result) (a .granularity) (entriesOf (a .ram .now)) _ (chunk-count .ensures) (c .before .lengths-fit .ensures)) ∙ c .if7 .left)
-    ∙ laws.build-last w (a .ram .now) (a .offset) (a .granularity) (e .result) (e .ensures) (c .before .before .before .before .before .before .before .before .before .before .if1 .left) (c .before .before .before .before .before .before .before .before .before .if2 .left) (omega (arith, c .before .before .before .before .before .before .before .before .last-end .ensures)) (c .before .before .before .before .before .before .if4 .left)
-    (c .before .before .before .before .before .if5 .left) (sym (c .before .before .before .before .is-power-from .ensures) ∙ not-false _ (c .before .before .before .if6 .left))
+    ∙ laws.build-last w (a .ram .now) (a .offset) (a .granularity) (e .result) (e .ensures) (c10 .if1 .left) (c9 .if2 .left) (omega (arith, c8 .last-end .ensures)) (c6 .if4 .left)
+    (c5 .if5 .left) (sym (c4 .is-power-from .ensures) ∙ not-false _ (c3 .if6 .left))
 
 pub build-refusal-spec : {M : Type 1} → statement M
 build-refusal-spec =

@@ -22,15 +22,17 @@ lengths-fit-requires c κs = search needs
 
 returns-3 : tie.Need-returns-3
 returns-3 c =
-    let a = c .before .before .before .before .before .before .before .before .args in
-    let if1 = c .before .before .before .before .if1 in
-    passes _ _ _ _ (eq-eqb _ _ (if1 .left)) (passes _ _ _ _ (eq-eqb _ _ (c .before .before .if2 .left)) (refuses _ _ _ (sym (laws.lengths-fit (a .registered .now) (a .failed .now) (a .total) (granularityOf (a .state .now)) (entriesIn (a .state .now)) _ (laws.count-in (a .state .now) _ (c .before .before .before .before .before .before .before .before .pre) (if1 .left)) (c .before .lengths-fit .ensures)) ∙ not-true _ (c .if3 .taken))))
+    let c2 = c .before .before in let c4 = c2 .before .before in let c8 = c4 .before .before .before .before in
+    let a = c8 .args in
+    let if1 = c4 .if1 in
+    passes _ _ _ _ (eq-eqb _ _ (if1 .left)) (passes _ _ _ _ (eq-eqb _ _ (c2 .if2 .left)) (refuses _ _ _ (sym (laws.lengths-fit (a .registered .now) (a .failed .now) (a .total) (granularityOf (a .state .now)) (entriesIn (a .state .now)) _ (laws.count-in (a .state .now) _ (c8 .pre) (if1 .left)) (c .before .lengths-fit .ensures)) ∙ not-true _ (c .if3 .taken))))
 
 returns-4 : tie.Need-returns-4
 returns-4 c =
-    let a = c .before .before .before .before .before .before .before .before .args in
-    let if1 = c .before .before .before .before .if1 in
-    passes _ _ _ _ (eq-eqb _ _ (if1 .left)) (passes _ _ _ _ (eq-eqb _ _ (c .before .before .if2 .left)) (passes _ _ _ _ (sym (laws.lengths-fit (a .registered .now) (a .failed .now) (a .total) (granularityOf (a .state .now)) (entriesIn (a .state .now)) _ (laws.count-in (a .state .now) _ (c .before .before .before .before .before .before .before .before .pre) (if1 .left)) (c .before .lengths-fit .ensures)) ∙ not-false _ (c .if3 .left)) refl))
+    let c2 = c .before .before in let c4 = c2 .before .before in let c8 = c4 .before .before .before .before in
+    let a = c8 .args in
+    let if1 = c4 .if1 in
+    passes _ _ _ _ (eq-eqb _ _ (if1 .left)) (passes _ _ _ _ (eq-eqb _ _ (c2 .if2 .left)) (passes _ _ _ _ (sym (laws.lengths-fit (a .registered .now) (a .failed .now) (a .total) (granularityOf (a .state .now)) (entriesIn (a .state .now)) _ (laws.count-in (a .state .now) _ (c8 .pre) (if1 .left)) (c .before .lengths-fit .ensures)) ∙ not-false _ (c .if3 .left)) refl))
 
 pub call-refusal-spec : {M : Type 1} → statement M
 call-refusal-spec =

@@ -44,11 +44,14 @@ stretch-in-requires c κs = omega (arith, chunk-laws.quotient-fits (c .before .b
 
 returns-3 : tie.Need-returns-3
 returns-3 c =
-    let a = c .before .before .before .before .before .before .before .before .before .before .before .before .args in
-    let p = c .before .before .before .before .before .before .aligned-subrange in
-    let unaligned-edge = c .before .before .before .before .before .before .before .before .before .unaligned-edge in
-    let most = c .before .before .max in
-    laws.look-in (a .granularity) (a .registered .now) (a .failed .now) (a .alignment) (a .ignore) (a .chunk) (a .span) (unaligned-edge .result) (unaligned-edge .ensures) (sym (c .before .before .before .before .before .before .before .before .edge-refused .ensures) ∙ c .before .before .before .before .before .before .before .if1 .left) (p .result) (p .ensures) (most .result) (c .before .div2 .result) (c .stretch-in .result) (c .before .before .before .before .if2 .left) (most .ensures ∙ ap (max (a .chunk)) (c .before .before .before .div .ensures)) (c .before .div2 .ensures) (c .stretch-in .ensures)
+    let c2 = c .before .before in let c3 = c2 .before in let c4 = c3 .before in let c6 = c4 .before .before in let c7 = c6 .before in let c8 = c7 .before in let c9 = c8 .before in let c12 = c9 .before .before .before in
+    let a = c12 .args in
+    let p = c6 .aligned-subrange in
+    let unaligned-edge = c9 .unaligned-edge in
+    let most = c2 .max in
+    laws.look-in (a .granularity) (a .registered .now) (a .failed .now) (a .alignment) (a .ignore) (a .chunk) (a .span) (unaligned-edge .result)
+    (unaligned-edge .ensures) (sym (c8 .edge-refused .ensures) ∙ c7 .if1 .left) (p .result) (p .ensures) (most .result) (c .before .div2 .result)
+    (c .stretch-in .result) (c4 .if2 .left) (most .ensures ∙ ap (max (a .chunk)) (c3 .div .ensures)) (c .before .div2 .ensures) (c .stretch-in .ensures)
 
 pub look-at-spec : {M : Type 1} → statement M
 look-at-spec =

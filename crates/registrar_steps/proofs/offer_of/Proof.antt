@@ -40,18 +40,22 @@ stop-of-requires-3 c κs = search needs
 
 returns-3 : tie.Need-returns-3
 returns-3 c =
-    let a = c .before .before .before .before .before .before .before .before .before .before .before .args in
-    let chunk-ram = c .before .before .before .chunk-ram in
-    laws.offer-none (chunkState (a .granularity) (entriesOf (a .ram .now)) (a .registered .now) (a .failed .now)) (a .chunk) (c .stop-of3 .result) (sym (c .before .before .before .before .before .before .before .get .ensures) ∙ c .before .before .before .before .before .before .if1 .left) (sym (c .before .before .before .before .before .get2 .ensures) ∙ c .before .before .before .before .if2 .left) (chunk-ram .result) (chunk-ram .ensures) (c .before .if3 .taken) (c .stop-of3 .ensures)
+    let c3 = c .before .before .before in let c4 = c3 .before in let c5 = c4 .before in let c6 = c5 .before in let c7 = c6 .before in let c11 = c7 .before .before .before .before in
+    let a = c11 .args in
+    let chunk-ram = c3 .chunk-ram in
+    laws.offer-none (chunkState (a .granularity) (entriesOf (a .ram .now)) (a .registered .now) (a .failed .now)) (a .chunk) (c .stop-of3 .result)
+    (sym (c7 .get .ensures) ∙ c6 .if1 .left) (sym (c5 .get2 .ensures) ∙ c4 .if2 .left) (chunk-ram .result) (chunk-ram .ensures) (c .before .if3 .taken) (c .stop-of3 .ensures)
 
 stop-of-requires-4 : tie.Need-stop-of-requires-4
 stop-of-requires-4 c κs = search needs
 
 returns-4 : tie.Need-returns-4
 returns-4 c =
-    let a = c .before .before .before .before .before .before .before .before .before .before .before .args in
-    let chunk-ram = c .before .before .before .chunk-ram in
-    laws.offer-some (chunkState (a .granularity) (entriesOf (a .ram .now)) (a .registered .now) (a .failed .now)) (a .chunk) (c .stop-of4 .result) (sym (c .before .before .before .before .before .before .before .get .ensures) ∙ c .before .before .before .before .before .before .if1 .left) (sym (c .before .before .before .before .before .get2 .ensures) ∙ c .before .before .before .before .if2 .left) (chunk-ram .result) (chunk-ram .ensures) (c .before .if3 .left) (c .stop-of4 .ensures)
+    let c3 = c .before .before .before in let c4 = c3 .before in let c5 = c4 .before in let c6 = c5 .before in let c7 = c6 .before in let c11 = c7 .before .before .before .before in
+    let a = c11 .args in
+    let chunk-ram = c3 .chunk-ram in
+    laws.offer-some (chunkState (a .granularity) (entriesOf (a .ram .now)) (a .registered .now) (a .failed .now)) (a .chunk) (c .stop-of4 .result)
+    (sym (c7 .get .ensures) ∙ c6 .if1 .left) (sym (c5 .get2 .ensures) ∙ c4 .if2 .left) (chunk-ram .result) (chunk-ram .ensures) (c .before .if3 .left) (c .stop-of4 .ensures)
 
 pub offer-of-spec : {M : Type 1} → statement M
 offer-of-spec =

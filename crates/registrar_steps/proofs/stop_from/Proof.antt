@@ -17,8 +17,9 @@ walk-requires c κs = λ k h.
 
 returns : tie.Need-returns
 returns c =
-    let a = c .before .before .before .before .before .args in
-    (c .walk .ensures ∙ ap (stopAt (chunkState (a .granularity) (entriesOf (a .ram .now)) (a .registered .now) (a .failed .now)) (a .from)) (c .before .min .ensures), λ h. laws.walk-fits (a .ram .now) (a .granularity) (a .until) (a .total) (min (a .until) (a .total)) (c .walk .result .chunk) (λ j. c .before .before .before .before .shared-slice-known .given j .fits) (c .before .before .before .before .before .pre) refl h)
+    let c4 = c .before .before .before .before in let c5 = c4 .before in
+    let a = c5 .args in
+    (c .walk .ensures ∙ ap (stopAt (chunkState (a .granularity) (entriesOf (a .ram .now)) (a .registered .now) (a .failed .now)) (a .from)) (c .before .min .ensures), λ h. laws.walk-fits (a .ram .now) (a .granularity) (a .until) (a .total) (min (a .until) (a .total)) (c .walk .result .chunk) (λ j. c4 .shared-slice-known .given j .fits) (c5 .pre) refl h)
 
 pub stop-from-spec : {M : Type 1} → statement M
 stop-from-spec = tie.close (tie.spec min-requires walk-requires returns)

@@ -21,8 +21,8 @@ asks-requires c κs = search needs
 returns : tie.Need-returns
 returns c =
     let a = c .before .before .before .before .before .args in
-    laws.accept-snp (a .set) (a .q) (a .t .now) _ noWrites (sym (c .before .before .before .is-snp .ensures) ∙ c .before .before .if1 .taken) refl
-    (laws.next-asks (a .set) (a .q) (a .t .now) at.Zero (a .q .at) _ _ _ (c .asks .ensures) (c .before .no-marks .ensures))
+    laws.accept-snp (a .settings) (a .request) (a .pages .now) _ noWrites (sym (c .before .before .before .is-snp .ensures) ∙ c .before .before .if1 .taken) refl
+    (laws.next-asks (a .settings) (a .request) (a .pages .now) at.Zero (a .request .at) _ _ _ (c .asks .ensures) (c .before .no-marks .ensures))
 
 run-end-requires : tie.Need-run-end-requires
 run-end-requires c κs = search needs
@@ -36,8 +36,8 @@ return-run-requires c κs = search needs
 returns-2 : tie.Need-returns-2
 returns-2 c =
     let a = c .before .before .before .before .before .before .args in
-    laws.accept-on (a .set) (a .q) (a .t .now) _ noWrites _ (sym (c .before .before .before .before .is-snp .ensures) ∙ c .before .before .before .if1 .left) (c .before .before .run-end .ensures) refl
-    (c .return-run .ensures ∙ ap (λ (m : Marks). returnRun (a .set) (a .q) (a .t .now) (c .before .before .run-end .result) (markedBy m)) (c .before .no-marks2 .ensures))
+    laws.accept-on (a .settings) (a .request) (a .pages .now) _ noWrites _ (sym (c .before .before .before .before .is-snp .ensures) ∙ c .before .before .before .if1 .left) (c .before .before .run-end .ensures) refl
+    (c .return-run .ensures ∙ ap (λ (m : Marks). returnRun (a .settings) (a .request) (a .pages .now) (c .before .before .run-end .result) (markedBy m)) (c .before .no-marks2 .ensures))
 
 pub after-accept-spec : {M : Type 1} → statement M
 after-accept-spec =

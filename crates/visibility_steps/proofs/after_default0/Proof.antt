@@ -35,15 +35,15 @@ default-run-requires c κs = search needs
 returns : tie.Need-returns
 returns c =
     let a = c .before .before .before .before .before .before .args in
-    laws.next-asks (a .set) (a .q) (a .t .now) at.ProtectDefault1 (a .q .at) _ _ _ (c .asks .ensures) (c .before .no-marks .ensures)
-    ∙ ap (λ (o : OptionFlags). afterDefault0 o (a .set) (a .q) (a .t .now)) (sym (c .before .before .enum-told .given .1))
+    laws.next-asks (a .settings) (a .request) (a .pages .now) at.ProtectDefault1 (a .request .at) _ _ _ (c .asks .ensures) (c .before .no-marks .ensures)
+    ∙ ap (λ (o : OptionFlags). afterDefault0 o (a .settings) (a .request) (a .pages .now)) (sym (c .before .before .enum-told .given .1))
 
 returns-2 : tie.Need-returns-2
 returns-2 c =
     let a = c .before .before .before .before .before .before .before .args in
     c .default-run .ensures
-    ∙ ap₂ (λ (k : ℕ) (m : Marks). defaultRun (a .set) (a .q) (a .t .now) k (markedBy m)) (c .before .before .run-end .ensures) (c .before .no-marks2 .ensures)
-    ∙ ap (λ (o : OptionFlags). afterDefault0 o (a .set) (a .q) (a .t .now)) (sym (c .before .before .before .enum-told2 .given .1))
+    ∙ ap₂ (λ (k : ℕ) (m : Marks). defaultRun (a .settings) (a .request) (a .pages .now) k (markedBy m)) (c .before .before .run-end .ensures) (c .before .no-marks2 .ensures)
+    ∙ ap (λ (o : OptionFlags). afterDefault0 o (a .settings) (a .request) (a .pages .now)) (sym (c .before .before .before .enum-told2 .given .1))
 
 pub after-default0-spec : {M : Type 1} → statement M
 after-default0-spec =

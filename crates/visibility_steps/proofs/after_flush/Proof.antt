@@ -13,7 +13,7 @@ share-run-requires c κs = search needs
 returns : tie.Need-returns
 returns c =
     let a = c .before .before .before .args in
-    laws.flush-share (a .set) (a .q) (a .t .now) _ noWrites (c .before .if1 .taken) (c .share-run .ensures)
+    laws.flush-share (a .settings) (a .request) (a .pages .now) _ noWrites (c .before .if1 .taken) (c .share-run .ensures)
 
 no-marks-requires : tie.Need-no-marks-requires
 no-marks-requires c κs = search needs
@@ -24,8 +24,8 @@ asks-requires c κs = search needs
 returns-2 : tie.Need-returns-2
 returns-2 c =
     let a = c .before .before .before .before .args in
-    laws.flush-return (a .set) (a .q) (a .t .now) _ noWrites (c .before .before .if1 .left) refl
-    (laws.next-asks (a .set) (a .q) (a .t .now) at.Modify 0 _ _ _ (c .asks .ensures) (c .before .no-marks .ensures))
+    laws.flush-return (a .settings) (a .request) (a .pages .now) _ noWrites (c .before .before .if1 .left) refl
+    (laws.next-asks (a .settings) (a .request) (a .pages .now) at.Modify 0 _ _ _ (c .asks .ensures) (c .before .no-marks .ensures))
 
 pub after-flush-spec : {M : Type 1} → statement M
 after-flush-spec =

@@ -14,7 +14,7 @@ ends-requires c κs = search needs
 returns : tie.Need-returns
 returns c =
     let a = c .before .before .before .args in
-    laws.modify-share (a .set) (a .q) (a .t .now) _ noWrites _ (c .before .if1 .taken) refl refl (laws.next-ends (a .set) (a .q) (a .t .now) _ _ (c .ends .ensures))
+    laws.modify-share (a .settings) (a .request) (a .pages .now) _ noWrites _ (c .before .if1 .taken) refl refl (laws.next-ends (a .settings) (a .request) (a .pages .now) _ _ (c .ends .ensures))
 
 no-marks-requires : tie.Need-no-marks-requires
 no-marks-requires c κs = search needs
@@ -25,8 +25,8 @@ return-run-requires c κs = search needs
 returns-2 : tie.Need-returns-2
 returns-2 c =
     let a = c .before .before .before .before .args in
-    laws.modify-return (a .set) (a .q) (a .t .now) _ noWrites (c .before .before .if1 .left) refl
-    (c .return-run .ensures ∙ ap (λ (m : Marks). returnRun (a .set) (a .q) (a .t .now) 0 (markedBy m)) (c .before .no-marks .ensures))
+    laws.modify-return (a .settings) (a .request) (a .pages .now) _ noWrites (c .before .before .if1 .left) refl
+    (c .return-run .ensures ∙ ap (λ (m : Marks). returnRun (a .settings) (a .request) (a .pages .now) 0 (markedBy m)) (c .before .no-marks .ensures))
 
 pub after-modify-spec : {M : Type 1} → statement M
 after-modify-spec =

@@ -19,8 +19,8 @@ asks-requires c κs = search needs
 returns : tie.Need-returns
 returns c =
     let a = c .before .before .before .before .before .args in
-    laws.wait-snp (a .set) (a .q) (a .t .now) _ noWrites (sym (c .before .before .before .is-snp .ensures) ∙ c .before .before .if1 .taken) refl
-    (laws.next-asks (a .set) (a .q) (a .t .now) at.FlushAll 0 _ _ _ (c .asks .ensures) (c .before .no-marks .ensures))
+    laws.wait-snp (a .settings) (a .request) (a .pages .now) _ noWrites (sym (c .before .before .before .is-snp .ensures) ∙ c .before .before .if1 .taken) refl
+    (laws.next-asks (a .settings) (a .request) (a .pages .now) at.FlushAll 0 _ _ _ (c .asks .ensures) (c .before .no-marks .ensures))
 
 after-flush-requires : tie.Need-after-flush-requires
 after-flush-requires c κs = search needs
@@ -28,7 +28,7 @@ after-flush-requires c κs = search needs
 returns-2 : tie.Need-returns-2
 returns-2 c =
     let a = c .before .before .before .before .args in
-    laws.wait-on (a .set) (a .q) (a .t .now) _ noWrites (sym (c .before .before .is-snp .ensures) ∙ c .before .if1 .left) (c .after-flush .ensures)
+    laws.wait-on (a .settings) (a .request) (a .pages .now) _ noWrites (sym (c .before .before .is-snp .ensures) ∙ c .before .if1 .left) (c .after-flush .ensures)
 
 pub after-wait-spec : {M : Type 1} → statement M
 after-wait-spec =

@@ -13,7 +13,7 @@ ends-requires c κs = search needs
 returns : tie.Need-returns
 returns c =
     let a = c .before .before .before .before .args in
-    laws.default-end (a .set) (a .q) (a .t .now) _ (markedBy (a .m)) (a .at) (c .before .if1 .taken) (laws.next-ends (a .set) (a .q) (a .t .now) (a .m) _ (c .ends .ensures))
+    laws.default-end (a .settings) (a .request) (a .pages .now) _ (markedBy (a .marks)) (a .at) (c .before .if1 .taken) (laws.next-ends (a .settings) (a .request) (a .pages .now) (a .marks) _ (c .ends .ensures))
 
 asks-requires : tie.Need-asks-requires
 asks-requires c κs = search needs
@@ -21,8 +21,8 @@ asks-requires c κs = search needs
 returns-2 : tie.Need-returns-2
 returns-2 c =
     let a = c .before .before .before .before .args in
-    laws.default-asks (a .set) (a .q) (a .t .now) _ (markedBy (a .m)) (a .at) _ _ (c .before .if1 .left) refl refl
-    (laws.next-asks (a .set) (a .q) (a .t .now) at.ProtectDefault0 (a .at) _ _ _ (c .asks .ensures) refl)
+    laws.default-asks (a .settings) (a .request) (a .pages .now) _ (markedBy (a .marks)) (a .at) _ _ (c .before .if1 .left) refl refl
+    (laws.next-asks (a .settings) (a .request) (a .pages .now) at.ProtectDefault0 (a .at) _ _ _ (c .asks .ensures) refl)
 
 pub default-run-spec : {M : Type 1} → statement M
 default-run-spec = tie.close (tie.spec ends-requires returns asks-requires returns-2)

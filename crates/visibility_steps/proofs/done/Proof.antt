@@ -117,92 +117,92 @@ returns : tie.Need-returns
 unfolding doneOf
 returns c =
     let a = c .before .before .before .before .args in
-    laws.next-idle (a .set) (a .q) (a .t .now) (a .phase) _ (c .keeps .ensures) (c .before .enum-told .given .1)
-    ∙ ap (λ (p : Phase). doneOf (a .set) p (a .q) (a .t .now)) (sym (c .before .enum-told .given .1))
+    laws.next-idle (a .settings) (a .request) (a .pages .now) (a .phase) _ (c .keeps .ensures) (c .before .enum-told .given .1)
+    ∙ ap (λ (p : Phase). doneOf (a .settings) p (a .request) (a .pages .now)) (sym (c .before .enum-told .given .1))
 
 returns-2 : tie.Need-returns-2
 unfolding doneOf
 returns-2 c =
     let a = c .before .before .before .before .args in
-    laws.next-halted (a .set) (a .q) (a .t .now) (a .phase) _ (c .keeps2 .ensures) (c .before .enum-told2 .given .1)
-    ∙ ap (λ (p : Phase). doneOf (a .set) p (a .q) (a .t .now)) (sym (c .before .enum-told2 .given .1))
+    laws.next-halted (a .settings) (a .request) (a .pages .now) (a .phase) _ (c .keeps2 .ensures) (c .before .enum-told2 .given .1)
+    ∙ ap (λ (p : Phase). doneOf (a .settings) p (a .request) (a .pages .now)) (sym (c .before .enum-told2 .given .1))
 
 returns-3 : tie.Need-returns-3
 unfolding doneOf
 returns-3 c =
     let a = c .before .before .before .before .args in
     c .after-wait .ensures
-    ∙ ap (λ (p : Phase). doneOf (a .set) p (a .q) (a .t .now)) (sym (c .before .enum-told3 .given .1))
+    ∙ ap (λ (p : Phase). doneOf (a .settings) p (a .request) (a .pages .now)) (sym (c .before .enum-told3 .given .1))
 
 returns-4 : tie.Need-returns-4
 unfolding doneOf
 returns-4 c =
     let a = c .before .before .before .before .args in
     c .after-flush .ensures
-    ∙ ap (λ (p : Phase). doneOf (a .set) p (a .q) (a .t .now)) (sym (c .before .enum-told4 .given .1))
+    ∙ ap (λ (p : Phase). doneOf (a .settings) p (a .request) (a .pages .now)) (sym (c .before .enum-told4 .given .1))
 
 returns-5 : tie.Need-returns-5
 unfolding doneOf
 returns-5 c =
     let a = c .before .before .before .before .before .args in
-    laws.next-asks (a .set) (a .q) (a .t .now) at.ProtectNone1 (a .q .at) _ _ _ (c .asks .ensures) (c .before .no-marks .ensures)
-    ∙ ap (λ (p : Phase). doneOf (a .set) p (a .q) (a .t .now)) (sym (c .before .before .enum-told5 .given .1))
+    laws.next-asks (a .settings) (a .request) (a .pages .now) at.ProtectNone1 (a .request .at) _ _ _ (c .asks .ensures) (c .before .no-marks .ensures)
+    ∙ ap (λ (p : Phase). doneOf (a .settings) p (a .request) (a .pages .now)) (sym (c .before .before .enum-told5 .given .1))
 
 returns-6 : tie.Need-returns-6
 unfolding doneOf
 returns-6 c =
     let a = c .before .before .before .before .before .args in
-    laws.next-asks (a .set) (a .q) (a .t .now) at.Invalidate (a .q .at) _ _ _ (c .asks2 .ensures) (c .before .no-marks2 .ensures)
-    ∙ ap (λ (p : Phase). doneOf (a .set) p (a .q) (a .t .now)) (sym (c .before .before .enum-told6 .given .1))
+    laws.next-asks (a .settings) (a .request) (a .pages .now) at.Invalidate (a .request .at) _ _ _ (c .asks2 .ensures) (c .before .no-marks2 .ensures)
+    ∙ ap (λ (p : Phase). doneOf (a .settings) p (a .request) (a .pages .now)) (sym (c .before .before .enum-told6 .given .1))
 
 returns-7 : tie.Need-returns-7
 unfolding doneOf
 returns-7 c =
     let a = c .before .before .before .before .before .args in
-    c .share-run .ensures ∙ ap (shareRun (a .set) (a .q) (a .t .now)) (c .before .run-end .ensures)
-    ∙ ap (λ (p : Phase). doneOf (a .set) p (a .q) (a .t .now)) (sym (c .before .before .enum-told7 .given .1))
+    c .share-run .ensures ∙ ap (shareRun (a .settings) (a .request) (a .pages .now)) (c .before .run-end .ensures)
+    ∙ ap (λ (p : Phase). doneOf (a .settings) p (a .request) (a .pages .now)) (sym (c .before .before .enum-told7 .given .1))
 
 returns-8 : tie.Need-returns-8
 unfolding doneOf
 returns-8 c =
     let a = c .before .before .before .before .before .args in
-    c .share-run2 .ensures ∙ ap (shareRun (a .set) (a .q) (a .t .now)) (c .before .run-end2 .ensures)
-    ∙ ap (λ (p : Phase). doneOf (a .set) p (a .q) (a .t .now)) (sym (c .before .before .enum-told8 .given .1))
+    c .share-run2 .ensures ∙ ap (shareRun (a .settings) (a .request) (a .pages .now)) (c .before .run-end2 .ensures)
+    ∙ ap (λ (p : Phase). doneOf (a .settings) p (a .request) (a .pages .now)) (sym (c .before .before .enum-told8 .given .1))
 
 returns-9 : tie.Need-returns-9
 unfolding doneOf
 returns-9 c =
     let a = c .before .before .before .before .args in
     c .after-modify .ensures
-    ∙ ap (λ (p : Phase). doneOf (a .set) p (a .q) (a .t .now)) (sym (c .before .enum-told9 .given .1))
+    ∙ ap (λ (p : Phase). doneOf (a .settings) p (a .request) (a .pages .now)) (sym (c .before .enum-told9 .given .1))
 
 returns-10 : tie.Need-returns-10
 unfolding doneOf
 returns-10 c =
     let a = c .before .before .before .before .args in
     c .after-accept .ensures
-    ∙ ap (λ (p : Phase). doneOf (a .set) p (a .q) (a .t .now)) (sym (c .before .enum-told10 .given .1))
+    ∙ ap (λ (p : Phase). doneOf (a .settings) p (a .request) (a .pages .now)) (sym (c .before .enum-told10 .given .1))
 
 returns-11 : tie.Need-returns-11
 unfolding doneOf
 returns-11 c =
     let a = c .before .before .before .before .before .before .args in
-    c .return-run .ensures ∙ ap₂ (λ (k : ℕ) (m : Marks). returnRun (a .set) (a .q) (a .t .now) k (markedBy m)) (c .before .before .run-end3 .ensures) (c .before .no-marks3 .ensures)
-    ∙ ap (λ (p : Phase). doneOf (a .set) p (a .q) (a .t .now)) (sym (c .before .before .before .enum-told11 .given .1))
+    c .return-run .ensures ∙ ap₂ (λ (k : ℕ) (m : Marks). returnRun (a .settings) (a .request) (a .pages .now) k (markedBy m)) (c .before .before .run-end3 .ensures) (c .before .no-marks3 .ensures)
+    ∙ ap (λ (p : Phase). doneOf (a .settings) p (a .request) (a .pages .now)) (sym (c .before .before .before .enum-told11 .given .1))
 
 returns-12 : tie.Need-returns-12
 unfolding doneOf
 returns-12 c =
     let a = c .before .before .before .before .args in
     c .after-default0 .ensures
-    ∙ ap (λ (p : Phase). doneOf (a .set) p (a .q) (a .t .now)) (sym (c .before .enum-told12 .given .1))
+    ∙ ap (λ (p : Phase). doneOf (a .settings) p (a .request) (a .pages .now)) (sym (c .before .enum-told12 .given .1))
 
 returns-13 : tie.Need-returns-13
 unfolding doneOf
 returns-13 c =
     let a = c .before .before .before .before .before .before .args in
-    c .default-run .ensures ∙ ap₂ (λ (k : ℕ) (m : Marks). defaultRun (a .set) (a .q) (a .t .now) k (markedBy m)) (c .before .before .run-end4 .ensures) (c .before .no-marks4 .ensures)
-    ∙ ap (λ (p : Phase). doneOf (a .set) p (a .q) (a .t .now)) (sym (c .before .before .before .enum-told13 .given .1))
+    c .default-run .ensures ∙ ap₂ (λ (k : ℕ) (m : Marks). defaultRun (a .settings) (a .request) (a .pages .now) k (markedBy m)) (c .before .before .run-end4 .ensures) (c .before .no-marks4 .ensures)
+    ∙ ap (λ (p : Phase). doneOf (a .settings) p (a .request) (a .pages .now)) (sym (c .before .before .before .enum-told13 .given .1))
 
 pub done-spec : {M : Type 1} → statement M
 done-spec =

@@ -14,7 +14,7 @@ none-requires c κs = search needs
 
 returns : tie.Need-returns
 unfolding halt
-returns c = let a = c .before .args in ap (λ (f : HvMapGpaFlags). step at.Halted (a .q) (Halted (a .q .count)) (writes true (places 0 0) (places 0 0) (places 0 0) f)) (c .none .ensures)
+returns c = let a = c .before .args in ap (λ (f : HvMapGpaFlags). step at.Halted (a .request) (Halted (a .request .count)) (writes true (places 0 0) (places 0 0) (places 0 0) f)) (c .none .ensures)
 
 pub halt-spec : {M : Type 1} → statement M
 halt-spec = tie.close (tie.spec none-requires returns)

@@ -12,7 +12,7 @@ no-writes-requires c κs = search needs
 
 returns : tie.Need-returns
 unfolding keep
-returns c = let a = c .before .args in ap (λ (w : Writes). step (a .phase) (a .q) (Refused 21) w) (c .no-writes .ensures)
+returns c = let a = c .before .args in ap (λ (w : Writes). step (a .phase) (a .request) (Refused 21) w) (c .no-writes .ensures)
 
 pub keep-spec : {M : Type 1} → statement M
 keep-spec = tie.close (tie.spec no-writes-requires returns)

@@ -23,13 +23,13 @@ enum-told-3 : tie.Need-enum-told-3
 enum-told-3 c = search needs
 
 returns : tie.Need-returns
-returns c = let a = c .before .before .before .args in ap answer.Ask (c .operation-on .ensures) ∙ ap (λ (k : Turn). answerBy k (a .set) (a .phase) (a .q) (a .run)) (sym (c .before .enum-told .given .1))
+returns c = let a = c .before .before .before .args in ap answer.Ask (c .operation-on .ensures) ∙ ap (λ (k : Turn). answerBy k (a .settings) (a .phase) (a .request) (a .run)) (sym (c .before .enum-told .given .1))
 
 returns-2 : tie.Need-returns-2
-returns-2 c = let a = c .before .before .before .args in c .finished .ensures ∙ ap (λ (k : Turn). answerBy k (a .set) (a .phase) (a .q) (a .run)) (sym (c .before .enum-told2 .given .1))
+returns-2 c = let a = c .before .before .before .args in c .finished .ensures ∙ ap (λ (k : Turn). answerBy k (a .settings) (a .phase) (a .request) (a .run)) (sym (c .before .enum-told2 .given .1))
 
 returns-3 : tie.Need-returns-3
-returns-3 c = let a = c .before .before .args in ap (λ (k : Turn). answerBy k (a .set) (a .phase) (a .q) (a .run)) (sym (c .enum-told3 .given .1))
+returns-3 c = let a = c .before .before .args in ap (λ (k : Turn). answerBy k (a .settings) (a .phase) (a .request) (a .run)) (sym (c .enum-told3 .given .1))
 
 pub next-answer-spec : {M : Type 1} → statement M
 next-answer-spec =

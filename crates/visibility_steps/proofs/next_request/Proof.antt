@@ -22,13 +22,13 @@ enum-told-3 : tie.Need-enum-told-3
 enum-told-3 c = search needs
 
 returns : tie.Need-returns
-returns c = let a = c .before .before .before .args in c .counted .ensures ∙ ap (λ (k : Turn). requestBy k (a .q) (a .at)) (sym (c .before .enum-told .given .1))
+returns c = let a = c .before .before .before .args in c .counted .ensures ∙ ap (λ (k : Turn). requestBy k (a .request) (a .at)) (sym (c .before .enum-told .given .1))
 
 returns-2 : tie.Need-returns-2
-returns-2 c = let a = c .before .before .before .args in c .no-request .ensures ∙ ap (λ (k : Turn). requestBy k (a .q) (a .at)) (sym (c .before .enum-told2 .given .1))
+returns-2 c = let a = c .before .before .before .args in c .no-request .ensures ∙ ap (λ (k : Turn). requestBy k (a .request) (a .at)) (sym (c .before .enum-told2 .given .1))
 
 returns-3 : tie.Need-returns-3
-returns-3 c = let a = c .before .before .args in ap (λ (k : Turn). requestBy k (a .q) (a .at)) (sym (c .enum-told3 .given .1))
+returns-3 c = let a = c .before .before .args in ap (λ (k : Turn). requestBy k (a .request) (a .at)) (sym (c .enum-told3 .given .1))
 
 pub next-request-spec : {M : Type 1} → statement M
 next-request-spec =

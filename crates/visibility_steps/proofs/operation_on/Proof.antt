@@ -58,43 +58,43 @@ or-none-requires : tie.Need-or-none-requires
 or-none-requires c κs = search needs
 
 returns : tie.Need-returns
-returns c = let a = c .before .before .before .before .args in ap (λ (p : Phase). operationOn (a .set) p (a .q) (a .run)) (sym (c .enum-told .given .1))
+returns c = let a = c .before .before .before .before .args in ap (λ (p : Phase). operationOn (a .settings) p (a .request) (a .run)) (sym (c .enum-told .given .1))
 
 returns-2 : tie.Need-returns-2
-returns-2 c = let a = c .before .before .before .before .args in ap (λ (p : Phase). operationOn (a .set) p (a .q) (a .run)) (sym (c .enum-told2 .given .1))
+returns-2 c = let a = c .before .before .before .before .args in ap (λ (p : Phase). operationOn (a .settings) p (a .request) (a .run)) (sym (c .enum-told2 .given .1))
 
 returns-3 : tie.Need-returns-3
-returns-3 c = let a = c .before .before .before .before .args in ap (λ (p : Phase). operationOn (a .set) p (a .q) (a .run)) (sym (c .enum-told3 .given .1))
+returns-3 c = let a = c .before .before .before .before .args in ap (λ (p : Phase). operationOn (a .settings) p (a .request) (a .run)) (sym (c .enum-told3 .given .1))
 
 returns-4 : tie.Need-returns-4
-returns-4 c = let a = c .before .before .before .before .args in ap (λ (p : Phase). operationOn (a .set) p (a .q) (a .run)) (sym (c .enum-told4 .given .1))
+returns-4 c = let a = c .before .before .before .before .args in ap (λ (p : Phase). operationOn (a .settings) p (a .request) (a .run)) (sym (c .enum-told4 .given .1))
 
 returns-5 : tie.Need-returns-5
-returns-5 c = let a = c .before .before .before .before .before .args in ap (λ (f : HvMapGpaFlags). Protect Vtl0 f (a .run)) (c .none .ensures) ∙ ap (λ (p : Phase). operationOn (a .set) p (a .q) (a .run)) (sym (c .before .enum-told5 .given .1))
+returns-5 c = let a = c .before .before .before .before .before .args in ap (λ (f : HvMapGpaFlags). Protect Vtl0 f (a .run)) (c .none .ensures) ∙ ap (λ (p : Phase). operationOn (a .settings) p (a .request) (a .run)) (sym (c .before .enum-told5 .given .1))
 
 returns-6 : tie.Need-returns-6
-returns-6 c = let a = c .before .before .before .before .before .args in ap (λ (f : HvMapGpaFlags). Protect Vtl1 f (a .run)) (c .none2 .ensures) ∙ ap (λ (p : Phase). operationOn (a .set) p (a .q) (a .run)) (sym (c .before .enum-told6 .given .1))
+returns-6 c = let a = c .before .before .before .before .before .args in ap (λ (f : HvMapGpaFlags). Protect Vtl1 f (a .run)) (c .none2 .ensures) ∙ ap (λ (p : Phase). operationOn (a .settings) p (a .request) (a .run)) (sym (c .before .enum-told6 .given .1))
 
 returns-7 : tie.Need-returns-7
-returns-7 c = let a = c .before .before .before .before .args in ap (λ (p : Phase). operationOn (a .set) p (a .q) (a .run)) (sym (c .enum-told7 .given .1))
+returns-7 c = let a = c .before .before .before .before .args in ap (λ (p : Phase). operationOn (a .settings) p (a .request) (a .run)) (sym (c .enum-told7 .given .1))
 
 returns-8 : tie.Need-returns-8
-returns-8 c = let a = c .before .before .before .before .args in ap (λ (p : Phase). operationOn (a .set) p (a .q) (a .run)) (sym (c .enum-told8 .given .1))
+returns-8 c = let a = c .before .before .before .before .args in ap (λ (p : Phase). operationOn (a .settings) p (a .request) (a .run)) (sym (c .enum-told8 .given .1))
 
 returns-9 : tie.Need-returns-9
-returns-9 c = let a = c .before .before .before .before .args in ap (λ (p : Phase). operationOn (a .set) p (a .q) (a .run)) (sym (c .enum-told9 .given .1))
+returns-9 c = let a = c .before .before .before .before .args in ap (λ (p : Phase). operationOn (a .settings) p (a .request) (a .run)) (sym (c .enum-told9 .given .1))
 
 returns-10 : tie.Need-returns-10
-returns-10 c = let a = c .before .before .before .before .args in ap (λ (p : Phase). operationOn (a .set) p (a .q) (a .run)) (sym (c .enum-told10 .given .1))
+returns-10 c = let a = c .before .before .before .before .args in ap (λ (p : Phase). operationOn (a .settings) p (a .request) (a .run)) (sym (c .enum-told10 .given .1))
 
 returns-11 : tie.Need-returns-11
-returns-11 c = let a = c .before .before .before .before .args in ap (λ (p : Phase). operationOn (a .set) p (a .q) (a .run)) (sym (c .enum-told11 .given .1))
+returns-11 c = let a = c .before .before .before .before .args in ap (λ (p : Phase). operationOn (a .settings) p (a .request) (a .run)) (sym (c .enum-told11 .given .1))
 
 returns-12 : tie.Need-returns-12
-returns-12 c = let a = c .before .before .before .before .args in ap (λ (p : Phase). operationOn (a .set) p (a .q) (a .run)) (sym (c .enum-told12 .given .1))
+returns-12 c = let a = c .before .before .before .before .args in ap (λ (p : Phase). operationOn (a .settings) p (a .request) (a .run)) (sym (c .enum-told12 .given .1))
 
 returns-13 : tie.Need-returns-13
-returns-13 c = let a = c .before .before .before .before .before .args in ap (λ (f : HvMapGpaFlags). Protect Vtl1 f (a .run)) (c .or-none .ensures) ∙ ap (λ (p : Phase). operationOn (a .set) p (a .q) (a .run)) (sym (c .before .enum-told13 .given .1))
+returns-13 c = let a = c .before .before .before .before .before .args in ap (λ (f : HvMapGpaFlags). Protect Vtl1 f (a .run)) (c .or-none .ensures) ∙ ap (λ (p : Phase). operationOn (a .settings) p (a .request) (a .run)) (sym (c .before .enum-told13 .given .1))
 
 pub operation-on-spec : {M : Type 1} → statement M
 operation-on-spec =

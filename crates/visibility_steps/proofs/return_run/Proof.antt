@@ -16,7 +16,7 @@ default-run-requires c κs = search needs
 returns : tie.Need-returns
 returns c =
     let a = c .before .before .before .before .before .args in
-    laws.return-none (a .set) (a .q) (a .t .now) _ (markedBy (a .m)) (a .at) _ (c .before .before .if1 .taken) (ap markedBy (c .before .with-private .ensures)) (c .default-run .ensures)
+    laws.return-none (a .settings) (a .request) (a .pages .now) _ (markedBy (a .marks)) (a .at) _ (c .before .before .if1 .taken) (ap markedBy (c .before .with-private .ensures)) (c .default-run .ensures)
 
 is-cca-requires : tie.Need-is-cca-requires
 is-cca-requires c κs = search needs
@@ -30,7 +30,7 @@ default-run-requires-2 c κs = search needs
 returns-2 : tie.Need-returns-2
 returns-2 c =
     let a = c .before .before .before .before .before .before .before .args in
-    laws.return-cca (a .set) (a .q) (a .t .now) _ (markedBy (a .m)) (a .at) _ (c .before .before .before .before .if1 .left) (sym (c .before .before .before .is-cca .ensures) ∙ c .before .before .if2 .taken)
+    laws.return-cca (a .settings) (a .request) (a .pages .now) _ (markedBy (a .marks)) (a .at) _ (c .before .before .before .before .if1 .left) (sym (c .before .before .before .is-cca .ensures) ∙ c .before .before .if2 .taken)
     (ap markedBy (c .before .with-private2 .ensures)) (c .default-run2 .ensures)
 
 asks-requires : tie.Need-asks-requires
@@ -39,8 +39,8 @@ asks-requires c κs = search needs
 returns-3 : tie.Need-returns-3
 returns-3 c =
     let a = c .before .before .before .before .before .before .args in
-    laws.return-asks (a .set) (a .q) (a .t .now) _ (markedBy (a .m)) (a .at) (c .before .before .before .if1 .left) (sym (c .before .before .is-cca .ensures) ∙ c .before .if2 .left)
-    (laws.next-asks (a .set) (a .q) (a .t .now) at.Accept (a .at) _ _ _ (c .asks .ensures) refl)
+    laws.return-asks (a .settings) (a .request) (a .pages .now) _ (markedBy (a .marks)) (a .at) (c .before .before .before .if1 .left) (sym (c .before .before .is-cca .ensures) ∙ c .before .if2 .left)
+    (laws.next-asks (a .settings) (a .request) (a .pages .now) at.Accept (a .at) _ _ _ (c .asks .ensures) refl)
 
 pub return-run-spec : {M : Type 1} → statement M
 return-run-spec =

@@ -16,8 +16,8 @@ asks-requires c κs = search needs
 returns : tie.Need-returns
 returns c =
     let a = c .before .before .before .before .before .args in
-    laws.share-none (a .set) (a .q) (a .t .now) _ noWrites (a .at) (c .before .before .if1 .taken) refl
-    (laws.next-asks (a .set) (a .q) (a .t .now) at.Modify 0 _ _ _ (c .asks .ensures) (c .before .no-marks .ensures))
+    laws.share-none (a .settings) (a .request) (a .pages .now) _ noWrites (a .at) (c .before .before .if1 .taken) refl
+    (laws.next-asks (a .settings) (a .request) (a .pages .now) at.Modify 0 _ _ _ (c .asks .ensures) (c .before .no-marks .ensures))
 
 is-snp-requires : tie.Need-is-snp-requires
 is-snp-requires c κs = search needs
@@ -31,8 +31,8 @@ asks-requires-2 c κs = search needs
 returns-2 : tie.Need-returns-2
 returns-2 c =
     let a = c .before .before .before .before .before .before .before .args in
-    laws.share-snp (a .set) (a .q) (a .t .now) _ noWrites (a .at) (c .before .before .before .before .if1 .left) (sym (c .before .before .before .is-snp .ensures) ∙ c .before .before .if2 .taken) refl
-    (laws.next-asks (a .set) (a .q) (a .t .now) at.ProtectNone0 (a .at) _ _ _ (c .asks2 .ensures) (c .before .no-marks2 .ensures))
+    laws.share-snp (a .settings) (a .request) (a .pages .now) _ noWrites (a .at) (c .before .before .before .before .if1 .left) (sym (c .before .before .before .is-snp .ensures) ∙ c .before .before .if2 .taken) refl
+    (laws.next-asks (a .settings) (a .request) (a .pages .now) at.ProtectNone0 (a .at) _ _ _ (c .asks2 .ensures) (c .before .no-marks2 .ensures))
 
 is-releasing-requires : tie.Need-is-releasing-requires
 is-releasing-requires c κs = search needs
@@ -46,9 +46,9 @@ asks-requires-3 c κs = search needs
 returns-3 : tie.Need-returns-3
 returns-3 c =
     let a = c .before .before .before .before .before .before .before .before .before .args in
-    laws.share-release (a .set) (a .q) (a .t .now) _ noWrites (a .at) (c .before .before .before .before .before .before .if1 .left) (sym (c .before .before .before .before .before .is-snp .ensures) ∙ c .before .before .before .before .if2 .left)
+    laws.share-release (a .settings) (a .request) (a .pages .now) _ noWrites (a .at) (c .before .before .before .before .before .before .if1 .left) (sym (c .before .before .before .before .before .is-snp .ensures) ∙ c .before .before .before .before .if2 .left)
     (sym (c .before .before .before .is-releasing .ensures) ∙ c .before .before .if3 .taken) refl
-    (laws.next-asks (a .set) (a .q) (a .t .now) at.Release (a .at) _ _ _ (c .asks3 .ensures) (c .before .no-marks3 .ensures))
+    (laws.next-asks (a .settings) (a .request) (a .pages .now) at.Release (a .at) _ _ _ (c .asks3 .ensures) (c .before .no-marks3 .ensures))
 
 no-marks-requires-4 : tie.Need-no-marks-requires-4
 no-marks-requires-4 c κs = search needs
@@ -59,9 +59,9 @@ asks-requires-4 c κs = search needs
 returns-4 : tie.Need-returns-4
 returns-4 c =
     let a = c .before .before .before .before .before .before .before .before .before .args in
-    laws.share-bare (a .set) (a .q) (a .t .now) _ noWrites (a .at) (c .before .before .before .before .before .before .if1 .left) (sym (c .before .before .before .before .before .is-snp .ensures) ∙ c .before .before .before .before .if2 .left)
+    laws.share-bare (a .settings) (a .request) (a .pages .now) _ noWrites (a .at) (c .before .before .before .before .before .before .if1 .left) (sym (c .before .before .before .before .before .is-snp .ensures) ∙ c .before .before .before .before .if2 .left)
     (sym (c .before .before .before .is-releasing .ensures) ∙ c .before .before .if3 .left) refl
-    (laws.next-asks (a .set) (a .q) (a .t .now) at.Modify 0 _ _ _ (c .asks4 .ensures) (c .before .no-marks4 .ensures))
+    (laws.next-asks (a .settings) (a .request) (a .pages .now) at.Modify 0 _ _ _ (c .asks4 .ensures) (c .before .no-marks4 .ensures))
 
 pub share-run-spec : {M : Type 1} → statement M
 share-run-spec =

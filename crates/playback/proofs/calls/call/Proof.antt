@@ -31,35 +31,45 @@ enable-requires c κs = search needs
 
 returns-4 : tie.Need-returns-4
 unfolding callOf
-returns-4 c = let a = c .before .before .before .before .before .before .before .before .before .before .args in not-below (a .c .kind) 6 _ _ _ (c .before .before .before .before .before .before .before .if1 .left) (is-not (a .c .kind) 6 _ _ _ (c .before .before .before .before .before .if2 .left) (is-not (a .c .kind) 7 _ _ _ (c .before .before .before .if3 .left) (is (a .c .kind) 8 _ _ _ (c .before .if4 .taken) (c .enable .ensures))))
+returns-4 c =
+    let c3 = c .before .before .before in let c5 = c3 .before .before in let c7 = c5 .before .before in let c10 = c7 .before .before .before in
+    let a = c10 .args in not-below (a .c .kind) 6 _ _ _ (c7 .if1 .left) (is-not (a .c .kind) 6 _ _ _ (c5 .if2 .left) (is-not (a .c .kind) 7 _ _ _ (c3 .if3 .left) (is (a .c .kind) 8 _ _ _ (c .before .if4 .taken) (c .enable .ensures))))
 
 setting-requires : tie.Need-setting-requires
 setting-requires c κs = search needs
 
 returns-5 : tie.Need-returns-5
 unfolding callOf
-returns-5 c = let a = c .before .before .before .before .before .before .before .before .before .before .before .before .args in not-below (a .c .kind) 6 _ _ _ (c .before .before .before .before .before .before .before .before .before .if1 .left) (is-not (a .c .kind) 6 _ _ _ (c .before .before .before .before .before .before .before .if2 .left) (is-not (a .c .kind) 7 _ _ _ (c .before .before .before .before .before .if3 .left) (is-not (a .c .kind) 8 _ _ _ (c .before .before .before .if4 .left) (below (a .c .kind) 11 _ _ _ (c .before .if5 .taken) (c .setting .ensures)))))
+returns-5 c =
+    let c3 = c .before .before .before in let c5 = c3 .before .before in let c7 = c5 .before .before in let c9 = c7 .before .before in let c12 = c9 .before .before .before in
+    let a = c12 .args in not-below (a .c .kind) 6 _ _ _ (c9 .if1 .left) (is-not (a .c .kind) 6 _ _ _ (c7 .if2 .left) (is-not (a .c .kind) 7 _ _ _ (c5 .if3 .left) (is-not (a .c .kind) 8 _ _ _ (c3 .if4 .left) (below (a .c .kind) 11 _ _ _ (c .before .if5 .taken) (c .setting .ensures)))))
 
 is-overlay-requires : tie.Need-is-overlay-requires
 is-overlay-requires c κs = search needs
 
 returns-6 : tie.Need-returns-6
 unfolding callOf
-returns-6 c = let a = c .before .before .before .before .before .before .before .before .before .before .before .before .before .before .args in not-below (a .c .kind) 6 _ _ _ (c .before .before .before .before .before .before .before .before .before .before .before .if1 .left) (is-not (a .c .kind) 6 _ _ _ (c .before .before .before .before .before .before .before .before .before .if2 .left) (is-not (a .c .kind) 7 _ _ _ (c .before .before .before .before .before .before .before .if3 .left) (is-not (a .c .kind) 8 _ _ _ (c .before .before .before .before .before .if4 .left) (not-below (a .c .kind) 11 _ _ _ (c .before .before .before .if5 .left) (is (a .c .kind) 11 _ _ _ (c .before .if6 .taken) (c .is-overlay .ensures))))))
+returns-6 c =
+    let c3 = c .before .before .before in let c5 = c3 .before .before in let c7 = c5 .before .before in let c9 = c7 .before .before in let c11 = c9 .before .before in let c14 = c11 .before .before .before in
+    let a = c14 .args in not-below (a .c .kind) 6 _ _ _ (c11 .if1 .left) (is-not (a .c .kind) 6 _ _ _ (c9 .if2 .left) (is-not (a .c .kind) 7 _ _ _ (c7 .if3 .left) (is-not (a .c .kind) 8 _ _ _ (c5 .if4 .left) (not-below (a .c .kind) 11 _ _ _ (c3 .if5 .left) (is (a .c .kind) 11 _ _ _ (c .before .if6 .taken) (c .is-overlay .ensures))))))
 
 query-requires : tie.Need-query-requires
 query-requires c κs = search needs
 
 returns-7 : tie.Need-returns-7
 unfolding callOf
-returns-7 c = let a = c .before .before .before .before .before .before .before .before .before .before .before .before .before .before .before .before .args in not-below (a .c .kind) 6 _ _ _ (c .before .before .before .before .before .before .before .before .before .before .before .before .before .if1 .left) (is-not (a .c .kind) 6 _ _ _ (c .before .before .before .before .before .before .before .before .before .before .before .if2 .left) (is-not (a .c .kind) 7 _ _ _ (c .before .before .before .before .before .before .before .before .before .if3 .left) (is-not (a .c .kind) 8 _ _ _ (c .before .before .before .before .before .before .before .if4 .left) (not-below (a .c .kind) 11 _ _ _ (c .before .before .before .before .before .if5 .left) (is-not (a .c .kind) 11 _ _ _ (c .before .before .before .if6 .left) (is (a .c .kind) 12 _ _ _ (c .before .if7 .taken) (c .query .ensures)))))))
+returns-7 c =
+    let c3 = c .before .before .before in let c5 = c3 .before .before in let c7 = c5 .before .before in let c9 = c7 .before .before in let c11 = c9 .before .before in let c13 = c11 .before .before in let c16 = c13 .before .before .before in
+    let a = c16 .args in not-below (a .c .kind) 6 _ _ _ (c13 .if1 .left) (is-not (a .c .kind) 6 _ _ _ (c11 .if2 .left) (is-not (a .c .kind) 7 _ _ _ (c9 .if3 .left) (is-not (a .c .kind) 8 _ _ _ (c7 .if4 .left) (not-below (a .c .kind) 11 _ _ _ (c5 .if5 .left) (is-not (a .c .kind) 11 _ _ _ (c3 .if6 .left) (is (a .c .kind) 12 _ _ _ (c .before .if7 .taken) (c .query .ensures)))))))
 
 look-requires : tie.Need-look-requires
 look-requires c κs = search needs
 
 returns-8 : tie.Need-returns-8
 unfolding callOf
-returns-8 c = let a = c .before .before .before .before .before .before .before .before .before .before .before .before .before .before .before .before .args in not-below (a .c .kind) 6 _ _ _ (c .before .before .before .before .before .before .before .before .before .before .before .before .before .if1 .left) (is-not (a .c .kind) 6 _ _ _ (c .before .before .before .before .before .before .before .before .before .before .before .if2 .left) (is-not (a .c .kind) 7 _ _ _ (c .before .before .before .before .before .before .before .before .before .if3 .left) (is-not (a .c .kind) 8 _ _ _ (c .before .before .before .before .before .before .before .if4 .left) (not-below (a .c .kind) 11 _ _ _ (c .before .before .before .before .before .if5 .left) (is-not (a .c .kind) 11 _ _ _ (c .before .before .before .if6 .left) (is-not (a .c .kind) 12 _ _ _ (c .before .if7 .left) (c .look .ensures)))))))
+returns-8 c =
+    let c3 = c .before .before .before in let c5 = c3 .before .before in let c7 = c5 .before .before in let c9 = c7 .before .before in let c11 = c9 .before .before in let c13 = c11 .before .before in let c16 = c13 .before .before .before in
+    let a = c16 .args in not-below (a .c .kind) 6 _ _ _ (c13 .if1 .left) (is-not (a .c .kind) 6 _ _ _ (c11 .if2 .left) (is-not (a .c .kind) 7 _ _ _ (c9 .if3 .left) (is-not (a .c .kind) 8 _ _ _ (c7 .if4 .left) (not-below (a .c .kind) 11 _ _ _ (c5 .if5 .left) (is-not (a .c .kind) 11 _ _ _ (c3 .if6 .left) (is-not (a .c .kind) 12 _ _ _ (c .before .if7 .left) (c .look .ensures)))))))
 
 pub call-spec : {M : Type 1} → statement M
 call-spec =

@@ -33,14 +33,18 @@ register-requires c κs = search needs
 
 returns-4 : tie.Need-returns-4
 unfolding changeIn
-returns-4 c = let a = c .before .before .before .before .before .before .before .before .before .before .args in c .register .ensures ∙ ap (after (a .n) (a .buffers)) (is-not (a .c .kind) 1 _ _ _ (c .before .before .before .before .before .before .before .if1 .left) (is-not (a .c .kind) 2 _ _ _ (c .before .before .before .before .before .if2 .left) (is-not (a .c .kind) 3 _ _ _ (c .before .before .before .if3 .left) (is (a .c .kind) 4 _ _ _ (c .before .if4 .taken) refl))))
+returns-4 c =
+    let c3 = c .before .before .before in let c5 = c3 .before .before in let c7 = c5 .before .before in let c10 = c7 .before .before .before in
+    let a = c10 .args in c .register .ensures ∙ ap (after (a .n) (a .buffers)) (is-not (a .c .kind) 1 _ _ _ (c7 .if1 .left) (is-not (a .c .kind) 2 _ _ _ (c5 .if2 .left) (is-not (a .c .kind) 3 _ _ _ (c3 .if3 .left) (is (a .c .kind) 4 _ _ _ (c .before .if4 .taken) refl))))
 
 unregister-requires : tie.Need-unregister-requires
 unregister-requires c κs = search needs
 
 returns-5 : tie.Need-returns-5
 unfolding changeIn
-returns-5 c = let a = c .before .before .before .before .before .before .before .before .before .before .args in c .unregister .ensures ∙ ap (after (a .n) (a .buffers)) (is-not (a .c .kind) 1 _ _ _ (c .before .before .before .before .before .before .before .if1 .left) (is-not (a .c .kind) 2 _ _ _ (c .before .before .before .before .before .if2 .left) (is-not (a .c .kind) 3 _ _ _ (c .before .before .before .if3 .left) (is-not (a .c .kind) 4 _ _ _ (c .before .if4 .left) refl))))
+returns-5 c =
+    let c3 = c .before .before .before in let c5 = c3 .before .before in let c7 = c5 .before .before in let c10 = c7 .before .before .before in
+    let a = c10 .args in c .unregister .ensures ∙ ap (after (a .n) (a .buffers)) (is-not (a .c .kind) 1 _ _ _ (c7 .if1 .left) (is-not (a .c .kind) 2 _ _ _ (c5 .if2 .left) (is-not (a .c .kind) 3 _ _ _ (c3 .if3 .left) (is-not (a .c .kind) 4 _ _ _ (c .before .if4 .left) refl))))
 
 pub change-in-spec : {M : Type 1} → statement M
 change-in-spec =

@@ -30,19 +30,29 @@ array-share-prefix-write : tie.Need-array-share-prefix-write
 array-share-prefix-write c = prefix-fits (c .before .before .before .before .before .before .before .before .before .before .before .args .buffers .write) (c .before .before .before .bytes-if .result) 64 (c .before .before .before .before .before .before .before .before .before .before .before .good .0 .1 .1 .1 .1 .1 .0 .1 .0 .1) (c .before .before .before .bytes-if .ensures .1)
 
 slice-aggregate-look-in-4 : tie.Need-slice-aggregate-look-in-4
-slice-aggregate-look-in-4 c = prefix-long (c .before .before .before .before .before .before .before .before .before .before .before .before .args .buffers .write) (c .before .before .before .before .bytes-if .result) 64 (c .before .before .before .before .before .before .before .before .before .before .before .before .good .0 .1 .1 .1 .1 .1 .0 .1 .0 .1) (c .before .before .before .before .bytes-if .ensures .1)
+slice-aggregate-look-in-4 c =
+    let c4 = c .before .before .before .before in let c12 = c4 .before .before .before .before .before .before .before .before in
+    prefix-long (c12 .args .buffers .write) (c4 .bytes-if .result) 64 (c12 .good .0 .1 .1 .1 .1 .1 .0 .1 .0 .1) (c4 .bytes-if .ensures .1)
 
 array-share-prefix-kernel : tie.Need-array-share-prefix-kernel
-array-share-prefix-kernel c = prefix-fits (c .before .before .before .before .before .before .before .before .before .before .before .before .args .buffers .kernel) (c .before .before .before .before .bytes-if .result) 64 (c .before .before .before .before .before .before .before .before .before .before .before .before .good .0 .1 .1 .1 .1 .1 .1 .0 .1 .0 .1) (c .before .before .before .before .bytes-if .ensures .1)
+array-share-prefix-kernel c =
+    let c4 = c .before .before .before .before in let c12 = c4 .before .before .before .before .before .before .before .before in
+    prefix-fits (c12 .args .buffers .kernel) (c4 .bytes-if .result) 64 (c12 .good .0 .1 .1 .1 .1 .1 .1 .0 .1 .0 .1) (c4 .bytes-if .ensures .1)
 
 slice-aggregate-look-in-5 : tie.Need-slice-aggregate-look-in-5
-slice-aggregate-look-in-5 c = prefix-long (c .before .before .before .before .before .before .before .before .before .before .before .before .before .args .buffers .kernel) (c .before .before .before .before .before .bytes-if .result) 64 (c .before .before .before .before .before .before .before .before .before .before .before .before .before .good .0 .1 .1 .1 .1 .1 .1 .0 .1 .0 .1) (c .before .before .before .before .before .bytes-if .ensures .1)
+slice-aggregate-look-in-5 c =
+    let c5 = c .before .before .before .before .before in let c13 = c5 .before .before .before .before .before .before .before .before in
+    prefix-long (c13 .args .buffers .kernel) (c5 .bytes-if .result) 64 (c13 .good .0 .1 .1 .1 .1 .1 .1 .0 .1 .0 .1) (c5 .bytes-if .ensures .1)
 
 array-share-prefix-user : tie.Need-array-share-prefix-user
-array-share-prefix-user c = prefix-fits (c .before .before .before .before .before .before .before .before .before .before .before .before .before .args .buffers .user) (c .before .before .before .before .before .bytes-if .result) 64 (c .before .before .before .before .before .before .before .before .before .before .before .before .before .good .0 .1 .1 .1 .1 .1 .1 .1 .0 .1 .0 .1) (c .before .before .before .before .before .bytes-if .ensures .1)
+array-share-prefix-user c =
+    let c5 = c .before .before .before .before .before in let c13 = c5 .before .before .before .before .before .before .before .before in
+    prefix-fits (c13 .args .buffers .user) (c5 .bytes-if .result) 64 (c13 .good .0 .1 .1 .1 .1 .1 .1 .1 .0 .1 .0 .1) (c5 .bytes-if .ensures .1)
 
 slice-aggregate-look-in-6 : tie.Need-slice-aggregate-look-in-6
-slice-aggregate-look-in-6 c = prefix-long (c .before .before .before .before .before .before .before .before .before .before .before .before .before .before .args .buffers .user) (c .before .before .before .before .before .before .bytes-if .result) 64 (c .before .before .before .before .before .before .before .before .before .before .before .before .before .before .good .0 .1 .1 .1 .1 .1 .1 .1 .0 .1 .0 .1) (c .before .before .before .before .before .before .bytes-if .ensures .1)
+slice-aggregate-look-in-6 c =
+    let c6 = c .before .before .before .before .before .before in let c14 = c6 .before .before .before .before .before .before .before .before in
+    prefix-long (c14 .args .buffers .user) (c6 .bytes-if .result) 64 (c14 .good .0 .1 .1 .1 .1 .1 .1 .1 .0 .1 .0 .1) (c6 .bytes-if .ensures .1)
 
 slice-aggregate-look-in-7 : tie.Need-slice-aggregate-look-in-7
 slice-aggregate-look-in-7 c = sym (length-unmapped ℕ (c .before .before .before .before .before .before .before .before .before .before .before .before .before .before .before .args .buffers .state) 128 (c .before .before .before .before .before .before .before .before .before .before .before .before .before .before .before .good .0 .1 .1 .1 .1 .1 .1 .1 .1 .0 .1 .0 .1))

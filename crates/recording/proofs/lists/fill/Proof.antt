@@ -36,10 +36,13 @@ loop-less c = search needs
 
 loop-again : tie.Need-loop-again Inv-loop μ-loop
 loop-again c =
-    let h = c .before .before .before .before .before .before .before .loop in
-    let a = c .before .before .before .before .before .before .before .before .before .before .args in
-    let p = c .before .before .put-run in
-    (p .kept .0 ∙ h .inv .0, runs-step (a .input .now) (h .next) (c .before .before .before .before .before .number .result) (c .before .before .before .before .number2 .result) (c .before .before .before .before .before .number .ensures) (c .before .before .before .before .number2 .ensures) (h .left) (filling (h .list) (h .len)) (filling (p .last .0) (p .result)) (omega arith) (p .ensures) ∙ h .inv .1, after-runs-step (a .input .now) (h .next) (c .before .before .before .before .before .number .result) (c .before .before .before .before .number2 .result) (c .before .before .before .before .before .number .ensures) (c .before .before .before .before .number2 .ensures) (h .left) (omega arith) ∙ h .inv .2)
+    let c2 = c .before .before in let c4 = c2 .before .before in let c5 = c4 .before in let c7 = c5 .before .before in let c10 = c7 .before .before .before in
+    let h = c7 .loop in
+    let a = c10 .args in
+    let p = c2 .put-run in
+    let first = c5 .number in
+    let second = c4 .number2 in
+    (p .kept .0 ∙ h .inv .0, runs-step (a .input .now) (h .next) (first .result) (second .result) (first .ensures) (second .ensures) (h .left) (filling (h .list) (h .len)) (filling (p .last .0) (p .result)) (omega arith) (p .ensures) ∙ h .inv .1, after-runs-step (a .input .now) (h .next) (first .result) (second .result) (first .ensures) (second .ensures) (h .left) (omega arith) ∙ h .inv .2)
 
 same-length : tie.Need-same-length Inv-loop μ-loop
 same-length c = c .before .loop .inv .0

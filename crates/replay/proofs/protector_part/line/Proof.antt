@@ -48,17 +48,21 @@ same-length c = search needs
 
 returns : tie.Need-returns
 returns c =
-    let a = c .before .before .before .before .before .before .before .before .before .before .before .before .before .before .before .before .before .before .before .before .before .before .before .args in
-    let f = c .before .before .before .before .before .before .before .before .before .before .before .before .before .before .before .before .before .before .before .numbers in
-    let k = c .before .before .before .before .before .before .before .before .before .before .before .before .before .before .before .before .call-of in
-    let m = c .before .before .before .before .before .before .before .before .before .before .before .ram2 in
-    let u = c .before .before .before .before .before .before .words-part in
-    let b = c .before .before .before .before .before .before .before .before .before .before .before .before .before .before .fill in
-    let l = c .before .before .before .before .before .before .before .before .part in
-    let v = c .before .before .before .before .before .put-often in (
-      protector-line (a .input .now) (a .step .next) (f .last .1 .1 .0) (f .result) (k .result) (m .last .0) (u .result .now) (m .result) (f .ensures .0) (f .ensures .1) (k .ensures) (m .ensures .0) (m .ensures .1) (u .ensures) (b .last .0) (l .result .now) (b .result .len) (b .ensures .0) (l .ensures) (a .step .buffers) (v .result) (v .ensures),
+    let c2 = c .before .before in let c5 = c2 .before .before .before in let c6 = c5 .before in let c8 = c6 .before .before in let c11 = c8 .before .before .before in let c14 = c11 .before .before .before in let c16 = c14 .before .before in let c19 = c16 .before .before .before in let c23 = c19 .before .before .before .before in
+    let a = c23 .args in
+    let f = c19 .numbers in
+    let k = c16 .call-of in
+    let m = c11 .ram2 in
+    let u = c6 .words-part in
+    let b = c14 .fill in
+    let l = c8 .part in
+    let v = c5 .put-often in (
+      protector-line (a .input .now) (a .step .next) (f .last .1 .1 .0) (f .result) (k .result) (m .last .0) (u .result .now) (m .result) (f .ensures .0)
+          (f .ensures .1) (k .ensures) (m .ensures .0) (m .ensures .1) (u .ensures) (b .last .0) (l .result .now) (b .result .len) (b .ensures .0) (l .ensures) (a .step .buffers) (v .result) (v .ensures),
       line-after (a .input .now) (a .step .next) (f .last .1 .1 .0) (f .result) (k .result) (b .result .next) (f .ensures .0) (f .ensures .1) (k .ensures) (b .ensures .1),
-      protector-compared (a .input .now) (a .step .next) (f .last .1 .1 .0) (f .result) (k .result) (m .last .0) (u .result .now) (m .result) (f .ensures .0) (f .ensures .1) (k .ensures) (m .ensures .0) (m .ensures .1) (u .ensures) (b .last .0) (l .result .now) (b .result .len) (b .ensures .0) (l .ensures) (a .step .buffers) (v .result) (a .tally .now) (c .before .before .compare .last .1 .1 .0) (v .ensures) (c .before .before .compare .ensures),
+      protector-compared (a .input .now) (a .step .next) (f .last .1 .1 .0) (f .result) (k .result) (m .last .0) (u .result .now) (m .result)
+          (f .ensures .0) (f .ensures .1) (k .ensures) (m .ensures .0) (m .ensures .1) (u .ensures) (b .last .0) (l .result .now) (b .result .len)
+          (b .ensures .0) (l .ensures) (a .step .buffers) (v .result) (a .tally .now) (c2 .compare .last .1 .1 .0) (v .ensures) (c2 .compare .ensures),
     )
 
 pub line-spec : {M : Type 1} → statement M

@@ -47,7 +47,9 @@ element-copy-out-if5-2 : tie.Need-element-copy-out-if5-2
 element-copy-out-if5-2 c = search needs
 
 returns-5 : tie.Need-returns-5
-returns-5 c = let a = c .before .before .before .before .before .before .before .before .before .before .before .before .before .before .before .args in differ-4 (a .f .now) (a .g .now) (c .before .before .before .before .before .before .before .before .before .before .before .before .if1 .left) (c .before .before .before .before .before .before .before .before .before .if2 .left) (c .before .before .before .before .before .before .if3 .left) (c .before .before .before .if4 .left) (c .if5 .taken)
+returns-5 c =
+    let c3 = c .before .before .before in let c6 = c3 .before .before .before in let c9 = c6 .before .before .before in let c12 = c9 .before .before .before in let c15 = c12 .before .before .before in
+    let a = c15 .args in differ-4 (a .f .now) (a .g .now) (c12 .if1 .left) (c9 .if2 .left) (c6 .if3 .left) (c3 .if4 .left) (c .if5 .taken)
 
 element-copy-out-result : tie.Need-element-copy-out-result
 element-copy-out-result c = search needs
@@ -56,7 +58,9 @@ element-copy-out-result-2 : tie.Need-element-copy-out-result-2
 element-copy-out-result-2 c = search needs
 
 returns-6 : tie.Need-returns-6
-returns-6 c = let a = c .before .before .before .before .before .before .before .before .before .before .before .before .before .before .before .before .before .args in differ-5 (a .f .now) (a .g .now) (c .before .before .before .before .before .before .before .before .before .before .before .before .before .before .if1 .left) (c .before .before .before .before .before .before .before .before .before .before .before .if2 .left) (c .before .before .before .before .before .before .before .before .if3 .left) (c .before .before .before .before .before .if4 .left) (c .before .before .if5 .left)
+returns-6 c =
+    let c2 = c .before .before in let c5 = c2 .before .before .before in let c8 = c5 .before .before .before in let c11 = c8 .before .before .before in let c14 = c11 .before .before .before in let c17 = c14 .before .before .before in
+    let a = c17 .args in differ-5 (a .f .now) (a .g .now) (c14 .if1 .left) (c11 .if2 .left) (c8 .if3 .left) (c5 .if4 .left) (c2 .if5 .left)
 
 pub is-same-spec : {M : Type 1} → statement M
 is-same-spec =

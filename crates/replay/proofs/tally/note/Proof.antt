@@ -45,12 +45,14 @@ same-length c = search needs
 
 returns : tie.Need-returns
 returns c =
-    let a = c .before .before .before .before .before .before .before .before .before .before .before .before .before .before .before .before .before .before .before .before .before .before .before .before .args in
-    let x = c .before .before .before .before .before .before .before .before .before .before .before .before .before .before .before .before .before .before .before .before .bump in
-    let y = c .before .before .before .before .before .before .before .before .before .before .before .before .before .before .before .before .bump2 in
-    let z = c .before .before .before .before .before .before .before .before .before .before .before .before .bump3 in
-    let s = c .before .before .before .before .before .before .before .before .before .is-same in
-    noted-same (a .tally .now) (a .f .now) (a .g .now) (a .number) (a .column) (x .last .0) (y .last .0) (z .last .0) (x .ensures) (y .ensures) (z .ensures) (s .result) (s .ensures) (c .before .before .before .before .before .before .bump4 .last .0) (c .before .before .bump5 .last .0) (c .before .before .before .before .before .before .before .before .if1 .taken) (c .before .before .before .before .before .before .bump4 .ensures) (c .before .before .bump5 .ensures)
+    let c2 = c .before .before in let c6 = c2 .before .before .before .before in let c8 = c6 .before .before in let c9 = c8 .before in let c12 = c9 .before .before .before in let c16 = c12 .before .before .before .before in let c20 = c16 .before .before .before .before in let c24 = c20 .before .before .before .before in
+    let a = c24 .args in
+    let x = c20 .bump in
+    let y = c16 .bump2 in
+    let z = c12 .bump3 in
+    let s = c9 .is-same in
+    noted-same (a .tally .now) (a .f .now) (a .g .now) (a .number) (a .column) (x .last .0) (y .last .0) (z .last .0) (x .ensures) (y .ensures)
+    (z .ensures) (s .result) (s .ensures) (c6 .bump4 .last .0) (c2 .bump5 .last .0) (c8 .if1 .taken) (c6 .bump4 .ensures) (c2 .bump5 .ensures)
 
 bump-requires-6 : tie.Need-bump-requires-6
 bump-requires-6 c κs = search needs
