@@ -13,6 +13,13 @@ cargo test --offline --quiet --manifest-path rust/Cargo.toml -p boundary
 export RT_JOBS=${RT_JOBS:-4}
 rt ci | tee "$verdict"
 
+# One number changed in each of six recorded lines, those that are compared: the replay must see all six.
+seen=$(awk 'NR >= 3 && NR <= 8 { $(NR + 7) = $(NR + 7) "1" } { print }' crates/replay/stdin | target/bin/replay | tail -n 1)
+case $seen in
+*', not as recorded: 6') ;;
+*) echo "test.sh: the replay doesn't see changed answers: $seen" >&2; exit 1 ;;
+esac
+
 # The static libraries of the crates with entries, half of them in a copy of the tree: two rt in one tree break each other.
 libraries() { for name in "$@"; do rt staticlib "$name" > /dev/null; done; }
 mapfile -t names < <(grep -l 'pub extern "C" fn' crates/*/src/*.rt | cut -d/ -f2 | sort -u)

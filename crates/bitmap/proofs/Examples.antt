@@ -32,6 +32,20 @@ edges-of-14 : written 8 (edges 8 1 15) true (0 ∷ 0 ∷ []) ≡ 0xfe ∷ 0x7f �
 unfolding word writtenFrom
 edges-of-14 = refl
 
+-- pages 0 to 8 and 7 to 15 fill a byte and have one page beside it
+edges-of-9 : written 8 (edges 8 0 9) true (0 ∷ 0 ∷ []) ≡ 0 ∷ 0x01 ∷ []
+unfolding word writtenFrom
+edges-of-9 = refl
+
+edges-of-9-back : written 8 (edges 8 7 16) true (0 ∷ 0 ∷ []) ≡ 0x80 ∷ 0 ∷ []
+unfolding word writtenFrom
+edges-of-9-back = refl
+
+-- pages 8 to 23: two bytes and no single page
+edges-of-16 : written 8 (edges 8 8 24) true (0 ∷ 0 ∷ 0 ∷ []) ≡ 0 ∷ 0 ∷ 0 ∷ []
+unfolding word writtenFrom
+edges-of-16 = refl
+
 -- chunk 70 is bit 6 of word 1
 chunk-70 : written 64 (one 70) true (0 ∷ 1 ∷ []) ≡ 0 ∷ 65 ∷ []
 unfolding word writtenFrom

@@ -6,6 +6,7 @@ use Prim.Native.Nat.{ℕ, zero, _+_, _-_, _*_, _/_, _≤_, _<_}
 use mathlib.Core.Logic.{_⊎_, ⊎-elim}
 use native.Mathlib.Nat.{div-mul-le-self, lt-div-mul-add}
 use native.Mathlib.Omega.{arith}
+use lib.Arith.{digits-div}
 use lib.Dec.{leb}
 use borrow.Author.Tests.{leb-true, le-leb, eqb-true, eq-eqb}
 use Rattle.laws.specs.Bools.{same, false≢true, and-left, and-right, and-true, or-true, or-left, or-right, not-of, not-both, lt-or-le}
@@ -38,6 +39,25 @@ filled-inside w a b q pos e =
     let d = div-mul-le-self q w in let u : q < q / w * w + w = lt-div-mul-add pos in
     between-true a b q (omega arith) (omega arith)
 
+-- a run fills a word where each of its pages is in the run, and only there
+pub filled-each : (w a b q r : ℕ) → zero < w → filled w a b q ≡ true → r / w ≡ q / w → between a b r ≡ true
+filled-each w a b q r pos e f =
+    let l = filled-from w a b q e in let h = filled-to w a b q e in
+    let g = ap (λ (x : ℕ). x * w) f in
+    let d = div-mul-le-self r w in let u : r < r / w * w + w = lt-div-mul-add pos in
+    between-true a b r (omega arith) (omega arith)
+
+pub each-filled : (w a b q : ℕ) → zero < w → ((r : ℕ) → r / w ≡ q / w → between a b r ≡ true) → filled w a b q ≡ true
+each-filled w a b q pos f =
+    let lo = between-from a b (q / w * w + 0) (f (q / w * w + 0) (digits-div (q / w) pos)) in
+    let below : w - 1 < w = omega arith in
+    let hi = between-to a b (q / w * w + (w - 1)) (f (q / w * w + (w - 1)) (digits-div (q / w) below)) in
+    filled-true w a b q (omega arith) (omega arith)
+
+-- no page is of both parts
+pub edges-apart : (w a b q : ℕ) → edges w a b q ≡ true → filled w a b q ≡ true → ⊥
+edges-apart w a b q e = not-both (filled w a b q) (and-right (between a b q) (not (filled w a b q)) e)
+
 parts : (r h : Bool) → (h ≡ true → r ≡ true) → r ≡ (h || (r && not h))
 parts r true f = f refl
 parts true false f = refl
@@ -68,9 +88,6 @@ edges-all a b q h =
 edges-in : (a b q : ℕ) → edges 8 a b q ≡ true → between a b q ≡ true
 edges-in a b q e = and-left (between a b q) (not (filled 8 a b q)) e
 
-edges-not : (a b q : ℕ) → edges 8 a b q ≡ true → filled 8 a b q ≡ true → ⊥
-edges-not a b q e = not-both (filled 8 a b q) (and-right (between a b q) (not (filled 8 a b q)) e)
-
 edges-true : (a b q : ℕ) → a ≤ q → q < b → (filled 8 a b q ≡ true → ⊥) → edges 8 a b q ≡ true
 edges-true a b q l h n = and-true (between a b q) (not (filled 8 a b q)) (between-true a b q l h) (not-of (filled 8 a b q) n)
 
@@ -83,7 +100,7 @@ pub edges-none : (a b q : ℕ) → a / 8 * 8 ≡ a → b ≡ a + 8 → edges 8 a
 edges-none a b q h d =
     same (edges 8 a b q) false
     (λ e. let r = edges-in a b q e in let l = between-from a b q r in let t = between-to a b q r in
-    absurd (edges-not a b q e (filled-true 8 a b q (omega arith) (omega arith))))
+    absurd (edges-apart 8 a b q e (filled-true 8 a b q (omega arith) (omega arith))))
     (λ e. false≢true e)
 
 -- else they are those of its pages in the first byte and of its pages in the last
@@ -101,11 +118,11 @@ module _ (a l q : ℕ) (h : a / 8 < l / 8) where
       let t = between-to a (l + 1) q r in
       ⊎-elim (λ (d : q < a / 8 * 8 + 8).
       or-right back front (edges-true a (a / 8 * 8 + 7 + 1) q f (omega arith)
-      (λ u. let v = filled-from 8 a (a / 8 * 8 + 7 + 1) q u in edges-not a (l + 1) q e (filled-true 8 a (l + 1) q v (omega arith)))))
+      (λ u. let v = filled-from 8 a (a / 8 * 8 + 7 + 1) q u in edges-apart 8 a (l + 1) q e (filled-true 8 a (l + 1) q v (omega arith)))))
       (λ (d : a / 8 * 8 + 8 ≤ q).
-      ⊎-elim (λ (u : q < l / 8 * 8). absurd (edges-not a (l + 1) q e (filled-true 8 a (l + 1) q (omega arith) (omega arith))))
+      ⊎-elim (λ (u : q < l / 8 * 8). absurd (edges-apart 8 a (l + 1) q e (filled-true 8 a (l + 1) q (omega arith) (omega arith))))
       (λ (u : l / 8 * 8 ≤ q). or-left back front (edges-true (l / 8 * 8) (l + 1) q u t
-      (λ v. let x = filled-to 8 (l / 8 * 8) (l + 1) q v in edges-not a (l + 1) q e (filled-true 8 a (l + 1) q (omega arith) x))))
+      (λ v. let x = filled-to 8 (l / 8 * 8) (l + 1) q v in edges-apart 8 a (l + 1) q e (filled-true 8 a (l + 1) q (omega arith) x))))
       (lt-or-le q (l / 8 * 8)))
       (lt-or-le q (a / 8 * 8 + 8))
 
@@ -114,11 +131,11 @@ module _ (a l q : ℕ) (h : a / 8 < l / 8) where
       (λ d. let r = edges-in (l / 8 * 8) (l + 1) q d in
       let f = between-from (l / 8 * 8) (l + 1) q r in let t = between-to (l / 8 * 8) (l + 1) q r in
       edges-true a (l + 1) q (omega arith) t
-      (λ u. let v = filled-to 8 a (l + 1) q u in edges-not (l / 8 * 8) (l + 1) q d (filled-true 8 (l / 8 * 8) (l + 1) q (omega arith) v)))
+      (λ u. let v = filled-to 8 a (l + 1) q u in edges-apart 8 (l / 8 * 8) (l + 1) q d (filled-true 8 (l / 8 * 8) (l + 1) q (omega arith) v)))
       (λ d. let r = edges-in a (a / 8 * 8 + 7 + 1) q d in
       let f = between-from a (a / 8 * 8 + 7 + 1) q r in let t = between-to a (a / 8 * 8 + 7 + 1) q r in
       edges-true a (l + 1) q f (omega arith)
-      (λ u. let v = filled-from 8 a (l + 1) q u in edges-not a (a / 8 * 8 + 7 + 1) q d (filled-true 8 a (a / 8 * 8 + 7 + 1) q v (omega arith))))
+      (λ u. let v = filled-from 8 a (l + 1) q u in edges-apart 8 a (a / 8 * 8 + 7 + 1) q d (filled-true 8 a (a / 8 * 8 + 7 + 1) q v (omega arith))))
       (or-true back front e)
 
   pub edges-ends : edges 8 a (l + 1) q ≡ (back || front)

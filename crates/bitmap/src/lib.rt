@@ -105,7 +105,7 @@ pub fn update_run(map: &mut [u8], first: u64, last: u64, state: bool)
     update_filled(map, first, last, state);
 }
 
-// The same, where a run may be one page.
+// The same; a run of one page is written as one page.
 pub fn update(map: &mut [u8], first: u64, last: u64, state: bool)
     requires { ⌜ first ≤ last ⌝ }
     ensures { λ _. ⌜ now (map .exit) ≡ written 8 (between first (last + 1)) state (now (map .entry)) ⌝ }
