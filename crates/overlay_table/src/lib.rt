@@ -4,7 +4,7 @@ ghost use Prim.Native.Nat.{_+_, _*_, _≤_, _<_};
 ghost use lib.ListN.{length, take};
 ghost use Rattle.abi.specs.Overlay as overlay;
 ghost use Rattle.overlay_table.specs.Search.{isOf, findFrom, keyIn, loaded, placeFor};
-ghost use Rattle.overlay_table.specs.Overlays.{used, placeFrom, placeOf, isOverlay, entryAt, addCode, addWords, previousWords, countWords, removeWords};
+ghost use Rattle.overlay_table.specs.Overlays.{used, placeOf, isOverlay, entryAt, addCode, addWords, previousWords, countWords, removeWords};
 use abi::limit;
 use abi::overlay;
 use abi::refusal;

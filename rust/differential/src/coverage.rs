@@ -112,6 +112,31 @@ pub const PLACES: [&str; 8] = [
     "register: chunks on both sides of 128 MiB",
 ];
 
+/// The calls that write runs of pages into maps, and how a run may lie over the bytes of a map.
+pub const WRITERS: [&str; 3] = ["to shared", "to private", "change_vtl_protections"];
+const RUNS: [&str; 6] = [
+    "one page",
+    "pages that fill no byte",
+    "bytes alone",
+    "bytes with pages before them",
+    "bytes with pages behind them",
+    "bytes with pages at both ends",
+];
+
+/// How the run from a page to a last one lies over bytes of eight pages.
+pub fn lies(first: u64, last: u64) -> &'static str {
+    let fills = last / 8 + u64::from(last % 8 == 7) > first.div_ceil(8);
+    let kind = match (first % 8 == 0, last % 8 == 7) {
+        _ if first == last => 0,
+        _ if !fills => 1,
+        (true, true) => 2,
+        (false, true) => 3,
+        (true, false) => 4,
+        (false, false) => 5,
+    };
+    RUNS[kind]
+}
+
 /// A run of so many calls of all parts fails if something that can arise wasn't met.
 pub const ENOUGH: u64 = 1_000_000;
 
@@ -182,8 +207,16 @@ impl Coverage {
             let buffers = buffers.filter(|name| met.is_none_or(|met| !met.contains_key(*name)));
             missing.extend(buffers.map(|name| format!("a wrong length of {name} at {call}")));
         }
-        let places = PLACES.iter().filter(|what| !self.met.contains_key(**what));
-        missing.extend(places.map(|what| what.to_string()));
+        let places = PLACES.iter().map(|what| what.to_string());
+        let runs = WRITERS.iter().flat_map(|call| {
+            let runs = RUNS.iter();
+            runs.map(move |run| format!("{call}: a run of {run}"))
+        });
+        missing.extend(
+            places
+                .chain(runs)
+                .filter(|what| !self.met.contains_key(what)),
+        );
         missing
     }
 

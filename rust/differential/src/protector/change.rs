@@ -89,22 +89,27 @@ impl List {
     }
 }
 
+/// The runs of ascending neighbours in list order, each by its first and last page.
+pub(super) fn spans(pages: &[u64]) -> Vec<(u64, u64)> {
+    let mut spans: Vec<(u64, u64)> = Vec::new();
+    for &page in pages {
+        match spans.last_mut() {
+            Some((_, last)) if last.checked_add(1) == Some(page) => *last = page,
+            _ => spans.push((page, page)),
+        }
+    }
+    spans
+}
+
 /// Pages in list order, ascending neighbours shortened.
 pub(super) fn runs(pages: &[u64]) -> String {
-    let mut texts = Vec::new();
-    let mut i = 0;
-    while i < pages.len() {
-        let mut last = i;
-        while last + 1 < pages.len() && pages[last].checked_add(1) == Some(pages[last + 1]) {
-            last += 1;
-        }
-        texts.push(match last == i {
-            true => pages[i].to_string(),
-            false => format!("{}-{}", pages[i], pages[last]),
+    let texts = spans(pages)
+        .into_iter()
+        .map(|(first, last)| match first == last {
+            true => first.to_string(),
+            false => format!("{first}-{last}"),
         });
-        i = last + 1;
-    }
-    texts.join(",")
+    texts.collect::<Vec<_>>().join(",")
 }
 
 fn word(number: u64, words: [&str; 2]) -> String {

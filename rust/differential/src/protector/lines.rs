@@ -5,6 +5,7 @@ use super::change::Failures;
 use super::change::List;
 use super::change::hex;
 use super::change::runs;
+use super::change::spans;
 use super::predict::Answer;
 use super::predict::Call;
 use super::predict::Given;
@@ -17,6 +18,8 @@ use super::predict::layout_refusal;
 use super::predict::numbers;
 use crate::case::Entry;
 use crate::coverage::Coverage;
+use crate::coverage::WRITERS;
+use crate::coverage::lies;
 use crate::layouts::is_across;
 use crate::layouts::on_both_sides;
 use crate::run::Difference;
@@ -724,6 +727,13 @@ impl Coverage {
                 self.meet_page(name, highest);
             }
             self.meet_edge(name, &pages);
+            let spans = match WRITERS.contains(&name) {
+                true => spans(&pages),
+                false => Vec::new(),
+            };
+            for (first, last) in spans {
+                self.meet(format!("{name}: a run of {}", lies(first, last)));
+            }
         }
         if let Change::Register { gpn, .. } | Change::Unregister { gpn, .. } = change {
             self.meet_page(change.name(), *gpn);
