@@ -9,8 +9,8 @@ trap 'rm -rf "$verdict" "$copy"' EXIT
 rt fmt --check
 # The entries in header, Rust, crates and theorem: read as text, in seconds.
 cargo test --offline --quiet --manifest-path rust/Cargo.toml -p boundary
-# More at a time than cores: the longest of a group then leaves no core idle.
-export RT_JOBS=${RT_JOBS:-4}
+# One more at a time than cores: the longest of a group then leaves no core idle. The prover keeps the memory that it frees.
+export RT_JOBS=${RT_JOBS:-3} MIMALLOC_PURGE_DELAY=${MIMALLOC_PURGE_DELAY:--1}
 rt ci | tee "$verdict"
 
 # One number changed in each of six recorded lines, those that are compared: the replay must see all six.

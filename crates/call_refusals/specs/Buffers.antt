@@ -30,7 +30,7 @@ pub record Buffers : Type 0 where
   pub tables : List ℕ
 
 abbrev pub buffers : Maps → List ℕ → List ℕ → List ℕ → Buffers
-buffers m s p t = record { maps = m; state = s; pages = p; tables = t }
+buffers maps state pages tables = record { maps = maps; state = state; pages = pages; tables = tables }
 
 -- what a call gives: all that is lent as it is then, and the reply
 pub record Outcome : Type 0 where
@@ -38,33 +38,33 @@ pub record Outcome : Type 0 where
   pub reply : Reply
 
 abbrev pub outcome : Maps → List ℕ → List ℕ → List ℕ → Reply → Outcome
-outcome m s p t r = record { buffers = buffers m s p t; reply = r }
+outcome maps state pages tables reply = record { buffers = buffers maps state pages tables; reply = reply }
 
 -- ---- the tables: overlays of VTL0 and VTL1, 641 words each, then locks of VTL0 and VTL1, 1,089 words each
 
 abbrev pub overlaysOf : List ℕ → GuestVtl → List ℕ
-overlaysOf t v = take overlaysLen (drop (overlaysLen * vtlNumber v) t)
+overlaysOf tables vtl = take overlaysLen (drop (overlaysLen * vtlNumber vtl) tables)
 
 abbrev pub locksOf : List ℕ → GuestVtl → List ℕ
-locksOf t v = take locksLen (drop (locksStart + locksLen * vtlNumber v) t)
+locksOf tables vtl = take locksLen (drop (locksStart + locksLen * vtlNumber vtl) tables)
 
 -- locked: in one of the lists, and not an overlay
 abbrev pub isLocked : List ℕ → List ℕ → ℕ → Bool
-isLocked overlays locks p = heldIn locks p && not (isOverlay overlays p)
+isLocked overlays locks gpn = heldIn locks gpn && not (isOverlay overlays gpn)
 
 -- ---- 4: the lengths of what is lent beside the state block, of a layout whose maps have len bytes
 
 abbrev pub lengthsFit : ℕ → Bool → Lengths → Bool
-lengthsFit len tracked l = mapsFit len tracked (l .maps) && (eqb (l .pages) pagesLen && eqb (l .tables) tablesLen)
+lengthsFit len tracked lengths = mapsFit len tracked (lengths .maps) && (eqb (lengths .pages) pagesLen && eqb (lengths .tables) tablesLen)
 
 abbrev pub fitsIn : List ℕ → Lengths → Bool
-fitsIn s l = lengthsFit (mapLen (entriesIn s)) (settingsOf s .tracked) l
+fitsIn state lengths = lengthsFit (mapLen (entriesIn state)) (settingsOf state .tracked) lengths
 
 abbrev pub lengthsIn : Buffers → Lengths
-lengthsIn w = record { maps = lengthsOf (w .maps); pages = length (w .pages); tables = length (w .tables) }
+lengthsIn lent = record { maps = lengthsOf (lent .maps); pages = length (lent .pages); tables = length (lent .tables) }
 
 abbrev pub fits : Buffers → Bool
-fits w = fitsIn (w .state) (lengthsIn w)
+fits lent = fitsIn (lent .state) (lengthsIn lent)
 
 -- ---- 20 where halted, 19 while an operation waits for its answer
 
@@ -84,7 +84,7 @@ statusOf ProtectDefault0 = refusal.busy
 statusOf ProtectDefault1 = refusal.busy
 
 abbrev pub statusIn : List ℕ → ℕ
-statusIn s = cond (isChanging s) refusal.busy (statusOf (phaseIn s))
+statusIn state = cond (isChanging state) refusal.busy (statusOf (phaseIn state))
 
 -- whether an answer is taken: not where halted (20), nor where nothing waits or what cannot fail is said to have failed (21)
 abbrev pub takes : Phase → Bool → Bool
@@ -115,4 +115,4 @@ takesAt stage.Flush failed = not failed
 takesAt stage.TlbWait failed = not failed
 
 abbrev pub takesIn : List ℕ → Bool → Bool
-takesIn s failed = cond (isChanging s) (takesAt (stageIn s) failed) (takes (phaseIn s) failed)
+takesIn state failed = cond (isChanging state) (takesAt (stageIn state) failed) (takes (phaseIn state) failed)

@@ -19,56 +19,56 @@ use Rattle.call_refusals.specs.Buffers.{overlaysOf, locksOf, isLocked, l
 -- ---- what every call but an answer tests first: 4 of the state block, 20 or 19, 4 of what else it is lent; then the call's own tests
 
 unfoldable pub ready : List ℕ → Bool → ℕ → ℕ
-ready s fit rest =
-    unless (eqb (length s) stateLen) refusal.wrongLength
-    (first (statusIn s)
+ready state fit rest =
+    unless (eqb (length state) stateLen) refusal.wrongLength
+    (first (statusIn state)
     (unless fit refusal.wrongLength
     rest))
 
 -- ---- a visibility change: each page in turn, 7 where it isn't RAM, 10 where it is locked, 11 where an overlay is to be shared
 
 abbrev pub pageRefusal : List MemoryRangeWithNode → List ℕ → List ℕ → Bool → ℕ → ℕ
-pageRefusal es overlays locks share p =
-    unless (isRam es p) refusal.notRam
-    (when (isLocked overlays locks p) refusal.locked
-    (when (share && isOverlay overlays p) refusal.overlay
+pageRefusal es overlays locks share gpn =
+    unless (isRam es gpn) refusal.notRam
+    (when (isLocked overlays locks gpn) refusal.locked
+    (when (share && isOverlay overlays gpn) refusal.overlay
     0))
 
 -- the number of the first page that is refused
 unfoldable pub firstRefusal : (ℕ → ℕ) → List ℕ → ℕ
 firstRefusal f [] = 0
-firstRefusal f (p ∷ ps) = first (f p) (firstRefusal f ps)
+firstRefusal f (gpn ∷ ps) = first (f gpn) (firstRefusal f ps)
 
 -- then 5, 6, 8; a visibility as it crosses: private 0, shared 1
 unfoldable pub visibilityRefusal : List ℕ → Bool → List ℕ → ℕ → ℕ → List ℕ → ℕ
-visibilityRefusal s fit tables vtl visibility l =
-    ready s fit
-    (when (isLong l) refusal.longList
-    (when (repeats (pagesOf l)) refusal.repeatedPage
+visibilityRefusal state fit tables vtl visibility list =
+    ready state fit
+    (when (isLong list) refusal.longList
+    (when (repeats (pagesOf list)) refusal.repeatedPage
     (unless (fitVtl vtl) refusal.unfitNumber
     (unless (fitBool visibility) refusal.unfitNumber
-    (when (isRagged l) refusal.unfitNumber
-    (firstRefusal (pageRefusal (entriesIn s) (overlaysOf tables (vtlOf vtl)) (locksOf tables (vtlOf vtl)) (boolOf visibility)) (pagesOf l)))))))
+    (when (isRagged list) refusal.unfitNumber
+    (firstRefusal (pageRefusal (entriesIn state) (overlaysOf tables (vtlOf vtl)) (locksOf tables (vtlOf vtl)) (boolOf visibility)) (pagesOf list)))))))
 
 -- ---- an answer passes 19: 4 of the state block, 20, 4 of what else is lent, 21
 
 unfoldable pub answerRefusal : List ℕ → Bool → Bool → ℕ
-answerRefusal s fit failed =
-    unless (eqb (length s) stateLen) refusal.wrongLength
-    (when (eqb (statusIn s) refusal.halted) refusal.halted
+answerRefusal state fit failed =
+    unless (eqb (length state) stateLen) refusal.wrongLength
+    (when (eqb (statusIn state) refusal.halted) refusal.halted
     (unless fit refusal.wrongLength
-    (unless (takesIn s failed) refusal.nothingAsked
+    (unless (takesIn state failed) refusal.nothingAsked
     0)))
 
 -- ---- a build: 1, 2, 3, 4, 8; where `tracked` is unfit no permission map has a length to be tested, and each counts as empty
 
 abbrev pub testedOf : ℕ → Lengths → Lengths
-testedOf tracked l =
-    cond (fitBool tracked) l
-    (record { maps = record { private = l .maps .private; shared = l .maps .shared; read = 0; write = 0; kernel = 0; user = 0 }; pages = l .pages; tables = l .tables })
+testedOf tracked lengths =
+    cond (fitBool tracked) lengths
+    (record { maps = record { private = lengths .maps .private; shared = lengths .maps .shared; read = 0; write = 0; kernel = 0; user = 0 }; pages = lengths .pages; tables = lengths .tables })
 
 abbrev pub buildFits : ℕ → ℕ → ℕ → Lengths → Bool
-buildFits len tracked state l = eqb state stateLen && lengthsFit len (boolOf tracked) (testedOf tracked l)
+buildFits len tracked state lengths = eqb state stateLen && lengthsFit len (boolOf tracked) (testedOf tracked lengths)
 
 unfoldable pub buildRefusal : List ℕ → ℕ → ℕ → ℕ → Bool → ℕ
 buildRefusal ram isolation tracked release fit =

@@ -23,40 +23,40 @@ pub record Kept : Type 0 where
   pub reply : Reply
 
 abbrev pub kept : List ℕ → Reply → Kept
-kept t r = record { tables = t; reply = r }
+kept tables reply = record { tables = tables; reply = reply }
 
 -- the call ends with a number, 0 where it is taken
 abbrev pub ended : List ℕ → ℕ → Kept
-ended t n = kept t (finished n (codeOf n) 0 0)
+ended tables number = kept tables (finished number (codeOf number) 0 0)
 
 -- ---- both calls: 20, 19, 4, 5, 8
 
 unfoldable pub lockRefusal : List ℕ → ℕ → ℕ → List ℕ → ℕ
-lockRefusal s tables vtl l =
-    ready s (eqb tables tablesLen)
-    (when (isLong l) refusal.longList
+lockRefusal state tables vtl list =
+    ready state (eqb tables tablesLen)
+    (when (isLong list) refusal.longList
     (unless (fitVtl vtl) refusal.unfitNumber
-    (when (isRagged l) refusal.unfitNumber
+    (when (isRagged list) refusal.unfitNumber
     0)))
 
 -- the tables with other locks of a VTL
 abbrev pub withLocks : List ℕ → GuestVtl → List ℕ → List ℕ
-withLocks t v locks = take (locksStart + locksLen * vtlNumber v) t ++ (locks ++ drop (locksStart + locksLen * vtlNumber v + locksLen) t)
+withLocks tables vtl locks = take (locksStart + locksLen * vtlNumber vtl) tables ++ (locks ++ drop (locksStart + locksLen * vtlNumber vtl + locksLen) tables)
 
 -- ---- lock_gpns: then 17
 
 abbrev pub lockTaken : List ℕ → GuestVtl → List ℕ → Kept
-lockTaken t v ps = ended (withLocks t v (lockWords (locksOf t v) ps)) (lockCode (locksOf t v) ps)
+lockTaken tables vtl ps = ended (withLocks tables vtl (lockWords (locksOf tables vtl) ps)) (lockCode (locksOf tables vtl) ps)
 
 unfoldable pub lockOf : List ℕ → List ℕ → ℕ → List ℕ → Kept
-lockOf s t vtl l =
-    cond (eqb (lockRefusal s (length t) vtl l) 0) (lockTaken t (vtlOf vtl) (pagesOf l)) (ended t (lockRefusal s (length t) vtl l))
+lockOf state tables vtl list =
+    cond (eqb (lockRefusal state (length tables) vtl list) 0) (lockTaken tables (vtlOf vtl) (pagesOf list)) (ended tables (lockRefusal state (length tables) vtl list))
 
 -- ---- unlock_gpns: then 18
 
 abbrev pub unlockTaken : List ℕ → GuestVtl → List ℕ → Kept
-unlockTaken t v ps = ended (withLocks t v (unlockWords (locksOf t v) ps)) (unlockCode (locksOf t v) ps)
+unlockTaken tables vtl ps = ended (withLocks tables vtl (unlockWords (locksOf tables vtl) ps)) (unlockCode (locksOf tables vtl) ps)
 
 unfoldable pub unlockOf : List ℕ → List ℕ → ℕ → List ℕ → Kept
-unlockOf s t vtl l =
-    cond (eqb (lockRefusal s (length t) vtl l) 0) (unlockTaken t (vtlOf vtl) (pagesOf l)) (ended t (lockRefusal s (length t) vtl l))
+unlockOf state tables vtl list =
+    cond (eqb (lockRefusal state (length tables) vtl list) 0) (unlockTaken tables (vtlOf vtl) (pagesOf list)) (ended tables (lockRefusal state (length tables) vtl list))

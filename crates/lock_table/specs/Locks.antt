@@ -84,76 +84,76 @@ used t = min limit.lockedLists (getD t 0 0)
 
 -- how many pages the first k lists have together
 abbrev pub endOf : List ℕ → ℕ → ℕ
-endOf t zero = 0
-endOf t (suc k) = min limit.lockedPages (getD t (suc k) 0)
+endOf table zero = 0
+endOf table (suc k) = min limit.lockedPages (getD table (suc k) 0)
 
 -- where their pages end and those of list k, from 0, begin
 abbrev pub placeOf : List ℕ → ℕ → ℕ
-placeOf t k = firstPage + endOf t k
+placeOf table k = firstPage + endOf table k
 
 abbrev pub listAt : List ℕ → ℕ → List ℕ
-listAt t k = part t (placeOf t (suc k)) (placeOf t k)
+listAt table k = part table (placeOf table (suc k)) (placeOf table k)
 
 -- n lists from list k on
 unfoldable pub listsFrom : List ℕ → ℕ → ℕ → List (List ℕ)
-listsFrom t zero k = []
-listsFrom t (suc n) k = listAt t k ∷ listsFrom t n (suc k)
+listsFrom table zero k = []
+listsFrom table (suc n) k = listAt table k ∷ listsFrom table n (suc k)
 
 abbrev pub listsOf : List ℕ → List (List ℕ)
-listsOf t = listsFrom t (used t) 0
+listsOf table = listsFrom table (used table) 0
 
 -- the place after the last locked page, and the pages before it
 abbrev pub pagesEnd : List ℕ → ℕ
-pagesEnd t = placeOf t (used t)
+pagesEnd table = placeOf table (used table)
 
 abbrev pub lockedPages : List ℕ → List ℕ
-lockedPages t = part t (pagesEnd t) firstPage
+lockedPages table = part table (pagesEnd table) firstPage
 
 abbrev pub heldIn : List ℕ → ℕ → Bool
-heldIn t p = among (lockedPages t) p
+heldIn table p = among (lockedPages table) p
 
 -- ---- lock: 17 where there is no room
 
 abbrev pub hasRoom : List ℕ → ℕ → Bool
-hasRoom t n = ltb (used t) limit.lockedLists && leb (endOf t (used t) + n) limit.lockedPages
+hasRoom table n = ltb (used table) limit.lockedLists && leb (endOf table (used table) + n) limit.lockedPages
 
 -- one list more: its pages, its end, and how many there are
 abbrev pub oneMore : List ℕ → List ℕ → List ℕ
-oneMore t l = set (set (sets t (pagesEnd t) l) (used t + 1) (endOf t (used t) + length l)) 0 (used t + 1)
+oneMore table l = set (set (sets table (pagesEnd table) l) (used table + 1) (endOf table (used table) + length l)) 0 (used table + 1)
 
 abbrev pub lockCode : List ℕ → List ℕ → ℕ
-lockCode t l = cond (hasRoom t (length l)) 0 refusal.full
+lockCode table l = cond (hasRoom table (length l)) 0 refusal.full
 
 abbrev pub lockWords : List ℕ → List ℕ → List ℕ
-lockWords t l = cond (hasRoom t (length l)) (oneMore t l) t
+lockWords table l = cond (hasRoom table (length l)) (oneMore table l) table
 
 -- ---- unlock: 18 where no list is equal
 
 -- of n lists from list k on the first that is equal: k + n where none is
 unfoldable pub equalFrom : List ℕ → ℕ → ℕ → List ℕ → ℕ
-equalFrom t zero k l = k
-equalFrom t (suc n) k l = cond (same (listAt t k) l) k (equalFrom t n (suc k) l)
+equalFrom table zero k l = k
+equalFrom table (suc n) k l = cond (same (listAt table k) l) k (equalFrom table n (suc k) l)
 
 -- of what stands from place e on, the words from place y to before place z come first
 abbrev pub lastTo : List ℕ → ℕ → ℕ → ℕ → List ℕ
-lastTo t e y z = swapped t e (max e y - e) (z - max e y)
+lastTo table e y z = swapped table e (max e y - e) (z - max e y)
 
 -- of c lists the pages of list i are gone, and those of the last stand in their place
 abbrev pub pagesGone : List ℕ → ℕ → ℕ → List ℕ
-pagesGone t c i = closedTo (lastTo t (placeOf t (suc i)) (placeOf t (c - 1)) (placeOf t c)) (placeOf t i) (endOf t (suc i) - endOf t i) (placeOf t c)
+pagesGone table c i = closedTo (lastTo table (placeOf table (suc i)) (placeOf table (c - 1)) (placeOf table c)) (placeOf table i) (endOf table (suc i) - endOf table i) (placeOf table c)
 
 -- the ends in n words from word k on, b pages less and d more
 unfoldable pub moved : List ℕ → ℕ → ℕ → ℕ → ℕ → List ℕ
-moved t zero k b d = t
-moved t (suc n) k b d = moved (set t k (min limit.lockedPages (getD t k 0) - b + d)) n (suc k) b d
+moved table zero k b d = table
+moved table (suc n) k b d = moved (set table k (min limit.lockedPages (getD table k 0) - b + d)) n (suc k) b d
 
 -- of c lists list i is gone, and the last stands in its place: so do their ends
 unfoldable pub without : List ℕ → ℕ → ℕ → List ℕ
-without t c i =
-    set (set (moved (pagesGone t c i) (c - suc i) (suc i) (endOf t (suc i)) (endOf t i + (endOf t c - endOf t (c - 1)))) c 0) 0 (c - 1)
+without table c i =
+    set (set (moved (pagesGone table c i) (c - suc i) (suc i) (endOf table (suc i)) (endOf table i + (endOf table c - endOf table (c - 1)))) c 0) 0 (c - 1)
 
 abbrev pub unlockCode : List ℕ → List ℕ → ℕ
-unlockCode t l = cond (kept (listsOf t) l) 0 refusal.notLocked
+unlockCode table l = cond (kept (listsOf table) l) 0 refusal.notLocked
 
 abbrev pub unlockWords : List ℕ → List ℕ → List ℕ
-unlockWords t l = cond (kept (listsOf t) l) (without t (used t) (equalFrom t (used t) 0 l)) t
+unlockWords table l = cond (kept (listsOf table) l) (without table (used table) (equalFrom table (used table) 0 l)) table

@@ -24,46 +24,46 @@ use Rattle.overlay_refusals.specs.Refusals.{callRefusal, unregisterRefusal, reg
 -- ---- is_overlay_page: 0 or 1
 
 abbrev pub isOverlayRefusal : List ℕ → List ℕ → ℕ → ℕ
-isOverlayRefusal s t vtl = callRefusal s (eqb (length t) tablesLen) vtl 0
+isOverlayRefusal state tables vtl = callRefusal state (eqb (length tables) tablesLen) vtl 0
 
 unfoldable pub isOverlayIn : List ℕ → List ℕ → ℕ → ℕ → Value
-isOverlayIn s t vtl p =
-    cond (eqb (isOverlayRefusal s t vtl) 0) (value 0 (digit (isOverlay (overlaysOf t (vtlOf vtl)) p)))
-    (value (isOverlayRefusal s t vtl) (codeOf (isOverlayRefusal s t vtl)))
+isOverlayIn state tables vtl gpn =
+    cond (eqb (isOverlayRefusal state tables vtl) 0) (value 0 (digit (isOverlay (overlaysOf tables (vtlOf vtl)) gpn)))
+    (value (isOverlayRefusal state tables vtl) (codeOf (isOverlayRefusal state tables vtl)))
 
 -- ---- the entry of a page: its first, zeros where it has none; the tables with another count there
 
 abbrev pub entryIn : List ℕ → GuestVtl → ℕ → OverlayPage
-entryIn t v p = entryAt (overlaysOf t v) (placeOf (overlaysOf t v) p)
+entryIn tables vtl gpn = entryAt (overlaysOf tables vtl) (placeOf (overlaysOf tables vtl) gpn)
 
 abbrev pub recounted : List ℕ → GuestVtl → ℕ → ℕ → List ℕ
-recounted t v p n = withOverlays t v (countWords (overlaysOf t v) (placeOf (overlaysOf t v) p) n)
+recounted tables vtl gpn count = withOverlays tables vtl (countWords (overlaysOf tables vtl) (placeOf (overlaysOf tables vtl) gpn) count)
 
 -- a count changed, with no operation
 abbrev pub counting : Buffers → GuestVtl → ℕ → ℕ → Outcome
-counting w v p n = outcome (w .maps) (w .state) (w .pages) (recounted (w .tables) v p n) (finished 0 0 0 0)
+counting buffers vtl gpn count = outcome (buffers .maps) (buffers .state) (buffers .pages) (recounted (buffers .tables) vtl gpn count) (finished 0 0 0 0)
 
 -- ---- unregister_overlay_page: a count above 1 is lowered, else the previous permissions are asked for
 
 unfoldable pub unregisterTaken : Buffers → GuestVtl → ℕ → Outcome
-unregisterTaken w v p =
-    cond (ltb 1 (entryIn (w .tables) v p .«ref_count»)) (counting w v p (entryIn (w .tables) v p .«ref_count» - 1))
-    (carriedChange w (w .pages) (startOld (settingsOf (w .state) .tracked) v p (entryIn (w .tables) v p .«previous_permissions») (entryIn (w .tables) v p .«gpn_source»)))
+unregisterTaken buffers vtl gpn =
+    cond (ltb 1 (entryIn (buffers .tables) vtl gpn .«ref_count»)) (counting buffers vtl gpn (entryIn (buffers .tables) vtl gpn .«ref_count» - 1))
+    (carriedChange buffers (buffers .pages) (startOld (settingsOf (buffers .state) .tracked) vtl gpn (entryIn (buffers .tables) vtl gpn .«previous_permissions») (entryIn (buffers .tables) vtl gpn .«gpn_source»)))
 
 unfoldable pub unregisterOf : Buffers → ℕ → ℕ → Outcome
-unregisterOf w vtl p = decided w (unregisterRefusal (w .state) (fits w) (w .tables) vtl p) (unregisterTaken w (vtlOf vtl) p)
+unregisterOf buffers vtl gpn = decided buffers (unregisterRefusal (buffers .state) (fits buffers) (buffers .tables) vtl gpn) (unregisterTaken buffers (vtlOf vtl) gpn)
 
 -- ---- register_overlay_page: a known page is counted once more; a new one is entered, after its new flags are asked for where they are given
 
 abbrev pub currentIn : Buffers → GuestVtl → ℕ → ℕ → HvMapGpaFlags
-currentIn w v p source = currentOf (w .state) (w .maps .permissions) v p source
+currentIn buffers vtl gpn source = currentOf (buffers .state) (buffers .maps .permissions) vtl gpn source
 
 unfoldable pub registerTaken : Buffers → GuestVtl → ℕ → ℕ → ℕ → Outcome
-registerTaken w v p source new =
-    cond (isOverlay (overlaysOf (w .tables) v) p) (counting w v p (entryIn (w .tables) v p .«ref_count» + 1))
-    (carriedChange w (w .pages) (startNew (settingsOf (w .state) .tracked) v p source (bitsOf (currentIn w v p source)) new))
+registerTaken buffers vtl gpn source new =
+    cond (isOverlay (overlaysOf (buffers .tables) vtl) gpn) (counting buffers vtl gpn (entryIn (buffers .tables) vtl gpn .«ref_count» + 1))
+    (carriedChange buffers (buffers .pages) (startNew (settingsOf (buffers .state) .tracked) vtl gpn source (bitsOf (currentIn buffers vtl gpn source)) new))
 
 unfoldable pub registerOf : Buffers → ℕ → ℕ → ℕ → ℕ → ℕ → Outcome
-registerOf w vtl p source checked new =
-    decided w (registerRefusal (w .state) (fits w) (w .maps .shared) (w .tables) (currentIn w (vtlOf vtl) p source) vtl p source checked new)
-    (registerTaken w (vtlOf vtl) p source new)
+registerOf buffers vtl gpn source checked new =
+    decided buffers (registerRefusal (buffers .state) (fits buffers) (buffers .maps .shared) (buffers .tables) (currentIn buffers (vtlOf vtl) gpn source) vtl gpn source checked new)
+    (registerTaken buffers (vtlOf vtl) gpn source new)

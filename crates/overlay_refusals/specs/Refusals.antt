@@ -30,15 +30,15 @@ looked n o = record { refusal = n; place = o }
 -- ---- what all of them test first: 4 of the state, 20, 19, 4 of what else is lent, 8 of the VTL
 
 unfoldable pub callRefusal : List ℕ → Bool → ℕ → ℕ → ℕ
-callRefusal s fit vtl rest =
-    ready s fit
+callRefusal state fit vtl rest =
+    ready state fit
     (unless (fitVtl vtl) refusal.unfitNumber
     rest)
 
 -- ---- unregister_overlay_page: 14
 
 unfoldable pub unregisterRefusal : List ℕ → Bool → List ℕ → ℕ → ℕ → ℕ
-unregisterRefusal s fit t vtl p = callRefusal s fit vtl (unless (isOverlay (overlaysOf t (vtlOf vtl)) p) refusal.noOverlay 0)
+unregisterRefusal state fit tables vtl gpn = callRefusal state fit vtl (unless (isOverlay (overlaysOf tables (vtlOf vtl)) gpn) refusal.noOverlay 0)
 
 -- ---- register_overlay_page: a source as it crosses, guest memory 0 and Dma 1; new flags, 16 where none are given
 
@@ -64,38 +64,38 @@ abbrev pub neededOf : ℕ → ℕ → ℕ
 neededOf checked new = cond (ltb new bits.noFlags) new checked
 
 unfoldable pub knownRefusal : OverlayPage → ℕ → ℕ → ℕ
-knownRefusal e checked new =
-    unless (within (flagsOf (e .«overlay_permissions»)) (flagsOf (neededOf checked new))) refusal.narrow
-    (unless (ltb (e .«ref_count») limit.refCount) refusal.full
+knownRefusal entry checked new =
+    unless (within (flagsOf (entry .«overlay_permissions»)) (flagsOf (neededOf checked new))) refusal.narrow
+    (unless (ltb (entry .«ref_count») limit.refCount) refusal.full
     0)
 
 -- a new page of guest memory: 7, 13 unless its current flags hold the checked, 12 where it is shared, 10, 17
 unfoldable pub guestRefusal : List MemoryRangeWithNode → List ℕ → List ℕ → List ℕ → ℕ → HvMapGpaFlags → ℕ → ℕ
-guestRefusal es shared overlays locks p current checked =
-    unless (isRam es p) refusal.notRam
+guestRefusal es shared overlays locks gpn current checked =
+    unless (isRam es gpn) refusal.notRam
     (unless (within current (flagsOf checked)) refusal.narrow
-    (when (bitAt 8 shared p) refusal.shared
-    (when (isLocked overlays locks p) refusal.locked
+    (when (bitAt 8 shared gpn) refusal.shared
+    (when (isLocked overlays locks gpn) refusal.locked
     (addCode overlays))))
 
 -- a new Dma page: 7 where it is RAM, 10, 17
 unfoldable pub dmaRefusal : List MemoryRangeWithNode → List ℕ → List ℕ → ℕ → ℕ
-dmaRefusal es overlays locks p =
-    when (isRam es p) refusal.notRam
-    (when (isLocked overlays locks p) refusal.locked
+dmaRefusal es overlays locks gpn =
+    when (isRam es gpn) refusal.notRam
+    (when (isLocked overlays locks gpn) refusal.locked
     (addCode overlays))
 
 unfoldable pub pageRefusal : List MemoryRangeWithNode → List ℕ → List ℕ → List ℕ → ℕ → ℕ → HvMapGpaFlags → ℕ → ℕ → ℕ
-pageRefusal es shared overlays locks p source current checked new =
-    cond (isOverlay overlays p) (knownRefusal (entryAt overlays (placeOf overlays p)) checked new)
-    (cond (boolOf source) (dmaRefusal es overlays locks p) (guestRefusal es shared overlays locks p current checked))
+pageRefusal es shared overlays locks gpn source current checked new =
+    cond (isOverlay overlays gpn) (knownRefusal (entryAt overlays (placeOf overlays gpn)) checked new)
+    (cond (boolOf source) (dmaRefusal es overlays locks gpn) (guestRefusal es shared overlays locks gpn current checked))
 
 unfoldable pub registerRefusal : List ℕ → Bool → List ℕ → List ℕ → HvMapGpaFlags → ℕ → ℕ → ℕ → ℕ → ℕ → ℕ
-registerRefusal s fit shared t current vtl p source checked new =
-    callRefusal s fit vtl
+registerRefusal state fit shared tables current vtl gpn source checked new =
+    callRefusal state fit vtl
     (flagsRefusal source checked new
-    (pageRefusal (entriesIn s) shared (overlaysOf t (vtlOf vtl)) (locksOf t (vtlOf vtl)) p source current checked new))
+    (pageRefusal (entriesIn state) shared (overlaysOf tables (vtlOf vtl)) (locksOf tables (vtlOf vtl)) gpn source current checked new))
 
 -- the flags that a page has: a Dma page none, guest memory those of the VTL
 unfoldable pub currentOf : List ℕ → Permissions → GuestVtl → ℕ → ℕ → HvMapGpaFlags
-currentOf s m v p source = cond (boolOf source) noFlags (lowerFlags m (settingsOf s .tracked) v p)
+currentOf state maps vtl gpn source = cond (boolOf source) noFlags (lowerFlags maps (settingsOf state .tracked) vtl gpn)

@@ -15,25 +15,25 @@ use Rattle.overlay_table.specs.declared.OverlayPage.{OverlayPage}
 -- ---- entries, in order of registration
 
 unfoldable pub knows : List OverlayPage → ℕ → Bool
-knows [] p = false
-knows (e ∷ es) p = eqb p (e .gpn) || knows es p
+knows [] gpn = false
+knows (e ∷ es) gpn = eqb gpn (e .gpn) || knows es gpn
 
 abbrev pub entry : ℕ → ℕ → ℕ → ℕ → ℕ → OverlayPage
-entry p previous own n source = record { gpn = p; «previous_permissions» = previous; «overlay_permissions» = own; «ref_count» = n; «gpn_source» = source }
+entry gpn previous own n source = record { gpn = gpn; «previous_permissions» = previous; «overlay_permissions» = own; «ref_count» = n; «gpn_source» = source }
 
 -- the first entry of a page: zeros where there is none
 unfoldable pub entryOf : List OverlayPage → ℕ → OverlayPage
-entryOf [] p = entry 0 0 0 0 0
-entryOf (e ∷ es) p = cond (eqb p (e .gpn)) e (entryOf es p)
+entryOf [] gpn = entry 0 0 0 0 0
+entryOf (e ∷ es) gpn = cond (eqb gpn (e .gpn)) e (entryOf es gpn)
 
 -- it is changed, or gone
 unfoldable pub changed : (OverlayPage → OverlayPage) → List OverlayPage → ℕ → List OverlayPage
-changed f [] p = []
-changed f (e ∷ es) p = cond (eqb p (e .gpn)) (f e ∷ es) (e ∷ changed f es p)
+changed f [] gpn = []
+changed f (e ∷ es) gpn = cond (eqb gpn (e .gpn)) (f e ∷ es) (e ∷ changed f es gpn)
 
 unfoldable pub dropFirst : List OverlayPage → ℕ → List OverlayPage
-dropFirst [] p = []
-dropFirst (e ∷ es) p = cond (eqb p (e .gpn)) es (e ∷ dropFirst es p)
+dropFirst [] gpn = []
+dropFirst (e ∷ es) gpn = cond (eqb gpn (e .gpn)) es (e ∷ dropFirst es gpn)
 
 abbrev pub withPrevious : ℕ → OverlayPage → OverlayPage
 withPrevious v e = entry (e .gpn) v (e .«overlay_permissions») (e .«ref_count») (e .«gpn_source»)
@@ -60,31 +60,31 @@ used t = min limit.overlays (getD t 0 0)
 
 -- of k entries from place o on, where the first of a page stands: 0 where none does
 unfoldable pub placeFrom : List ℕ → ℕ → ℕ → ℕ → ℕ
-placeFrom t zero o p = 0
-placeFrom t (suc k) o p = cond (eqb p (getD t o 0)) o (placeFrom t k (o + overlay.words) p)
+placeFrom table zero place gpn = 0
+placeFrom table (suc k) place gpn = cond (eqb gpn (getD table place 0)) place (placeFrom table k (place + overlay.words) gpn)
 
 abbrev pub placeOf : List ℕ → ℕ → ℕ
-placeOf t p = placeFrom t (used t) 1 p
+placeOf table gpn = placeFrom table (used table) 1 gpn
 
 abbrev pub isOverlay : List ℕ → ℕ → Bool
-isOverlay t p = not (eqb (placeOf t p) 0)
+isOverlay table gpn = not (eqb (placeOf table gpn) 0)
 
 abbrev pub entryAt : List ℕ → ℕ → OverlayPage
-entryAt t o = entry (getD t o 0) (getD t (o + overlay.previous) 0) (getD t (o + overlay.own) 0) (getD t (o + overlay.count) 0) (getD t (o + overlay.source) 0)
+entryAt table place = entry (getD table place 0) (getD table (place + overlay.previous) 0) (getD table (place + overlay.own) 0) (getD table (place + overlay.count) 0) (getD table (place + overlay.source) 0)
 
 -- 17 where 128 are there
 abbrev pub addCode : List ℕ → ℕ
-addCode t = cond (ltb (used t) limit.overlays) 0 refusal.full
+addCode table = cond (ltb (used table) limit.overlays) 0 refusal.full
 
 abbrev pub addWords : List ℕ → OverlayPage → List ℕ
-addWords t e = cond (ltb (used t) limit.overlays) (set (sets t (1 + overlay.words * used t) (wordsOf e)) 0 (used t + 1)) t
+addWords table e = cond (ltb (used table) limit.overlays) (set (sets table (1 + overlay.words * used table) (wordsOf e)) 0 (used table + 1)) table
 
 abbrev pub previousWords : List ℕ → ℕ → ℕ → List ℕ
-previousWords t o v = set t (o + overlay.previous) v
+previousWords table place v = set table (place + overlay.previous) v
 
 abbrev pub countWords : List ℕ → ℕ → ℕ → List ℕ
-countWords t o n = set t (o + overlay.count) n
+countWords table place n = set table (place + overlay.count) n
 
 -- the entries after it close the gap
 abbrev pub removeWords : List ℕ → ℕ → List ℕ
-removeWords t o = set (closedTo t o overlay.words (1 + overlay.words * used t)) 0 (used t - 1)
+removeWords table place = set (closedTo table place overlay.words (1 + overlay.words * used table)) 0 (used table - 1)

@@ -35,38 +35,38 @@ defaultRefusal state fit vtl flags =
 
 -- the default is stored before locks are looked at ("Defaults"): that of VTL1 stands behind that of VTL0
 abbrev pub storedDefault : List ℕ → GuestVtl → ℕ → List ℕ
-storedDefault state v flags = set state (place.default0 + vtlNumber v) flags
+storedDefault state vtl flags = set state (place.default0 + vtlNumber vtl) flags
 
 abbrev pub stored : Buffers → GuestVtl → ℕ → Buffers
-stored w v flags = buffers (w .maps) (storedDefault (w .state) v flags) (w .pages) (w .tables)
+stored lent vtl flags = buffers (lent .maps) (storedDefault (lent .state) vtl flags) (lent .pages) (lent .tables)
 
 -- 10: a private RAM page without an overlay is locked, in the target VTL
 abbrev pub barred : List ℕ → List ℕ → List ℕ → GuestVtl → Bool
-barred private state tables v = barring.barred private (overlaysOf tables v) (locksOf tables v) (entriesIn state)
+barred private state tables vtl = barring.barred private (overlaysOf tables vtl) (locksOf tables vtl) (entriesIn state)
 
 -- the target VTL's overlays on private RAM pages get the new previous permissions, before the first Protect
 abbrev pub renewedTables : List ℕ → List ℕ → List ℕ → GuestVtl → ℕ → List ℕ
-renewedTables private state tables v flags = withOverlays tables v (renewed private (entriesIn state) flags (overlaysOf tables v))
+renewedTables private state tables vtl flags = withOverlays tables vtl (renewed private (entriesIn state) flags (overlaysOf tables vtl))
 
 abbrev pub renewedIn : Buffers → GuestVtl → ℕ → Buffers
-renewedIn w v flags = buffers (w .maps) (w .state) (w .pages) (renewedTables (w .maps .private) (w .state) (w .tables) v flags)
+renewedIn lent vtl flags = buffers (lent .maps) (lent .state) (lent .pages) (renewedTables (lent .maps .private) (lent .state) (lent .tables) vtl flags)
 
 -- the first piece is looked for from page 0 on
 abbrev pub firstPiece : List ℕ → List ℕ → List ℕ → GuestVtl → PageRun
-firstPiece private state tables v = nextPiece private (overlaysOf tables v) (entriesIn state) 0
+firstPiece private state tables vtl = nextPiece private (overlaysOf tables vtl) (entriesIn state) 0
 
 abbrev pub defaultStep : List ℕ → List ℕ → List ℕ → GuestVtl → ℕ → ChangeStep
-defaultStep private state tables v flags = changes.startRam (settingsOf state .tracked) v flags (firstPiece private state tables v)
+defaultStep private state tables vtl flags = changes.startRam (settingsOf state .tracked) vtl flags (firstPiece private state tables vtl)
 
 unfoldable pub defaultStarted : Buffers → GuestVtl → ℕ → Outcome
-defaultStarted w v flags = carriedChange w (w .pages) (defaultStep (w .maps .private) (w .state) (w .tables) v flags)
+defaultStarted lent vtl flags = carriedChange lent (lent .pages) (defaultStep (lent .maps .private) (lent .state) (lent .tables) vtl flags)
 
 -- once the default is stored: a refusal by 10 leaves it
 unfoldable pub defaultTaken : Buffers → GuestVtl → ℕ → Outcome
-defaultTaken w v flags = cond (barred (w .maps .private) (w .state) (w .tables) v) (refusedBy w refusal.locked) (defaultStarted (renewedIn w v flags) v flags)
+defaultTaken lent vtl flags = cond (barred (lent .maps .private) (lent .state) (lent .tables) vtl) (refusedBy lent refusal.locked) (defaultStarted (renewedIn lent vtl flags) vtl flags)
 
 unfoldable pub defaultOf : Buffers → ℕ → ℕ → Outcome
-defaultOf w vtl flags = decided w (defaultRefusal (w .state) (fits w) vtl flags) (defaultTaken (stored w (vtlOf vtl) flags) (vtlOf vtl) flags)
+defaultOf lent vtl flags = decided lent (defaultRefusal (lent .state) (fits lent) vtl flags) (defaultTaken (stored lent (vtlOf vtl) flags) (vtlOf vtl) flags)
 
 -- ---- a protection change: 4, 20, 19, 4, 5, 8; each page in turn, 7, 10 and 11 as of a page to be shared; then 12 where any page is shared
 
@@ -74,33 +74,33 @@ abbrev pub anyShared : List ℕ → List ℕ → Bool
 anyShared shared ps = barring.anyOf (bitAt 8 shared) ps
 
 abbrev pub eachRefusal : List ℕ → List ℕ → GuestVtl → List ℕ → ℕ
-eachRefusal state tables v l = firstRefusal (pageRefusal (entriesIn state) (overlaysOf tables v) (locksOf tables v) true) (pagesOf l)
+eachRefusal state tables vtl list = firstRefusal (pageRefusal (entriesIn state) (overlaysOf tables vtl) (locksOf tables vtl) true) (pagesOf list)
 
 abbrev pub pagesRefusal : List ℕ → List ℕ → List ℕ → GuestVtl → List ℕ → ℕ
-pagesRefusal state shared tables v l =
-    first (eachRefusal state tables v l)
-    (when (anyShared shared (pagesOf l)) refusal.shared
+pagesRefusal state shared tables vtl list =
+    first (eachRefusal state tables vtl list)
+    (when (anyShared shared (pagesOf list)) refusal.shared
     0)
 
 unfoldable pub protectionRefusal : List ℕ → Bool → List ℕ → List ℕ → ℕ → ℕ → List ℕ → ℕ
-protectionRefusal state fit shared tables vtl flags l =
+protectionRefusal state fit shared tables vtl flags list =
     ready state fit
-    (when (isLong l) refusal.longList
+    (when (isLong list) refusal.longList
     (unless (fitVtl vtl) refusal.unfitNumber
     (unless (fitFlags flags) refusal.unfitNumber
-    (when (isRagged l) refusal.unfitNumber
-    (pagesRefusal state shared tables (vtlOf vtl) l)))))
+    (when (isRagged list) refusal.unfitNumber
+    (pagesRefusal state shared tables (vtlOf vtl) list)))))
 
 -- all listed pages with their places, in list order
 abbrev pub allListed : List ℕ → List ℕ → List ℕ
-allListed l pages = tableOf (λ p. true) (pagesOf l) pages
+allListed list pages = tableOf (λ p. true) (pagesOf list) pages
 
 abbrev pub protectionStep : List ℕ → List ℕ → GuestVtl → ℕ → ℕ → ChangeStep
-protectionStep state pages v flags n = changes.startPages (settingsOf state .tracked) v flags n pages
+protectionStep state pages vtl flags count = changes.startPages (settingsOf state .tracked) vtl flags count pages
 
 unfoldable pub protectionTaken : Buffers → GuestVtl → ℕ → List ℕ → Outcome
-protectionTaken w v flags l = carriedChange w (allListed l (w .pages)) (protectionStep (w .state) (allListed l (w .pages)) v flags (length (pagesOf l)))
+protectionTaken lent vtl flags list = carriedChange lent (allListed list (lent .pages)) (protectionStep (lent .state) (allListed list (lent .pages)) vtl flags (length (pagesOf list)))
 
 unfoldable pub protectionOf : Buffers → ℕ → ℕ → List ℕ → Outcome
-protectionOf w vtl flags l =
-    decided w (protectionRefusal (w .state) (fits w) (w .maps .shared) (w .tables) vtl flags l) (protectionTaken w (vtlOf vtl) flags l)
+protectionOf lent vtl flags list =
+    decided lent (protectionRefusal (lent .state) (fits lent) (lent .maps .shared) (lent .tables) vtl flags list) (protectionTaken lent (vtlOf vtl) flags list)

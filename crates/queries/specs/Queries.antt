@@ -29,15 +29,15 @@ use Rattle.protector_state.specs.declared.Value.{Value}
 -- ---- query_host_visibility: 20, 19, 4, 5, 8, then 7 at its own index
 
 unfoldable pub queryRefusal : List ℕ → ℕ → List ℕ → ℕ
-queryRefusal s shared l =
-    ready s (eqb shared (mapLen (entriesIn s)))
-    (when (isLong l) refusal.longList
-    (when (isRagged l) refusal.unfitNumber
+queryRefusal state shared list =
+    ready state (eqb shared (mapLen (entriesIn state)))
+    (when (isLong list) refusal.longList
+    (when (isRagged list) refusal.unfitNumber
     0))
 
 -- how many of the pages come before the first that isn't RAM
 abbrev pub ramBefore : List ℕ → List ℕ → ℕ
-ramBefore s l = stopAt (isRam (entriesIn s)) (pagesOf l)
+ramBefore state list = stopAt (isRam (entriesIn state)) (pagesOf list)
 
 -- a byte for each page: whether it is marked shared; written as far as the output goes
 unfoldable pub visibilities : List ℕ → List ℕ → List ℕ
@@ -55,18 +55,18 @@ pub record Query : Type 0 where
   pub reply : Reply
 
 abbrev pub query : List ℕ → Reply → Query
-query out r = record { out = out; reply = r }
+query out reply = record { out = out; reply = reply }
 
 -- the pages are RAM, or the first that isn't gives 7
 abbrev pub queryTaken : List ℕ → List ℕ → List ℕ → List ℕ → Query
-queryTaken s shared l out =
-    cond (ltb (ramBefore s l) (length (pagesOf l))) (query out (finished refusal.notRam (codeOf refusal.notRam) (ramBefore s l) 0))
-    (query (filledBy (visibilities shared (pagesOf l)) out) (finished 0 0 0 0))
+queryTaken state shared list out =
+    cond (ltb (ramBefore state list) (length (pagesOf list))) (query out (finished refusal.notRam (codeOf refusal.notRam) (ramBefore state list) 0))
+    (query (filledBy (visibilities shared (pagesOf list)) out) (finished 0 0 0 0))
 
 unfoldable pub queryOf : List ℕ → List ℕ → List ℕ → List ℕ → Query
-queryOf s shared l out =
-    cond (eqb (queryRefusal s (length shared) l) 0) (queryTaken s shared l out)
-    (query out (finished (queryRefusal s (length shared) l) (codeOf (queryRefusal s (length shared) l)) 0 0))
+queryOf state shared list out =
+    cond (eqb (queryRefusal state (length shared) list) 0) (queryTaken state shared list out)
+    (query out (finished (queryRefusal state (length shared) list) (codeOf (queryRefusal state (length shared) list)) 0 0))
 
 -- ---- faults and permissions: 4 for a state block of another length, else as the maps have it
 
@@ -77,16 +77,16 @@ abbrev pub permissionsValueOf : PermissionsAnswer → Value
 permissionsValueOf a = value (permissionsNumber a) (permissionsValue a)
 
 unfoldable pub faultIn : List ℕ → Maps → ℕ → ℕ → ℕ → ℕ → ℕ → Value
-faultIn s m mapping view address write failure =
+faultIn state maps mapping view address write failure =
     faultValueOf
-    (cond (eqb (length s) stateLen) (pageFault (entriesIn s) m (settingsOf s .tracked) mapping view address write failure)
+    (cond (eqb (length state) stateLen) (pageFault (entriesIn state) maps (settingsOf state .tracked) mapping view address write failure)
     (fault.Refused refusal.wrongLength))
 
 unfoldable pub lowerIn : List ℕ → Maps → ℕ → ℕ → Value
-lowerIn s m vtl gpn =
+lowerIn state maps vtl gpn =
     permissionsValueOf
-    (cond (eqb (length s) stateLen) (lowerVtlPermissions (entriesIn s) m (settingsOf s .tracked) vtl gpn) (permissions.Refused refusal.wrongLength))
+    (cond (eqb (length state) stateLen) (lowerVtlPermissions (entriesIn state) maps (settingsOf state .tracked) vtl gpn) (permissions.Refused refusal.wrongLength))
 
 unfoldable pub accessIn : List ℕ → Maps → ℕ → Value
-accessIn s m gpn =
-    permissionsValueOf (cond (eqb (length s) stateLen) (accessPermission (entriesIn s) m (settingsOf s .tracked) gpn) (permissions.Refused refusal.wrongLength))
+accessIn state maps gpn =
+    permissionsValueOf (cond (eqb (length state) stateLen) (accessPermission (entriesIn state) maps (settingsOf state .tracked) gpn) (permissions.Refused refusal.wrongLength))

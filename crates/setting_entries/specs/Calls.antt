@@ -22,12 +22,12 @@ use Rattle.protector_state.specs.Reply.{value}
 -- ---- all three: 4 of the state block, 20 or 19
 
 abbrev pub stateRefusal : List ℕ → ℕ
-stateRefusal s = ready s true 0
+stateRefusal state = ready state true 0
 
 -- ---- the setter: then 24 where permissions aren't tracked
 
 unfoldable pub enableRefusal : List ℕ → ℕ
-enableRefusal s = ready s true (unless (settingsOf s .tracked) refusal.untracked 0)
+enableRefusal state = ready state true (unless (settingsOf state .tracked) refusal.untracked 0)
 
 -- what it gives: the state block, and the reply
 pub record Enabled : Type 0 where
@@ -35,21 +35,21 @@ pub record Enabled : Type 0 where
   pub reply : Reply
 
 abbrev pub enabled : List ℕ → Reply → Enabled
-enabled s r = record { state = s; reply = r }
+enabled state reply = record { state = state; reply = reply }
 
 unfoldable pub enableOf : List ℕ → Enabled
-enableOf s =
-    cond (eqb (enableRefusal s) 0) (enabled (set s place.enabled 1) (finished 0 0 0 0))
-    (enabled s (finished (enableRefusal s) (codeOf (enableRefusal s)) 0 0))
+enableOf state =
+    cond (eqb (enableRefusal state) 0) (enabled (set state place.enabled 1) (finished 0 0 0 0))
+    (enabled state (finished (enableRefusal state) (codeOf (enableRefusal state)) 0 0))
 
 -- the settings then
 abbrev pub enabling : Settings → Settings
-enabling x = record { isolation = x .isolation; tracked = x .tracked; release = x .release; enabled = true; defaults = x .defaults }
+enabling settings = record { isolation = settings .isolation; tracked = settings .tracked; release = settings .release; enabled = true; defaults = settings .defaults }
 
 -- ---- the getters
 
 unfoldable pub enabledIn : List ℕ → Value
-enabledIn s = cond (eqb (stateRefusal s) 0) (value 0 (digit (settingsOf s .enabled))) (value (stateRefusal s) (codeOf (stateRefusal s)))
+enabledIn state = cond (eqb (stateRefusal state) 0) (value 0 (digit (settingsOf state .enabled))) (value (stateRefusal state) (codeOf (stateRefusal state)))
 
 unfoldable pub defaultIn : List ℕ → Value
-defaultIn s = cond (eqb (stateRefusal s) 0) (value 0 (bitsOf (settingsOf s .defaults .vtl0))) (value (stateRefusal s) (codeOf (stateRefusal s)))
+defaultIn state = cond (eqb (stateRefusal state) 0) (value 0 (bitsOf (settingsOf state .defaults .vtl0))) (value (stateRefusal state) (codeOf (stateRefusal state)))

@@ -99,6 +99,7 @@ locks =
       any-page = refl;
       vtl-2 = refl;
       over = refl;
+      past-64 = refl;
     }
 
 pub queries : Queries

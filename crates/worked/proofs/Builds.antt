@@ -24,6 +24,7 @@ builds =
       tells-default = refl;
       P6-refused = refl;
       P6-taken = refl;
+      isolation-0 = refl;
       isolation-1 = refl;
       isolation-3 = refl;
       isolation-4 = refl;

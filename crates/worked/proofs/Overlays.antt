@@ -109,4 +109,5 @@ known-overlays =
       other-vtl = refl;
       tells = refl;
       tells-other = refl;
+      past-128 = refl;
     }

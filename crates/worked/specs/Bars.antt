@@ -137,6 +137,8 @@ pub record Locks : Type 0 where
   pub any-page : lockOf state noTables 0 (page 16 (page 16 (0 ∷ 0 ∷ 0 ∷ 0 ∷ 0 ∷ 0 ∷ 16 ∷ 0 ∷ []))) ≡ kept (tables [] [] (lockTable 1 (3 ∷ []) (16 ∷ 16 ∷ 4503599627370496 ∷ [])) []) (ok 0)
   pub vtl-2 : lockOf state noTables 2 (page 1 []) ≡ kept noTables (refused 8 0)
   pub over : lockOf state noTables 0 (page 1 (1 ∷ [])) ≡ kept noTables (refused 8 0)
+  -- a first word above 64 counts as 64
+  pub past-64 : lockOf state (tables [] [] [] (lockTable 65 (1 ∷ []) (1 ∷ []))) 1 (page 2 []) ≡ kept (tables [] [] [] (lockTable 65 (1 ∷ []) (1 ∷ []))) (refused 17 0)
 
 -- ---- the visibility query: 0 private, 1 shared; page 3 is shared
 

@@ -47,6 +47,7 @@ pub record Builds : Type 0 where
   pub P6-refused : buildOf eight (0 ∷ 28672 ∷ 0 ∷ []) 2 1 0 ≡ keeps eight (refused 2 0)
   pub P6-taken : told eight (0 ∷ 32768 ∷ 0 ∷ []) 2 1 0 ≡ ok 0
   -- SNP 2, TDX 3, CCA 4 and no other
+  pub isolation-0 : told unbuilt ram 0 1 0 ≡ refused 3 0
   pub isolation-1 : told unbuilt ram 1 1 0 ≡ refused 3 0
   pub isolation-3 : told unbuilt ram 3 1 0 ≡ ok 0
   pub isolation-4 : told unbuilt ram 4 1 0 ≡ ok 0

@@ -123,3 +123,5 @@ pub record KnownOverlays : Type 0 where
   pub other-vtl : unregisterOf (counted 1) 1 5 ≡ keeps (counted 1) (refused 14 8)
   pub tells : isOverlayIn (counted 1 .state) (counted 1 .tables) 0 5 ≡ value 0 1
   pub tells-other : isOverlayIn (counted 1 .state) (counted 1 .tables) 1 5 ≡ value 0 0
+  -- a first word above 128 counts as 128
+  pub past-128 : isOverlayIn (counted 1 .state) (in0 (129 ∷ 5 ∷ 15 ∷ 5 ∷ 1 ∷ 0 ∷ [])) 0 5 ≡ value 0 1

@@ -53,7 +53,7 @@ use denote.Triple.Walked.{says, needs, Stays, stay-none, stay-none-slice, walkOf
 use denote.Triple.Clauses.{ensured, lasts}
 use denote.Exit.{yes}
 use Rattle.overlay_table.specs.Search.{isOf, none, findFrom}
-use Rattle.overlay_table.specs.Steps.{seen, past, none-left}
+use Rattle.overlay_table.proofs.Steps.{seen, past, none-left}
 use Rattle.overlay_table.specs.declared.OverlayKey.{OverlayKey}
 use Rattle.overlay_table.specs.declared.Found.{Found}
 use Rattle.overlay_table.specs.declared.Found.the-variants.{At, Nothing}
