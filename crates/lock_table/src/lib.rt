@@ -17,45 +17,45 @@ use abi::refusal;
 pub const FIRST_PAGE: u64 = 65;
 
 // How many lists are in use.
-fn list_count(t: &[u64]) -> u64
-    ensures { λ r. ⌜ r ≡ used (now (t .entry)) ⌝ }
+fn list_count(table: &[u64]) -> u64
+    ensures { λ r. ⌜ r ≡ used (now (table .entry)) ⌝ }
 {
-    numbers::min(limit::LOCKED_LISTS, numbers::word_at(t, 0))
+    numbers::min(limit::LOCKED_LISTS, numbers::word_at(table, 0))
 }
 
 // How many pages the first k lists have together, k not 0.
-fn end_at(t: &[u64], k: u64) -> u64
-    ensures { λ r. ⌜ r ≡ min limit.lockedPages (getD (now (t .entry)) k 0) ⌝ }
+fn end_at(table: &[u64], k: u64) -> u64
+    ensures { λ r. ⌜ r ≡ min limit.lockedPages (getD (now (table .entry)) k 0) ⌝ }
 {
-    numbers::min(limit::LOCKED_PAGES, numbers::word_at(t, k))
+    numbers::min(limit::LOCKED_PAGES, numbers::word_at(table, k))
 }
 
 // The same of any k.
-fn end_of(t: &[u64], k: u64) -> u64
-    ensures { λ r. ⌜ r ≡ endOf (now (t .entry)) k ⌝ }
+fn end_of(table: &[u64], k: u64) -> u64
+    ensures { λ r. ⌜ r ≡ endOf (now (table .entry)) k ⌝ }
     ensures { λ r. ⌜ r ≤ limit.lockedPages ⌝ }
 {
     if k == 0 {
         return 0;
     }
-    end_at(t, k)
+    end_at(table, k)
 }
 
 // The place after the last locked page.
-pub fn pages_end(t: &[u64]) -> u64
-    ensures { λ r. ⌜ r ≡ pagesEnd (now (t .entry)) ⌝ }
+pub fn pages_end(table: &[u64]) -> u64
+    ensures { λ r. ⌜ r ≡ pagesEnd (now (table .entry)) ⌝ }
 {
-    FIRST_PAGE + end_of(t, list_count(t))
+    FIRST_PAGE + end_of(table, list_count(table))
 }
 
 // Whether a page stands at the places from `from` to before `to`.
-fn is_among(t: &[u64], from: u64, to: u64, gpn: u64) -> bool
-    ensures { λ r. ⌜ r ≡ among (part (now (t .entry)) to from) gpn ⌝ }
+fn is_among(table: &[u64], from: u64, to: u64, gpn: u64) -> bool
+    ensures { λ r. ⌜ r ≡ among (part (now (table .entry)) to from) gpn ⌝ }
 {
-    let end = numbers::min(to, t.len() as u64);
+    let end = numbers::min(to, table.len() as u64);
     let mut i = from;
     while i < end {
-        let p = numbers::word_at(t, i);
+        let p = numbers::word_at(table, i);
         if gpn == p {
             return true;
         }
@@ -65,10 +65,10 @@ fn is_among(t: &[u64], from: u64, to: u64, gpn: u64) -> bool
 }
 
 // Whether some list holds a page.
-pub fn holds(t: &[u64], gpn: u64) -> bool
-    ensures { λ r. ⌜ r ≡ heldIn (now (t .entry)) gpn ⌝ }
+pub fn holds(table: &[u64], gpn: u64) -> bool
+    ensures { λ r. ⌜ r ≡ heldIn (now (table .entry)) gpn ⌝ }
 {
-    is_among(t, FIRST_PAGE, pages_end(t), gpn)
+    is_among(table, FIRST_PAGE, pages_end(table), gpn)
 }
 
 // Whether n pages have room beside c lists with `sum` pages.
@@ -85,47 +85,47 @@ fn has_room(c: u64, sum: u64, n: u64) -> bool
 }
 
 // The pages of a list, written from a place on.
-fn put_pages(t: &mut [u64], place: u64, list: &[u8])
-    ensures { λ _. ⌜ now (t .exit) ≡ sets (now (t .entry)) place (pagesOf (now (list .entry))) ⌝ }
+fn put_pages(table: &mut [u64], place: u64, list: &[u8])
+    ensures { λ _. ⌜ now (table .exit) ≡ sets (now (table .entry)) place (pagesOf (now (list .entry))) ⌝ }
 {
     let n = page_list::page_count(list);
     let mut i: u64 = 0;
     while i < n {
         let p = page_list::page_at(list, i);
-        words::put_after(t, place, i, p);
+        words::put_after(table, place, i, p);
         i += 1;
     }
 }
 
 // A list is kept: 0, or 17 where there is no room.
-pub fn lock(t: &mut [u64], list: &[u8]) -> u64
-    ensures { λ r. ⌜ (r ≡ lockCode (now (t .entry)) (pagesOf (now (list .entry)))) × (now (t .exit) ≡ lockWords (now (t .entry)) (pagesOf (now (list .entry)))) ⌝ }
+pub fn lock(table: &mut [u64], list: &[u8]) -> u64
+    ensures { λ r. ⌜ (r ≡ lockCode (now (table .entry)) (pagesOf (now (list .entry)))) × (now (table .exit) ≡ lockWords (now (table .entry)) (pagesOf (now (list .entry)))) ⌝ }
 {
     let n = page_list::page_count(list);
-    let c = list_count(t);
-    let end = end_of(t, c);
+    let c = list_count(table);
+    let end = end_of(table, c);
     if !has_room(c, end, n) {
         return refusal::FULL;
     }
-    put_pages(t, FIRST_PAGE + end, list);
-    words::put(t, c + 1, end + n);
-    words::put(t, 0, c + 1);
+    put_pages(table, FIRST_PAGE + end, list);
+    words::put(table, c + 1, end + n);
+    words::put(table, 0, c + 1);
     0
 }
 
 // Whether the pages at the places from `from` to before `to` are those of a list.
-fn is_same(t: &[u64], from: u64, to: u64, list: &[u8]) -> bool
-    ensures { λ r. ⌜ r ≡ same (part (now (t .entry)) to from) (pagesOf (now (list .entry))) ⌝ }
+fn is_same(table: &[u64], from: u64, to: u64, list: &[u8]) -> bool
+    ensures { λ r. ⌜ r ≡ same (part (now (table .entry)) to from) (pagesOf (now (list .entry))) ⌝ }
 {
     let n = page_list::page_count(list);
-    let end = numbers::min(to, t.len() as u64);
+    let end = numbers::min(to, table.len() as u64);
     if numbers::saturating_sub(end, from) != n {
         return false;
     }
     let mut i: u64 = 0;
     while i < n {
         let p = page_list::page_at(list, i);
-        let w = numbers::word_at(t, from + i);
+        let w = numbers::word_at(table, from + i);
         if w != p {
             return false;
         }
@@ -135,14 +135,14 @@ fn is_same(t: &[u64], from: u64, to: u64, list: &[u8]) -> bool
 }
 
 // The first of n lists with the same pages: n where there is none.
-fn find(t: &[u64], n: u64, list: &[u8]) -> u64
-    ensures { λ r. ⌜ r ≡ equalFrom (now (t .entry)) n 0 (pagesOf (now (list .entry))) ⌝ }
+fn find(table: &[u64], n: u64, list: &[u8]) -> u64
+    ensures { λ r. ⌜ r ≡ equalFrom (now (table .entry)) n 0 (pagesOf (now (list .entry))) ⌝ }
 {
     let mut from = FIRST_PAGE;
     let mut k: u64 = 0;
     while k < n {
-        let to = FIRST_PAGE + end_at(t, k + 1);
-        if is_same(t, from, to, list) {
+        let to = FIRST_PAGE + end_at(table, k + 1);
+        if is_same(table, from, to, list) {
             return k;
         }
         from = to;
@@ -152,57 +152,63 @@ fn find(t: &[u64], n: u64, list: &[u8]) -> u64
 }
 
 // Of what stands from `end` on, the last list, from `last` to before `to`, comes first.
-fn bring_last(t: &mut [u64], end: u64, last: u64, to: u64)
-    ensures { λ _. ⌜ now (t .exit) ≡ swapped (now (t .entry)) end (max end last - end) (to - max end last) ⌝ }
+fn bring_last(table: &mut [u64], end: u64, last: u64, to: u64)
+    ensures { λ _. ⌜ now (table .exit) ≡ swapped (now (table .entry)) end (max end last - end) (to - max end last) ⌝ }
 {
     if end < last {
-        words::swap_runs(t, end, last - end, numbers::saturating_sub(to, last));
+        words::swap_runs(table, end, last - end, numbers::saturating_sub(to, last));
     }
 }
 
 // The ends in the words from `from` to before `to`: some pages less, and some more.
-fn move_ends(t: &mut [u64], from: u64, to: u64, less: u64, more: u64)
+fn move_ends(table: &mut [u64], from: u64, to: u64, less: u64, more: u64)
     requires { ⌜ more ≤ limit.lockedPages + limit.lockedPages ⌝ }
-    ensures { λ _. ⌜ now (t .exit) ≡ moved (now (t .entry)) (to - from) from less more ⌝ }
+    ensures { λ _. ⌜ now (table .exit) ≡ moved (now (table .entry)) (to - from) from less more ⌝ }
 {
     let mut k = from;
     while k < to {
-        let end = end_at(t, k);
-        words::put(t, k, numbers::saturating_sub(end, less) + more);
+        let end = end_at(table, k);
+        words::put(table, k, numbers::saturating_sub(end, less) + more);
         k += 1;
     }
 }
 
 // List i of c goes, and the last takes its place.
-fn remove_list(t: &mut [u64], c: u64, i: u64)
+fn remove_list(table: &mut [u64], c: u64, i: u64)
     requires { ⌜ i < c ⌝ }
-    ensures { λ _. ⌜ now (t .exit) ≡ without (now (t .entry)) c i ⌝ }
+    ensures { λ _. ⌜ now (table .exit) ≡ without (now (table .entry)) c i ⌝ }
 {
-    let start = end_of(t, i);
-    let end = end_of(t, i + 1);
-    let last = end_of(t, c - 1);
-    let to = end_of(t, c);
-    bring_last(t, FIRST_PAGE + end, FIRST_PAGE + last, FIRST_PAGE + to);
+    let start = end_of(table, i);
+    let end = end_of(table, i + 1);
+    let last = end_of(table, c - 1);
+    let to = end_of(table, c);
+    bring_last(table, FIRST_PAGE + end, FIRST_PAGE + last, FIRST_PAGE + to);
     words::remove_words(
-        t,
+        table,
         FIRST_PAGE + start,
         numbers::saturating_sub(end, start),
         FIRST_PAGE + to,
     );
-    move_ends(t, i + 1, c, end, start + numbers::saturating_sub(to, last));
-    words::put(t, c, 0);
-    words::put(t, 0, c - 1);
+    move_ends(
+        table,
+        i + 1,
+        c,
+        end,
+        start + numbers::saturating_sub(to, last),
+    );
+    words::put(table, c, 0);
+    words::put(table, 0, c - 1);
 }
 
 // The first list with the same pages goes, and the last takes its place: 0, or 18 where there is none.
-pub fn unlock(t: &mut [u64], list: &[u8]) -> u64
-    ensures { λ r. ⌜ (r ≡ unlockCode (now (t .entry)) (pagesOf (now (list .entry)))) × (now (t .exit) ≡ unlockWords (now (t .entry)) (pagesOf (now (list .entry)))) ⌝ }
+pub fn unlock(table: &mut [u64], list: &[u8]) -> u64
+    ensures { λ r. ⌜ (r ≡ unlockCode (now (table .entry)) (pagesOf (now (list .entry)))) × (now (table .exit) ≡ unlockWords (now (table .entry)) (pagesOf (now (list .entry)))) ⌝ }
 {
-    let c = list_count(t);
-    let i = find(t, c, list);
+    let c = list_count(table);
+    let i = find(table, c, list);
     if c <= i {
         return refusal::NOT_LOCKED;
     }
-    remove_list(t, c, i);
+    remove_list(table, c, i);
     0
 }

@@ -19,10 +19,10 @@ same-length c = search needs
 returns : tie.Need-returns
 returns c =
     let a = c .before .before .before .before .before .before .before .args in
-    laws.last-brought (a .t .now) (a .end) (a .last) (a .to) (c .before .before .before .before .before .if1 .taken) _ _ (c .before .before .before .saturating-sub .ensures) (c .before .before .swap-runs .ensures)
+    laws.last-brought (a .table .now) (a .end) (a .last) (a .to) (c .before .before .before .before .before .if1 .taken) _ _ (c .before .before .before .saturating-sub .ensures) (c .before .before .swap-runs .ensures)
 
 returns-2 : tie.Need-returns-2
-returns-2 c = let a = c .before .before .args in laws.last-there (a .t .now) (a .end) (a .last) (a .to) (c .if1 .left)
+returns-2 c = let a = c .before .before .args in laws.last-there (a .table .now) (a .end) (a .last) (a .to) (c .if1 .left)
 
 pub bring-last-spec : {M : Type 1} → statement M
 bring-last-spec =

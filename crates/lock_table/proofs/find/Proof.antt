@@ -16,7 +16,7 @@ abbrev μ-loop : tie.MeasureT-loop
 μ-loop t n list from₀ k₀ from k = n - k
 
 loop-holds : tie.Need-loop-holds Inv-loop μ-loop
-loop-holds c = let a = c .before .before .args in let z : a .n - 0 ≡ a .n = omega arith in (refl, ap (λ (n : ℕ). equalFrom (a .t .now) n 0 (pagesOf (a .list .now))) z)
+loop-holds c = let a = c .before .before .args in let z : a .n - 0 ≡ a .n = omega arith in (refl, ap (λ (n : ℕ). equalFrom (a .table .now) n 0 (pagesOf (a .list .now))) z)
 
 add-end-at : tie.Need-add-end-at Inv-loop μ-loop
 add-end-at c = search needs
@@ -35,7 +35,7 @@ returns c =
     let c1 = c .before in let c2 = c1 .before in let c4 = c2 .before .before in let c7 = c4 .before .before .before in
     let a = c7 .args in let h = c4 .loop in let ps = pagesOf (a .list .now) in
     let to = ap (λ (n : ℕ). 65 + n) (c2 .end-at .ensures) in
-    sym (laws.equal-hit (a .t .now) (a .n) (h .k) (h .from) _ ps (h .inv .0) to (omega arith) (sym (c1 .is-same .ensures) ∙ c .if1 .taken)) ∙ h .inv .1
+    sym (laws.equal-hit (a .table .now) (a .n) (h .k) (h .from) _ ps (h .inv .0) to (omega arith) (sym (c1 .is-same .ensures) ∙ c .if1 .taken)) ∙ h .inv .1
 
 add-k : tie.Need-add-k Inv-loop μ-loop
 add-k c = search needs
@@ -48,15 +48,15 @@ loop-again c =
     let c1 = c .before in let c2 = c1 .before in let c4 = c2 .before .before in let c7 = c4 .before .before .before in
     let a = c7 .args in let h = c4 .loop in let ps = pagesOf (a .list .now) in
     let to = ap (λ (n : ℕ). 65 + n) (c2 .end-at .ensures) in (
-      laws.next-from (a .t .now) (a .n) (h .k) (h .from) _ ps (h .inv .0) to,
-      sym (laws.equal-miss (a .t .now) (a .n) (h .k) (h .from) _ ps (h .inv .0) to (omega arith) (sym (c1 .is-same .ensures) ∙ c .if1 .left)) ∙ h .inv .1,
+      laws.next-from (a .table .now) (a .n) (h .k) (h .from) _ ps (h .inv .0) to,
+      sym (laws.equal-miss (a .table .now) (a .n) (h .k) (h .from) _ ps (h .inv .0) to (omega arith) (sym (c1 .is-same .ensures) ∙ c .if1 .left)) ∙ h .inv .1,
     )
 
 returns-2 : tie.Need-returns-2 Inv-loop μ-loop
 returns-2 c =
     let a = c .before .before .before .before .args in
     let h = c .before .loop in
-    sym (laws.equal-end (a .t .now) (a .n) (h .k) (pagesOf (a .list .now)) (omega arith)) ∙ h .inv .1
+    sym (laws.equal-end (a .table .now) (a .n) (h .k) (pagesOf (a .list .now)) (omega arith)) ∙ h .inv .1
 
 pub find-spec : {M : Type 1} → statement M
 find-spec =

@@ -14,7 +14,7 @@ is-among-requires : tie.Need-is-among-requires
 is-among-requires c κs = search needs
 
 returns : tie.Need-returns
-returns c = let a = c .before .before .before .args in c .is-among .ensures ∙ ap (λ (n : ℕ). among (part (a .t .now) n 65) (a .gpn)) (c .before .pages-end .ensures)
+returns c = let a = c .before .before .before .args in c .is-among .ensures ∙ ap (λ (n : ℕ). among (part (a .table .now) n 65) (a .gpn)) (c .before .pages-end .ensures)
 
 pub holds-spec : {M : Type 1} → statement M
 holds-spec =

@@ -29,7 +29,7 @@ returns c =
     let a = c .before .before .before .before .before .before .args in
     let h = c .before .before .before .loop in
     let least = c .before .before .before .before .min .ensures in
-    sym (laws.among-hit (a .t .now) (h .i) (a .to) (a .gpn) _ (omega arith) (omega arith) (c .before .word-at .ensures) (c .if1 .taken)) ∙ h .inv
+    sym (laws.among-hit (a .table .now) (h .i) (a .to) (a .gpn) _ (omega arith) (omega arith) (c .before .word-at .ensures) (c .if1 .taken)) ∙ h .inv
 
 add-i : tie.Need-add-i Inv-loop μ-loop
 add-i c = search needs
@@ -42,13 +42,13 @@ loop-again c =
     let a = c .before .before .before .before .before .before .args in
     let h = c .before .before .before .loop in
     let least = c .before .before .before .before .min .ensures in
-    sym (laws.among-miss (a .t .now) (h .i) (a .to) (a .gpn) _ (omega arith) (omega arith) (c .before .word-at .ensures) (c .if1 .left)) ∙ h .inv
+    sym (laws.among-miss (a .table .now) (h .i) (a .to) (a .gpn) _ (omega arith) (omega arith) (c .before .word-at .ensures) (c .if1 .left)) ∙ h .inv
 
 returns-2 : tie.Need-returns-2 Inv-loop μ-loop
 returns-2 c =
     let a = c .before .before .before .before .args in
     let h = c .before .loop in
-    sym (laws.among-end (a .t .now) (h .i) (a .to) (a .gpn) (omega (arith, c .before .before .min .ensures))) ∙ h .inv
+    sym (laws.among-end (a .table .now) (h .i) (a .to) (a .gpn) (omega (arith, c .before .before .min .ensures))) ∙ h .inv
 
 pub is-among-spec : {M : Type 1} → statement M
 is-among-spec =

@@ -30,13 +30,13 @@ returns : tie.Need-returns Inv-loop μ-loop
 returns c =
     let c1 = c .before in let c2 = c1 .before in let c3 = c2 .before in let c6 = c3 .before .before .before in
     let a = c6 .args in let ps = pagesOf (a .list .now) in
-    sym (laws.same-not (a .t .now) ps (a .from) (a .to) _ _ _ (c3 .page-count .ensures) (c2 .min .ensures) (c1 .saturating-sub .ensures) (c .if1 .taken))
+    sym (laws.same-not (a .table .now) ps (a .from) (a .to) _ _ _ (c3 .page-count .ensures) (c2 .min .ensures) (c1 .saturating-sub .ensures) (c .if1 .taken))
 
 loop-holds : tie.Need-loop-holds Inv-loop μ-loop
 loop-holds c =
     let a = c .before .before .before .before .before .before .args in
     let z : a .from + 0 ≡ a .from = omega arith in
-    ap (λ (k : ℕ). same (part (a .t .now) (a .to) k) (pagesOf (a .list .now))) z
+    ap (λ (k : ℕ). same (part (a .table .now) (a .to) k) (pagesOf (a .list .now))) z
 
 page-at-requires : tie.Need-page-at-requires Inv-loop μ-loop
 page-at-requires c κs = search needs
@@ -54,7 +54,7 @@ returns-2 c =
     let c4 = c .before .before .before .before in let c5 = c4 .before in let c6 = c5 .before in let c7 = c6 .before in let c8 = c7 .before in let c11 = c8 .before .before .before in
     let a = c11 .args in let ps = pagesOf (a .list .now) in
     let h = c4 .loop in
-    sym (laws.same-stop (a .t .now) ps (a .from) (a .to) _ _ _ (c8 .page-count .ensures) (c7 .min .ensures) (c6 .saturating-sub .ensures) (c5 .if1 .left) (h .i) _ _ (omega arith) (c .before .word-at .ensures) (c .before .before .page-at .ensures) (c .if2 .taken)) ∙ h .inv
+    sym (laws.same-stop (a .table .now) ps (a .from) (a .to) _ _ _ (c8 .page-count .ensures) (c7 .min .ensures) (c6 .saturating-sub .ensures) (c5 .if1 .left) (h .i) _ _ (omega arith) (c .before .word-at .ensures) (c .before .before .page-at .ensures) (c .if2 .taken)) ∙ h .inv
 
 add-i : tie.Need-add-i Inv-loop μ-loop
 add-i c = search needs
@@ -67,14 +67,14 @@ loop-again c =
     let c4 = c .before .before .before .before in let c5 = c4 .before in let c6 = c5 .before in let c7 = c6 .before in let c8 = c7 .before in let c11 = c8 .before .before .before in
     let a = c11 .args in let ps = pagesOf (a .list .now) in
     let h = c4 .loop in
-    sym (laws.same-more (a .t .now) ps (a .from) (a .to) _ _ _ (c8 .page-count .ensures) (c7 .min .ensures) (c6 .saturating-sub .ensures) (c5 .if1 .left) (h .i) _ _ (omega arith) (c .before .word-at .ensures) (c .before .before .page-at .ensures) (c .if2 .left)) ∙ h .inv
+    sym (laws.same-more (a .table .now) ps (a .from) (a .to) _ _ _ (c8 .page-count .ensures) (c7 .min .ensures) (c6 .saturating-sub .ensures) (c5 .if1 .left) (h .i) _ _ (omega arith) (c .before .word-at .ensures) (c .before .before .page-at .ensures) (c .if2 .left)) ∙ h .inv
 
 returns-3 : tie.Need-returns-3 Inv-loop μ-loop
 returns-3 c =
     let c1 = c .before in let c2 = c1 .before in let c3 = c2 .before in let c4 = c3 .before in let c5 = c4 .before in let c8 = c5 .before .before .before in
     let a = c8 .args in let ps = pagesOf (a .list .now) in
     let h = c1 .loop in
-    sym (laws.same-end (a .t .now) ps (a .from) (a .to) _ _ _ (c5 .page-count .ensures) (c4 .min .ensures) (c3 .saturating-sub .ensures) (c2 .if1 .left) (h .i) (omega arith)) ∙ h .inv
+    sym (laws.same-end (a .table .now) ps (a .from) (a .to) _ _ _ (c5 .page-count .ensures) (c4 .min .ensures) (c3 .saturating-sub .ensures) (c2 .if1 .left) (h .i) (omega arith)) ∙ h .inv
 
 pub is-same-spec : {M : Type 1} → statement M
 is-same-spec =

@@ -26,7 +26,7 @@ returns : tie.Need-returns
 returns c =
     let c1 = c .before in let c2 = c1 .before in let c4 = c2 .before .before in let c6 = c4 .before .before in let c9 = c6 .before .before .before in
     let a = c9 .args in
-    laws.lock-full (a .t .now) (pagesOf (a .list .now)) _ _ _ _ (c6 .page-count .ensures) (c4 .list-count .ensures) (c2 .end-of .ensures .0) (c1 .has-room .ensures) (not-true (c1 .has-room .result) (c .if1 .taken))
+    laws.lock-full (a .table .now) (pagesOf (a .list .now)) _ _ _ _ (c6 .page-count .ensures) (c4 .list-count .ensures) (c2 .end-of .ensures .0) (c1 .has-room .ensures) (not-true (c1 .has-room .result) (c .if1 .taken))
 
 add-put-pages : tie.Need-add-put-pages
 add-put-pages c = search needs
@@ -58,7 +58,7 @@ returns-2 : tie.Need-returns-2
 returns-2 c =
     let c2 = c .before .before in let c6 = c2 .before .before .before .before in let c10 = c6 .before .before .before .before in let c12 = c10 .before .before in let c13 = c12 .before in let c14 = c13 .before in let c16 = c14 .before .before in let c18 = c16 .before .before in let c21 = c18 .before .before .before in
     let a = c21 .args in
-    laws.lock-made (a .t .now) (pagesOf (a .list .now)) _ _ _ _ (c18 .page-count .ensures) (c16 .list-count .ensures) (c14 .end-of .ensures .0) (c13 .has-room .ensures)
+    laws.lock-made (a .table .now) (pagesOf (a .list .now)) _ _ _ _ (c18 .page-count .ensures) (c16 .list-count .ensures) (c14 .end-of .ensures .0) (c13 .has-room .ensures)
     (not-false (c13 .has-room .result) (c12 .if1 .left)) _ _ _ (c10 .put-pages .ensures) (c6 .put .ensures) (c2 .put2 .ensures)
 
 pub lock-spec : {M : Type 1} → statement M

@@ -40,13 +40,13 @@ loop-again : tie.Need-loop-again Inv-loop μ-loop
 loop-again c =
     let c2 = c .before .before in let c3 = c2 .before in let c5 = c3 .before .before in let c8 = c5 .before .before .before in let c10 = c8 .before .before in
     let a = c10 .args in let h = c8 .loop in
-    (search needs, laws.move-more (h .t) (a .to) (h .k) (a .less) (a .more) _ _ _ (omega arith) (c5 .end-at .ensures) (c3 .saturating-sub .ensures) (c2 .put .ensures) ∙ h .inv .1)
+    (search needs, laws.move-more (h .table) (a .to) (h .k) (a .less) (a .more) _ _ _ (omega arith) (c5 .end-at .ensures) (c3 .saturating-sub .ensures) (c2 .put .ensures) ∙ h .inv .1)
 
 same-length : tie.Need-same-length Inv-loop μ-loop
 same-length c = search needs
 
 returns : tie.Need-returns Inv-loop μ-loop
-returns c = let a = c .before .before .before .args in let h = c .before .loop in sym (laws.move-end (h .t) (a .to) (h .k) (a .less) (a .more) (omega arith)) ∙ h .inv .1
+returns c = let a = c .before .before .before .args in let h = c .before .loop in sym (laws.move-end (h .table) (a .to) (h .k) (a .less) (a .more) (omega arith)) ∙ h .inv .1
 
 pub move-ends-spec : {M : Type 1} → statement M
 move-ends-spec =

@@ -16,7 +16,7 @@ add-result : tie.Need-add-result
 add-result c = search needs
 
 returns : tie.Need-returns
-returns c = let a = c .before .before .before .args in ap (λ (n : ℕ). 65 + n) (c .end-of .ensures .0 ∙ ap (endOf (a .t .now)) (c .before .list-count .ensures))
+returns c = let a = c .before .before .before .args in ap (λ (n : ℕ). 65 + n) (c .end-of .ensures .0 ∙ ap (endOf (a .table .now)) (c .before .list-count .ensures))
 
 pub pages-end-spec : {M : Type 1} → statement M
 pages-end-spec =

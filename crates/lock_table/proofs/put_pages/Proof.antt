@@ -20,7 +20,7 @@ page-count-requires : tie.Need-page-count-requires Inv-loop μ-loop
 page-count-requires c κs = search needs
 
 loop-holds : tie.Need-loop-holds Inv-loop μ-loop
-loop-holds c = let a = c .before .before .before .args in let z : a .place + 0 ≡ a .place = omega arith in (refl, ap (λ (k : ℕ). sets (a .t .now) k (pagesOf (a .list .now))) z)
+loop-holds c = let a = c .before .before .before .args in let z : a .place + 0 ≡ a .place = omega arith in (refl, ap (λ (k : ℕ). sets (a .table .now) k (pagesOf (a .list .now))) z)
 
 page-at-requires : tie.Need-page-at-requires Inv-loop μ-loop
 page-at-requires c κs = search needs
@@ -38,7 +38,7 @@ loop-again : tie.Need-loop-again Inv-loop μ-loop
 loop-again c =
     let c2 = c .before .before in let c4 = c2 .before .before in let c6 = c4 .before .before in let c7 = c6 .before in let c10 = c7 .before .before .before in
     let a = c10 .args in let h = c6 .loop in
-    (search needs, laws.sets-more (h .t) (a .place) (h .i) _ (pagesOf (a .list .now)) _ (omega (arith, c7 .page-count .ensures)) (c4 .page-at .ensures) (c2 .put-after .ensures) ∙ h .inv .1)
+    (search needs, laws.sets-more (h .table) (a .place) (h .i) _ (pagesOf (a .list .now)) _ (omega (arith, c7 .page-count .ensures)) (c4 .page-at .ensures) (c2 .put-after .ensures) ∙ h .inv .1)
 
 same-length : tie.Need-same-length Inv-loop μ-loop
 same-length c = search needs
@@ -47,7 +47,7 @@ returns : tie.Need-returns Inv-loop μ-loop
 returns c =
     let a = c .before .before .before .before .before .args in
     let h = c .before .loop in
-    sym (laws.sets-end (h .t) (a .place) (h .i) (pagesOf (a .list .now)) (omega (arith, c .before .before .page-count .ensures))) ∙ h .inv .1
+    sym (laws.sets-end (h .table) (a .place) (h .i) (pagesOf (a .list .now)) (omega (arith, c .before .before .page-count .ensures))) ∙ h .inv .1
 
 pub put-pages-spec : {M : Type 1} → statement M
 put-pages-spec =

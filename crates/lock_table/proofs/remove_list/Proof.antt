@@ -79,7 +79,7 @@ returns : tie.Need-returns
 returns c =
     let c2 = c .before .before in let c6 = c2 .before .before .before .before in let c10 = c6 .before .before .before .before in let c11 = c10 .before in let c15 = c11 .before .before .before .before in let c16 = c15 .before in let c20 = c16 .before .before .before .before in let c22 = c20 .before .before in
     let c24 = c22 .before .before in let c26 = c24 .before .before in let c28 = c26 .before .before in let a = c28 .before .before .before .args in
-    laws.list-removed (a .t .now) (a .c) (a .i) _ _ _ _ _ _ (c28 .end-of .ensures .0) (c26 .end-of2 .ensures .0) (c24 .end-of3 .ensures .0) (c22 .end-of4 .ensures .0)
+    laws.list-removed (a .table .now) (a .c) (a .i) _ _ _ _ _ _ (c28 .end-of .ensures .0) (c26 .end-of2 .ensures .0) (c24 .end-of3 .ensures .0) (c22 .end-of4 .ensures .0)
     (c16 .saturating-sub .ensures) (c11 .saturating-sub2 .ensures) _ _ _ _ _ (c20 .bring-last .ensures) (c15 .remove-words .ensures) (c10 .move-ends .ensures) (c6 .put .ensures) (c2 .put2 .ensures)
 
 pub remove-list-spec : {M : Type 1} → statement M
