@@ -1,4 +1,6 @@
 // The worked examples of document 01, run and shown: RAM pages 0 to 15 and 32 to 39.
+use abi::REGISTRAR_WORDS;
+use abi::refusal;
 use fault::PageFaultAction;
 use libc::STDOUT_FILENO;
 use permissions::GuestVtl;
@@ -88,7 +90,7 @@ fn say_reply(r: Reply) {
         return;
     }
     say_number(r.number);
-    if r.number == 22 {
+    if r.number == refusal::UNALIGNED_MEMORY {
         say(b" for ");
         say_number(r.edge_start);
         say(b" to ");
@@ -100,7 +102,7 @@ fn say_reply(r: Reply) {
 
 fn p8() {
     let ram: [u64; 6] = [0, 65536, 0, 131072, 163840, 1];
-    let mut state = [0u64; 108];
+    let mut state = [0u64; REGISTRAR_WORDS];
     let mut registered = [0u64; 1];
     let mut failed = [0u64; 1];
     registrar::registrar_build(&ram, 0, 65536, &mut state, &mut registered, &mut failed);
@@ -115,7 +117,7 @@ fn p8() {
 
 fn p9() {
     let ram: [u64; 6] = [0, 65536, 0, 131072, 163840, 1];
-    let mut state = [0u64; 108];
+    let mut state = [0u64; REGISTRAR_WORDS];
     let mut registered = [0u64; 1];
     let mut failed = [0u64; 1];
     registrar::registrar_build(&ram, 0, 65536, &mut state, &mut registered, &mut failed);
