@@ -12,6 +12,8 @@ cargo test --offline --quiet --manifest-path rust/Cargo.toml -p boundary
 # One more at a time than cores: the longest of a group then leaves no core idle. The prover keeps the memory that it frees.
 export RT_JOBS=${RT_JOBS:-3} MIMALLOC_PURGE_DELAY=${MIMALLOC_PURGE_DELAY:--1}
 rt ci | tee "$verdict"
+# Edits with several wrong programs: each must be refused by the proof of its own function.
+.ci/refused.py
 
 # One number changed in each of six recorded lines, those that are compared: the replay must see all six.
 seen=$(awk 'NR >= 3 && NR <= 8 { $(NR + 7) = $(NR + 7) "1" } { print }' crates/replay/stdin | target/bin/replay | tail -n 1)
