@@ -10,3 +10,5 @@ pub mod Limits
 pub mod Overlay
 pub mod Lengths
 pub mod Flags
+pub mod Isolations
+pub mod Faults

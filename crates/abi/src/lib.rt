@@ -1,11 +1,15 @@
 // The numbers that cross, and the lengths and places of what is lent. Contracts and definitions have them from specs/.
+pub mod action;
 pub mod code;
+pub mod isolation;
 pub mod kind;
 pub mod limit;
+pub mod memory_type;
 pub mod operation;
 pub mod overlay;
 pub mod phase;
 pub mod place;
+pub mod read_type;
 pub mod refusal;
 pub mod registrar_place;
 pub mod stage;

@@ -4,6 +4,7 @@ use mathlib.Core.Bool.{Bool, true, false, cond, _&&_}
 use Prim.Native.Nat.{ℕ, _+_, _*_, _/_, _%_}
 use lib.Dec.{eqb, leb, ltb}
 use Rattle.abi.specs.Flags.{flagsEnd}
+use Rattle.abi.specs.Isolations as isolation
 use Rattle.laws.specs.Bools.{digit}
 use Rattle.permissions.specs.declared.GuestVtl.{GuestVtl}
 use Rattle.permissions.specs.declared.GuestVtl.the-variants.{Vtl0, Vtl1}
@@ -26,12 +27,12 @@ abbrev pub isVtl0 : GuestVtl → Bool
 isVtl0 Vtl0 = true
 isVtl0 Vtl1 = false
 
--- SNP 2, TDX 3, CCA 4: the numbers of the hypervisor's partition isolation types
+-- SNP, TDX and CCA, whose numbers are neighbours
 abbrev pub fitIsolation : ℕ → Bool
-fitIsolation n = leb 2 n && ltb n 5
+fitIsolation n = leb isolation.snp n && leb n isolation.cca
 
 abbrev pub isolationOf : ℕ → IsolationType
-isolationOf n = cond (eqb n 2) Snp (cond (eqb n 3) Tdx Cca)
+isolationOf n = cond (eqb n isolation.snp) Snp (cond (eqb n isolation.tdx) Tdx Cca)
 
 -- readable 1, writable 2, kernel execute 4, user execute 8
 abbrev pub fitFlags : ℕ → Bool

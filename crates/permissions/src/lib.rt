@@ -8,6 +8,7 @@ ghost use Rattle.permissions.specs.Rmpadjust.{operandOf};
 ghost use Rattle.permissions.specs.HvError.{codeOf};
 use abi::FLAGS_END;
 use abi::code;
+use abi::isolation;
 use abi::refusal;
 
 pub enum GuestVtl {
@@ -67,20 +68,24 @@ pub fn vtl_number(vtl: GuestVtl) -> u64
     }
 }
 
-// Whether a number names an isolation type of the domain, and which: 0 is none and 1 VBS, which are not of it.
+// Whether a number names an isolation type of the domain, and which.
 pub fn is_isolation(n: u64) -> bool
     ensures { λ r. ⌜ r ≡ fitIsolation n ⌝ }
 {
-    if n < 2 { false } else { n < 5 }
+    if n < isolation::SNP {
+        false
+    } else {
+        n <= isolation::CCA
+    }
 }
 
 pub fn isolation_of(n: u64) -> IsolationType
     ensures { λ r. ⌜ r ≡ isolationOf n ⌝ }
 {
-    if n == 2 {
+    if n == isolation::SNP {
         return IsolationType::Snp;
     }
-    if n == 3 {
+    if n == isolation::TDX {
         return IsolationType::Tdx;
     }
     IsolationType::Cca

@@ -4,6 +4,7 @@ use mathlib.Core.List.{List}
 use Prim.Native.Nat.{ℕ, zero, suc, _+_}
 use lib.Dec.{eqb}
 use lib.ListN.{getD}
+use Rattle.abi.specs.Isolations.{cca}
 use Rattle.abi.specs.Operations as operation
 use Rattle.abi.specs.Places as place
 use Rattle.protector_state.specs.declared.Reply.{Reply}
@@ -13,7 +14,7 @@ use Rattle.recording.specs.Digest.{digestWord, digestOf}
 use Rattle.recording.specs.Lists.{partOf}
 use Rattle.playback.specs.declared.buffers.Buffers.{Buffers}
 use Rattle.playback.specs.declared.buffers.Call.{Call}
-use Rattle.playback.specs.Buffers.{answers, cca, bytesIn, lentOf, after, withAsked, codeOf}
+use Rattle.playback.specs.Buffers.{answers, bytesIn, lentOf, after, withAsked, codeOf}
 
 -- the original hands CCA's backend no flags
 abbrev pub flagsOf : Reply → ℕ → ℕ

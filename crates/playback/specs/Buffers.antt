@@ -28,10 +28,6 @@ unwritten = 0xa5
 abbrev pub answers : ℕ
 answers = 8192
 
--- the isolation CCA as a number
-abbrev pub cca : ℕ
-cca = 4
-
 -- the codes of a failed operation are below it
 abbrev pub codes : ℕ
 codes = 65536

@@ -4,9 +4,9 @@ ghost use Rattle.playback.specs.Answers.{flagsOf, fieldsOf, askedOf, ans
 use crate::buffers;
 use crate::buffers::ANSWERS;
 use crate::buffers::Buffers;
-use crate::buffers::CCA;
 use crate::buffers::Call;
 use crate::entries;
+use abi::isolation::CCA;
 use abi::operation;
 use abi::place;
 use protector_state::Reply;

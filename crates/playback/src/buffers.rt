@@ -18,9 +18,6 @@ pub const UNWRITTEN: u8 = 0xa5;
 // A call is answered so often at most.
 pub const ANSWERS: u64 = 8192;
 
-// The isolation CCA as a number.
-pub const CCA: u64 = 4;
-
 // The codes of a failed operation are below it.
 pub const CODES: u64 = 65536;
 
