@@ -8,14 +8,14 @@ use mathlib.Core.List.{List, [], _∷_}
 use Prim.Native.Nat.{ℕ, suc, _+_, _-_, _*_, _/_, _%_, _^_, _≤_, _<_, min, max}
 use native.Mathlib.Nat.{div-zero, mul-zero, div-add-mod', mul-le-mul-left, mul-le-mul-right, div-mul-le-self, div-le-self, le-div-iff-mul-le, div-lt-iff-lt-mul}
 use lib.Dec.{eqb, ltb}
-use lib.ListN.{length, getD, drop, List·getD-eq-default}
+use lib.ListN.{length, getD, drop}
 use borrow.Author.Tests.{eqb-true, eqb-false, eq-eqb, ne-eqb, lt-ltb, le-ltb, le-leb, lt-leb}
 use Rattle.abi.specs.Lengths.{pageSize, wordBits}
 use Rattle.laws.specs.Bools.{digit, and-left, and-right}
 use Rattle.laws.specs.Ranges.{between, between-same, between-false, between-join}
 use Rattle.bitmap.specs.Pages.{bit, bitAt, written, one, words}
 use Rattle.bitmap.proofs.Bit.{mask, bit-of-zero, full-bit, ones-bit}
-use Rattle.bitmap.proofs.Map.{both, none, alike as same-chunks}
+use Rattle.bitmap.proofs.Map.{both, none, alike as same-chunks, page-past}
 use Rattle.bitmap.proofs.Runs.{one-between}
 use Rattle.layout.specs.declared.MemoryRange.{MemoryRange}
 use Rattle.layout.specs.declared.MemoryRangeWithNode.{MemoryRangeWithNode}
@@ -235,16 +235,13 @@ module _ (registered failed : List ℕ) (s : Bool) (c e : ℕ) where
       let r : Bool = eqb (getD registered (c / wordBits) 0) (digit s * (2 ^ 64 - 1)) in
       word-ahead m l (eqb-true _ _ (and-left f r t)) (eqb-true _ _ (and-right f r t))
 
-past-clear : (m : List ℕ) (c : ℕ) → length m ≤ c / wordBits → bitAt wordBits m c ≡ false
-past-clear m c h = rw (List·getD-eq-default m 0 h) (bit-of-zero (c % wordBits))
-
 -- past the end of both bitmaps
 pub run-past : (registered failed : List ℕ) (s : Bool) (c e n stop : ℕ) → n ≡ max (length registered) (length failed) → stop ≡ min e (n * wordBits) → stop ≤ c → firstNot (alike registered failed s) c e ≡ cond s c (max c e)
 run-past registered failed s c e n stop f g h = elim (decLt c e) [ yes d ↦ inside s d | no d ↦ first-end (alike registered failed s) c e (omega arith) ∙ after s (omega arith) ]
   where
     inside : (s : Bool) → c < e → firstNot (alike registered failed s) c e ≡ cond s c (max c e)
-    inside true d = first-stop (alike registered failed true) c e d (rw (past-clear failed c (omega arith), past-clear registered c (omega arith)))
-    inside false d = first-all (alike registered failed false) c e (λ q a b. rw (past-clear failed q (omega arith), past-clear registered q (omega arith)))
+    inside true d = first-stop (alike registered failed true) c e d (rw (page-past wordBits failed c (omega arith), page-past wordBits registered c (omega arith)))
+    inside false d = first-all (alike registered failed false) c e (λ q a b. rw (page-past wordBits failed q (omega arith), page-past wordBits registered q (omega arith)))
 
     after : (s : Bool) → e ≤ c → c ≡ cond s c (max c e)
     after true d = refl
