@@ -1,4 +1,5 @@
 // What a permission query gives: the permissions of a page as the maps have them, or as a VTL has them.
+ghost use mathlib.Core.Bool.{not, _&&_};
 ghost use mathlib.Core.Path.{_≡_};
 ghost use Rattle.layout.specs.Layout.{entriesOf, isRam};
 ghost use Rattle.mapping.specs.Maps.{perms, maps};
@@ -14,19 +15,16 @@ pub enum PermissionsAnswer {
     Refused(u64),
 }
 
-fn access_refusal(fits: bool, tracked: bool, inside: bool) -> u64
-    ensures { λ r. ⌜ r ≡ accessRefusal fits tracked inside ⌝ }
+fn access_refusal(fits: bool, tracked: bool) -> u64
+    ensures { λ r. ⌜ r ≡ accessRefusal fits tracked ⌝ }
 {
     if !fits {
         return refusal::WRONG_LENGTH;
     }
-    if !tracked {
-        return refusal::UNTRACKED;
-    }
-    if inside { 0 } else { refusal::NOT_RAM }
+    if tracked { 0 } else { refusal::UNTRACKED }
 }
 
-// The permissions of a page as the maps have them.
+// The permissions of a page as the maps have them: none past their end.
 pub fn query_access_permission(
     private: &[u8],
     shared: &[u8],
@@ -49,25 +47,25 @@ pub fn query_access_permission(
         kernel: kernel.len() as u64,
         user: user.len() as u64,
     };
-    let n = access_refusal(
-        mapping::maps_fit(len, tracked, lengths),
-        tracked,
-        gpn / 8 < len,
-    );
+    let n = access_refusal(mapping::maps_fit(len, tracked, lengths), tracked);
     if n != 0 {
         return PermissionsAnswer::Refused(n);
     }
     PermissionsAnswer::Flags(mapping::flags_at(read, write, kernel, user, gpn))
 }
 
-fn lower_refusal(ram: &[u64], fits: bool, vtl: u64, gpn: u64) -> u64
-    ensures { λ r. ⌜ r ≡ lowerRefusal fits vtl (isRam (entriesOf (now (ram .entry))) gpn) ⌝ }
+// 7 in a hole: `inside` tells whether the maps have the page.
+fn lower_refusal(ram: &[u64], fits: bool, vtl: u64, gpn: u64, inside: bool) -> u64
+    ensures { λ r. ⌜ r ≡ lowerRefusal fits vtl (inside && not (isRam (entriesOf (now (ram .entry))) gpn)) ⌝ }
 {
     if !fits {
         return refusal::WRONG_LENGTH;
     }
     if !permissions::is_vtl(vtl) {
         return refusal::UNFIT_NUMBER;
+    }
+    if !inside {
+        return 0;
     }
     if layout::is_in_guest_memory(ram, gpn) {
         0
@@ -122,7 +120,7 @@ pub fn query_lower_vtl_permissions(
         user: user.len() as u64,
     };
     let fits = mapping::maps_fit(len, tracked, lengths);
-    let n = lower_refusal(ram, fits, vtl, gpn);
+    let n = lower_refusal(ram, fits, vtl, gpn, gpn / 8 < len);
     if n != 0 {
         return PermissionsAnswer::Refused(n);
     }

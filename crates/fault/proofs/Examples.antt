@@ -6,7 +6,7 @@ use Prim.Native.Nat.{ℕ, _*_}
 use Rattle.layout.specs.Layout.{entriesOf}
 use Rattle.mapping.specs.Maps.{Maps, maps}
 use Rattle.fault.specs.declared.PageFaultAction.{PageFaultAction}
-use Rattle.fault.specs.declared.PageFaultAction.the-variants.{Retry, VtlProtected, Refused}
+use Rattle.fault.specs.declared.PageFaultAction.the-variants.{Retry, NotPrivate, VtlProtected}
 use Rattle.fault.specs.Fault.{faultOf, faultRefusal, pageFault}
 
 -- page 1 read, 2 written, 3 executed by the kernel, 4 by the user; all private
@@ -32,6 +32,6 @@ write-2 : at 1 2 1 ≡ Retry
 unfolding entriesOf faultOf faultRefusal pageFault
 write-2 = refl
 
-past : at 0 8 0 ≡ Refused 7
+past : at 0 8 0 ≡ NotPrivate
 unfolding entriesOf faultOf faultRefusal pageFault
 past = refl

@@ -1,8 +1,9 @@
--- A fault (01, "Bitmaps", and the order of refusals: 4, 8, 7).
+-- A fault (01, "Bitmaps", and the order of refusals: 4, 8), on any page: past the maps none is marked (02, (vi)).
 use mathlib.Core.Bool.{Bool, false, not, cond, _&&_}
 use mathlib.Core.List.{List}
 use Prim.Native.Nat.{ℕ, _/_}
-use lib.Dec.{eqb, ltb}
+use lib.Dec.{eqb, leb}
+use Rattle.abi.specs.Faults as number
 use Rattle.abi.specs.Refusals as refusal
 use Rattle.abi.specs.Lengths.{pageSize}
 use Rattle.bitmap.specs.Pages.{bitAt}
@@ -11,26 +12,30 @@ use Rattle.layout.specs.Layout.{mapLen}
 use Rattle.laws.specs.Refusal.{unless}
 use Rattle.fault.specs.declared.GuestValidMemoryType.{GuestValidMemoryType}
 use Rattle.fault.specs.declared.GuestValidMemoryType.the-variants.{Encrypted, Shared}
-use Rattle.fault.specs.declared.GuestMemoryViewReadType.{GuestMemoryViewReadType}
-use Rattle.fault.specs.declared.GuestMemoryViewReadType.the-variants.{Read, KernelExecute, UserExecute}
 use Rattle.fault.specs.declared.PageFaultAction.{PageFaultAction}
 use Rattle.fault.specs.declared.PageFaultAction.the-variants.{Retry, NotMapped, NotShared, NotPrivate, VtlProtected, Refused}
 use Rattle.permissions.specs.Flags.{fitBool, boolOf}
 use Rattle.permissions.specs.HvError.{codeOf}
-use Rattle.mapping.specs.Maps.{Permissions, Maps, mapsFit, lengthsOf, inMaps}
+use Rattle.mapping.specs.Maps.{Permissions, Maps, mapsFit, lengthsOf}
 
--- the numbers that cross, the port's choice: mapping encrypted 0, shared 1; view Read 0, KernelExecute 1, UserExecute 2
+-- what a view may do
+pub data GuestMemoryViewReadType : Type 0 where
+  Read : GuestMemoryViewReadType
+  KernelExecute : GuestMemoryViewReadType
+  UserExecute : GuestMemoryViewReadType
+
+-- a mapping and a view by their numbers
 abbrev pub fitMapping : ℕ → Bool
-fitMapping n = ltb n 2
+fitMapping n = leb n number.shared
 
 abbrev pub mappingOf : ℕ → GuestValidMemoryType
-mappingOf n = cond (eqb n 0) Encrypted Shared
+mappingOf n = cond (eqb n number.encrypted) Encrypted Shared
 
 abbrev pub fitView : ℕ → Bool
-fitView n = ltb n 3
+fitView n = leb n number.userExecute
 
 abbrev pub viewOf : ℕ → GuestMemoryViewReadType
-viewOf n = cond (eqb n 0) Read (cond (eqb n 1) KernelExecute UserExecute)
+viewOf n = cond (eqb n number.read) Read (cond (eqb n number.kernelExecute) KernelExecute UserExecute)
 
 -- the marks that a mapping is tested by, and what an unmarked page gives there
 abbrev pub marks : GuestValidMemoryType → Maps → List ℕ
@@ -62,16 +67,15 @@ faultOf m tracked mapping view p write failure =
     (cond (hasPermissions mapping tracked && not (bitAt 8 (accessMap view write (m .permissions)) p)) VtlProtected
     Retry))
 
--- 4 unless the maps fit, 8 for a number that names nothing, 7 unless the maps have the page
-unfoldable pub faultRefusal : Bool → ℕ → ℕ → ℕ → ℕ → Bool → ℕ
-faultRefusal fits mapping view write failure inside =
+-- 4 unless the maps fit, 8 for a number that names nothing
+unfoldable pub faultRefusal : Bool → ℕ → ℕ → ℕ → ℕ → ℕ
+faultRefusal fits mapping view write failure =
     unless fits refusal.wrongLength
     (unless (fitMapping mapping) refusal.unfitNumber
     (unless (fitView view) refusal.unfitNumber
     (unless (fitBool write) refusal.unfitNumber
     (unless (fitBool failure) refusal.unfitNumber
-    (unless inside refusal.notRam
-    0)))))
+    0))))
 
 abbrev pub orRefused : ℕ → PageFaultAction → PageFaultAction
 orRefused n a = cond (eqb n 0) a (Refused n)
@@ -79,7 +83,7 @@ orRefused n a = cond (eqb n 0) a (Refused n)
 -- a fault at an address, whose page is address / 4,096
 unfoldable pub pageFault : List MemoryRangeWithNode → Maps → Bool → ℕ → ℕ → ℕ → ℕ → ℕ → PageFaultAction
 pageFault es m tracked mapping view address write failure =
-    orRefused (faultRefusal (mapsFit (mapLen es) tracked (lengthsOf m)) mapping view write failure (inMaps es (address / pageSize)))
+    orRefused (faultRefusal (mapsFit (mapLen es) tracked (lengthsOf m)) mapping view write failure)
     (faultOf m tracked (mappingOf mapping) (viewOf view) (address / pageSize) (boolOf write) (boolOf failure))
 
 -- the number of 01 for an answer, 0 where nothing is refused; and its value, a number of the port's choice or the code that a refusal carries
@@ -92,9 +96,9 @@ faultNumber VtlProtected = 0
 faultNumber (Refused n) = n
 
 abbrev pub faultValue : PageFaultAction → ℕ
-faultValue Retry = 0
-faultValue NotMapped = 1
-faultValue NotShared = 2
-faultValue NotPrivate = 3
-faultValue VtlProtected = 4
+faultValue Retry = number.retry
+faultValue NotMapped = number.notMapped
+faultValue NotShared = number.notShared
+faultValue NotPrivate = number.notPrivate
+faultValue VtlProtected = number.vtlProtected
 faultValue (Refused n) = codeOf n

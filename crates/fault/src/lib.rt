@@ -5,14 +5,11 @@ ghost use Rattle.layout.specs.Layout.{entriesOf};
 ghost use Rattle.mapping.specs.Maps.{perms, maps};
 ghost use Rattle.fault.specs.Fault.{mappingOf, viewOf, accessMap, faultOf, faultRefusal, pageFault, faultNumber, faultValue};
 use abi::PAGE_SIZE;
+use abi::action;
+use abi::memory_type;
+use abi::read_type;
 use abi::refusal;
 use mapping::MapLengths;
-
-pub enum GuestMemoryViewReadType {
-    Read,
-    KernelExecute,
-    UserExecute,
-}
 
 pub enum GuestValidMemoryType {
     Shared,
@@ -32,48 +29,38 @@ pub enum PageFaultAction {
 fn mapping_of(n: u64) -> GuestValidMemoryType
     ensures { λ r. ⌜ r ≡ mappingOf n ⌝ }
 {
-    if n == 0 {
+    if n == memory_type::ENCRYPTED {
         GuestValidMemoryType::Encrypted
     } else {
         GuestValidMemoryType::Shared
     }
 }
 
-fn view_of(n: u64) -> GuestMemoryViewReadType
-    ensures { λ r. ⌜ r ≡ viewOf n ⌝ }
-{
-    if n == 0 {
-        return GuestMemoryViewReadType::Read;
-    }
-    if n == 1 {
-        return GuestMemoryViewReadType::KernelExecute;
-    }
-    GuestMemoryViewReadType::UserExecute
-}
-
-// Whether the permission maps allow an access to a page.
+// Whether the permission maps allow an access to a page: a write by the write map, else by the view's.
 fn is_allowed(
     read: &[u8],
     write: &[u8],
     kernel: &[u8],
     user: &[u8],
-    view: GuestMemoryViewReadType,
+    view: u64,
     gpn: u64,
     writes: bool,
 ) -> bool
-    ensures { λ r. ⌜ r ≡ bitAt 8 (accessMap view writes (perms (now (read .entry)) (now (write .entry)) (now (kernel .entry)) (now (user .entry)))) gpn ⌝ }
+    ensures { λ r. ⌜ r ≡ bitAt 8 (accessMap (viewOf view) writes (perms (now (read .entry)) (now (write .entry)) (now (kernel .entry)) (now (user .entry)))) gpn ⌝ }
 {
     if writes {
         return bitmap::page_state(write, gpn);
     }
-    match view {
-        GuestMemoryViewReadType::Read => bitmap::page_state(read, gpn),
-        GuestMemoryViewReadType::KernelExecute => bitmap::page_state(kernel, gpn),
-        GuestMemoryViewReadType::UserExecute => bitmap::page_state(user, gpn),
+    if view == read_type::READ {
+        return bitmap::page_state(read, gpn);
     }
+    if view == read_type::KERNEL_EXECUTE {
+        return bitmap::page_state(kernel, gpn);
+    }
+    bitmap::page_state(user, gpn)
 }
 
-// A fault on a page that the maps have.
+// A fault on a page: past the maps it has no mark.
 fn fault_action(
     private: &[u8],
     shared: &[u8],
@@ -83,12 +70,12 @@ fn fault_action(
     user: &[u8],
     tracked: bool,
     mapping: GuestValidMemoryType,
-    view: GuestMemoryViewReadType,
+    view: u64,
     gpn: u64,
     writes: bool,
     failure: bool,
 ) -> PageFaultAction
-    ensures { λ r. ⌜ r ≡ faultOf (maps (now (private .entry)) (now (shared .entry)) (now (read .entry)) (now (write .entry)) (now (kernel .entry)) (now (user .entry))) tracked mapping view gpn writes failure ⌝ }
+    ensures { λ r. ⌜ r ≡ faultOf (maps (now (private .entry)) (now (shared .entry)) (now (read .entry)) (now (write .entry)) (now (kernel .entry)) (now (user .entry))) tracked mapping (viewOf view) gpn writes failure ⌝ }
 {
     if !failure {
         return PageFaultAction::NotMapped;
@@ -114,23 +101,16 @@ fn fault_action(
 }
 
 // The number that refuses a fault: 0 where none does.
-fn fault_refusal(
-    fits: bool,
-    mapping: u64,
-    view: u64,
-    writes: u64,
-    failure: u64,
-    inside: bool,
-) -> u64
-    ensures { λ r. ⌜ r ≡ faultRefusal fits mapping view writes failure inside ⌝ }
+fn fault_refusal(fits: bool, mapping: u64, view: u64, writes: u64, failure: u64) -> u64
+    ensures { λ r. ⌜ r ≡ faultRefusal fits mapping view writes failure ⌝ }
 {
     if !fits {
         return refusal::WRONG_LENGTH;
     }
-    if 2 <= mapping {
+    if memory_type::SHARED < mapping {
         return refusal::UNFIT_NUMBER;
     }
-    if 3 <= view {
+    if read_type::USER_EXECUTE < view {
         return refusal::UNFIT_NUMBER;
     }
     if 2 <= writes {
@@ -139,7 +119,7 @@ fn fault_refusal(
     if 2 <= failure {
         return refusal::UNFIT_NUMBER;
     }
-    if inside { 0 } else { refusal::NOT_RAM }
+    0
 }
 
 // A fault at an address, as its numbers cross.
@@ -160,7 +140,6 @@ pub fn page_fault(
 ) -> PageFaultAction
     ensures { λ r. ⌜ r ≡ pageFault (entriesOf (now (ram .entry))) (maps (now (private .entry)) (now (shared .entry)) (now (read .entry)) (now (write .entry)) (now (kernel .entry)) (now (user .entry))) tracked mapping view address writes failure ⌝ }
 {
-    let gpn = address / PAGE_SIZE;
     let len = layout::map_len(ram);
     let lengths = MapLengths {
         private: private.len() as u64,
@@ -176,7 +155,6 @@ pub fn page_fault(
         view,
         writes,
         failure,
-        gpn / 8 < len,
     );
     if n != 0 {
         return PageFaultAction::Refused(n);
@@ -190,8 +168,8 @@ pub fn page_fault(
         user,
         tracked,
         mapping_of(mapping),
-        view_of(view),
-        gpn,
+        view,
+        address / PAGE_SIZE,
         writes == 1,
         failure == 1,
     )
@@ -214,11 +192,11 @@ pub fn fault_value(a: PageFaultAction) -> u64
     ensures { λ r. ⌜ r ≡ faultValue a ⌝ }
 {
     match a {
-        PageFaultAction::Retry => 0,
-        PageFaultAction::NotMapped => 1,
-        PageFaultAction::NotShared => 2,
-        PageFaultAction::NotPrivate => 3,
-        PageFaultAction::VtlProtected => 4,
+        PageFaultAction::Retry => action::RETRY,
+        PageFaultAction::NotMapped => action::NOT_MAPPED,
+        PageFaultAction::NotShared => action::NOT_SHARED,
+        PageFaultAction::NotPrivate => action::NOT_PRIVATE,
+        PageFaultAction::VtlProtected => action::VTL_PROTECTED,
         PageFaultAction::Refused(n) => permissions::hv_error(n),
     }
 }

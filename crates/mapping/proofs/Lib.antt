@@ -1,2 +1,3 @@
 pub mod Marks
 pub mod Six
+pub mod Past

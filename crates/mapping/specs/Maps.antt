@@ -70,7 +70,7 @@ lengthsOf m =
       user = length (m .permissions .user);
     }
 
--- refusal 7 of a fault, and of a query of the maps, where they do not have the page
+-- whether the maps have a page, one in a hole below the last end too
 abbrev pub inMaps : List MemoryRangeWithNode → ℕ → Bool
 inMaps es p = ltb (p / 8) (mapLen es)
 

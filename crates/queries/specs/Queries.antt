@@ -1,5 +1,5 @@
--- Faults and queries of the protector's block (01, "Bitmaps", "From the input" 4, 5, 7 and 8, "From the state" 24). A fault and the permission queries
--- look at no request: they have no 19 and no 20.
+-- Faults and queries of the protector's block (01, "Bitmaps", "From the input" 4, 5, 7 and 8, "From the state" 24; 02, (vi)). A fault and the permission
+-- queries look at no request: they have no 19 and no 20.
 use mathlib.Core.Bool.{cond}
 use mathlib.Core.List.{List, [], _∷_}
 use Prim.Native.Nat.{ℕ}

@@ -111,7 +111,7 @@ queries =
       none = refl;
       long = refl;
       hole = refl;
-      hole-past = refl;
+      past = refl;
       over = refl;
       length = refl;
     }

@@ -4,6 +4,7 @@ pub mod Lists
 pub mod Shares
 pub mod Changes
 pub mod Overlays
+pub mod Past
 pub mod Bars
 pub mod Registrar
 pub mod Limits

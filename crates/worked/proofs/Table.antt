@@ -11,6 +11,7 @@ use Rattle.worked.proofs.Lists.{lists}
 use Rattle.worked.proofs.Shares.{operations, moves, stops, calls, failures}
 use Rattle.worked.proofs.Changes.{protections, default-changes}
 use Rattle.worked.proofs.Overlays.{new-overlays, known-overlays}
+use Rattle.worked.proofs.Past.{past-faults, past-permissions, past-lists}
 use Rattle.worked.proofs.Bars.{bars, locks, queries, turns}
 use Rattle.worked.proofs.Limits.{overlay-limit, first-overlays, last-overlays, lock-limits, page-limits}
 use Rattle.worked.proofs.Registrar.{registrar-builds, registers, all-aligned}
@@ -31,6 +32,9 @@ worked =
       all-aligned = all-aligned;
       faults = faults;
       permissions = permissions;
+      past-faults = past-faults;
+      past-permissions = past-permissions;
+      past-lists = past-lists;
       lists = lists;
       operations = operations;
       moves = moves;

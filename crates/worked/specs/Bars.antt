@@ -153,7 +153,7 @@ pub record Queries : Type 0 where
   pub long : told (page 3 []) (9 ∷ 9 ∷ []) (ok 0) (1 ∷ 9 ∷ [])
   -- 7 at its own index, before any byte, also past a short output
   pub hole : told (page 3 (page 4 (page 16 []))) (9 ∷ 9 ∷ 9 ∷ []) (finished 7 8 2 0) (9 ∷ 9 ∷ 9 ∷ [])
-  pub hole-past : told (page 3 (page 40 [])) (9 ∷ []) (finished 7 8 1 0) (9 ∷ [])
+  pub past : told (page 3 (page 40 [])) (9 ∷ []) (finished 7 8 1 0) (9 ∷ [])
   pub over : told (page 16 (1 ∷ [])) (9 ∷ []) (refused 8 0) (9 ∷ [])
   pub length : queryOf state (0 ∷ []) (page 3 (1 ∷ [])) (9 ∷ []) ≡ query (9 ∷ []) (refused 4 0)
 
@@ -174,10 +174,11 @@ refusals w =
     ∷ lockOf (w .state) (w .tables) 2 (1 ∷ []) .reply .number ∷ unlockOf (w .state) (w .tables) 2 (1 ∷ []) .reply .number ∷ enableOf (w .state) .reply .number
     ∷ enabledIn (w .state) .number ∷ defaultIn (w .state) .number ∷ queryOf (w .state) (w .maps .shared) (1 ∷ []) [] .reply .number ∷ []
 
--- those that don't: of page 4
+-- those that don't: of page 4, and of page 40, past the maps
 abbrev pub passes : Buffers → List ℕ
 passes w =
-    faultIn (w .state) (w .maps) 0 0 16384 0 1 .number ∷ lowerIn (w .state) (w .maps) 0 4 .number ∷ accessIn (w .state) (w .maps) 4 .number ∷ []
+    faultIn (w .state) (w .maps) 0 0 16384 0 1 .number ∷ lowerIn (w .state) (w .maps) 0 4 .number ∷ accessIn (w .state) (w .maps) 4 .number
+    ∷ faultIn (w .state) (w .maps) 0 0 163840 0 1 .number ∷ lowerIn (w .state) (w .maps) 0 40 .number ∷ accessIn (w .state) (w .maps) 40 .number ∷ []
 
 -- lent no `pages` run and no tables
 abbrev pub short : Buffers → Buffers
@@ -194,8 +195,8 @@ pub record Turns : Type 0 where
   pub busy-19 : refusals busy ≡ replicate 12 19
   pub halted-20 : refusals halted ≡ replicate 12 20
   pub idle-input : refusals fresh ≡ 6 ∷ 8 ∷ 8 ∷ 8 ∷ 8 ∷ 8 ∷ 8 ∷ 8 ∷ 0 ∷ 0 ∷ 0 ∷ 8 ∷ []
-  pub busy-passes : passes busy ≡ 0 ∷ 0 ∷ 0 ∷ []
-  pub halted-passes : passes halted ≡ 0 ∷ 0 ∷ 0 ∷ []
+  pub busy-passes : passes busy ≡ replicate 6 0
+  pub halted-passes : passes halted ≡ replicate 6 0
   pub busy-keeps : visibilityOf busy 0 1 (page 4 []) ≡ keeps busy (refused 19 0)
   -- 19 and 20 before a run of wrong length, and that before the other input; the setter, the getters and the query are not lent these runs
   pub busy-short : refusals (short busy) ≡ replicate 12 19

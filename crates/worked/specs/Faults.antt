@@ -1,9 +1,9 @@
--- Faults and permission queries, computed through `faultIn`, `lowerIn` and `accessIn`: document 01, "Bitmaps", "From the input" 4, 7 and 8. The numbers that
+-- Faults and permission queries, computed through `faultIn`, `lowerIn` and `accessIn`: document 01, "Bitmaps", "From the input" 4, 7 and 8; above the last page see `Past`. The numbers that
 -- cross: mapping encrypted 0, shared 1; view Read 0, KernelExecute 1, UserExecute 2; a write 1; a bitmap failure 1. A fault gives 0 Retry, 1 NotMapped, 2 NotShared,
 -- 3 NotPrivate, 4 VtlProtected.
 use mathlib.Core.List.{List, [], _∷_}
 use mathlib.Core.Path.{_≡_}
-use Prim.Native.Nat.{ℕ, _+_, _*_, _^_}
+use Prim.Native.Nat.{ℕ, _*_}
 use lib.ListN.{replicate}
 use Rattle.mapping.specs.Maps.{Maps, maps}
 use Rattle.call_refusals.specs.Buffers.{Buffers}
@@ -58,10 +58,7 @@ pub record Faults : Type 0 where
   pub hole-private : at 0 0 0 16 ≡ value 0 3
   pub hole-shared : at 1 0 0 16 ≡ value 0 2
   pub untracked-write : faultIn tracks-not untracked 0 2 12288 1 1 ≡ value 0 0
-  -- the last byte of the maps, and past it
-  pub last : faultIn tracks split 0 0 163839 0 1 ≡ value 0 0
-  pub past : faultIn tracks split 0 0 163840 0 1 ≡ value 7 8
-  pub past-unfailed : faultIn tracks split 0 0 163840 0 0 ≡ value 7 8
+  -- 8, and 4 before it, past the maps too
   pub mapping-2 : faultIn tracks split 2 0 163840 0 1 ≡ value 8 0
   pub view-3 : faultIn tracks split 0 3 163840 0 1 ≡ value 8 0
   pub write-2 : faultIn tracks split 0 0 163840 2 1 ≡ value 8 0
@@ -80,13 +77,11 @@ pub record Permissions : Type 0 where
   pub lower-vtl0 : flagsOf (lowerIn tracks split 0) ≡ 1 ∷ 2 ∷ 4 ∷ 8 ∷ 15 ∷ []
   pub lower-vtl1 : flagsOf (lowerIn tracks split 1) ≡ 15 ∷ 15 ∷ 15 ∷ 15 ∷ 15 ∷ []
   pub lower-untracked : lowerIn tracks-not untracked 0 3 ≡ value 0 15
-  pub lower-hole : lowerIn tracks split 0 16 ≡ value 7 8
-  pub lower-high : lowerIn tracks split 1 (2 ^ 52 + 3) ≡ value 7 8
   pub lower-vtl2 : lowerIn tracks split 2 16 ≡ value 8 0
   pub lower-length : lowerIn tracks-not split 2 16 ≡ value 4 0
+  pub lower-state-length : lowerIn (replicate 127 0) split 2 16 ≡ value 4 0
   pub access : flagsOf (accessIn tracks split) ≡ 1 ∷ 2 ∷ 4 ∷ 8 ∷ 15 ∷ []
   pub access-hole : accessIn tracks split 16 ≡ value 0 0
-  pub access-last : accessIn tracks split 39 ≡ value 0 15
-  pub access-past : accessIn tracks split 40 ≡ value 7 8
-  pub access-untracked : accessIn tracks-not untracked 40 ≡ value 24 0
-  pub access-length : accessIn tracks-not split 40 ≡ value 4 0
+  pub access-untracked : accessIn tracks-not untracked 3 ≡ value 24 0
+  pub access-length : accessIn tracks-not split 3 ≡ value 4 0
+  pub access-state-length : accessIn (replicate 129 0) split 3 ≡ value 4 0

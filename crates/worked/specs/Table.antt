@@ -16,6 +16,7 @@ use Rattle.worked.specs.Lists.{Lists}
 use Rattle.worked.specs.Shares.{Operations, Moves, Stops, Calls, Failures}
 use Rattle.worked.specs.Changes.{Protections, DefaultChanges}
 use Rattle.worked.specs.Overlays.{NewOverlays, KnownOverlays}
+use Rattle.worked.specs.Past.{PastFaults, PastPermissions, PastLists}
 use Rattle.worked.specs.Bars.{Bars, Locks, Queries, Turns}
 use Rattle.worked.specs.Limits.{OverlayLimit, FirstOverlays, LastOverlays, LockLimits, PageLimits}
 use Rattle.worked.specs.Registrar.{RegistrarBuilds, Registers, AllAligned}
@@ -41,6 +42,10 @@ pub record Worked : Type 0 where
   -- P10
   pub faults : Faults
   pub permissions : Permissions
+  -- above the last page, and in holes
+  pub past-faults : PastFaults
+  pub past-permissions : PastPermissions
+  pub past-lists : PastLists
   -- 512 listed pages, 513, and lists by their bytes
   pub lists : Lists
   -- visibility changes: their operations, when marks move, where they stop (15), how they fail (16, 20)

@@ -7,13 +7,10 @@ returns : tie.Need-returns
 returns c = simp (not-true (c .before .args .fits) (c .if1 .taken))
 
 returns-2 : tie.Need-returns-2
-returns-2 c = simp (not-false (c .before .before .args .fits) (c .before .if1 .left), not-true (c .before .before .args .tracked) (c .if2 .taken))
+returns-2 c = simp (not-false (c .before .before .args .fits) (c .before .if1 .left), c .if2 .taken)
 
 returns-3 : tie.Need-returns-3
-returns-3 c = simp (not-false (c .before .before .before .args .fits) (c .before .before .if1 .left), not-false (c .before .before .before .args .tracked) (c .before .if2 .left), c .if3 .taken)
-
-returns-4 : tie.Need-returns-4
-returns-4 c = simp (not-false (c .before .before .before .args .fits) (c .before .before .if1 .left), not-false (c .before .before .before .args .tracked) (c .before .if2 .left), c .if3 .left)
+returns-3 c = simp (not-false (c .before .before .args .fits) (c .before .if1 .left), c .if2 .left)
 
 pub access-refusal-spec : {M : Type 1} → statement M
-access-refusal-spec = tie.close (tie.spec returns returns-2 returns-3 returns-4)
+access-refusal-spec = tie.close (tie.spec returns returns-2 returns-3)

@@ -26,20 +26,17 @@ returns c =
 mapping-of-requires : tie.Need-mapping-of-requires
 mapping-of-requires c κs = search needs
 
-view-of-requires : tie.Need-view-of-requires
-view-of-requires c κs = search needs
-
 fault-action-requires : tie.Need-fault-action-requires
 fault-action-requires c κs = search needs
 
 returns-2 : tie.Need-returns-2
 returns-2 c =
-    let a = c .before .before .before .before .before .before .before .before .before .before .before .before .before .before .args in
+    let a = c .before .before .before .before .before .before .before .before .before .before .before .before .before .args in
     let m = maps (a .private .now) (a .shared .now) (a .read .now) (a .write .now) (a .kernel .now) (a .user .now) in
     let es = entriesOf (a .ram .now) in
-    fault-given es m (a .tracked) (a .mapping) (a .view) (a .address) (a .writes) (a .failure) _ _ _ (c .before .before .before .before .before .before .map-len .ensures)
-    (c .before .before .before .before .before .maps-fit .ensures) (c .before .before .before .before .fault-refusal .ensures) _ _ _ (c .before .before .before .if1 .left) (c .before .before .mapping-of .ensures)
-    (c .before .view-of .ensures) (c .fault-action .ensures)
+    fault-given es m (a .tracked) (a .mapping) (a .view) (a .address) (a .writes) (a .failure) _ _ _ (c .before .before .before .before .before .map-len .ensures)
+    (c .before .before .before .before .maps-fit .ensures) (c .before .before .before .fault-refusal .ensures) _ _ (c .before .before .if1 .left) (c .before .mapping-of .ensures)
+    (c .fault-action .ensures)
 
 pub page-fault-spec : {M : Type 1} → statement M
 page-fault-spec =
@@ -50,6 +47,5 @@ page-fault-spec =
     fault-refusal-requires
     returns
     mapping-of-requires
-    view-of-requires
     fault-action-requires
     returns-2)
