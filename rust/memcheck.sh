@@ -44,7 +44,9 @@ my @commands = (
     'register_overlay_page 1 1099511627776 dma 0 .', 'unregister_overlay_page 0 8', 'is_overlay_page 1 1099511627776',
     'lock_gpns 0 1,2', 'unlock_gpns 0 1,2', 'set_vtl1_protections_enabled', 'vtl1_protections_enabled',
     'default_vtl0_protections', 'query_lower_vtl_permissions 0 9', 'query_access_permission 9',
-    'page_fault encrypted kx 36864 1 1', 'permissions snp 1 7', 'dump', 'tables', 'register 4096 1',
+    'page_fault encrypted kx 36864 1 1', 'page_fault shared read 18446744073709551615 0 1',
+    'query_lower_vtl_permissions 0 4503599627370499', 'query_access_permission 40',
+    'permissions snp 1 7', 'dump', 'tables', 'register 4096 1',
     'register_all_aligned 65536 1', 'rdump', 'trace 1', 'step 1', 'step 0', 'answer done', 'answer failed 5 1',
     'ranswer done', 'ranswer failed 5 0', 'lend private=7 tables=3', 'lend state=1', 'lend registered=9',
 );

@@ -1,5 +1,6 @@
 //! What was met, and how often.
 
+use crate::protector::place;
 use std::collections::BTreeMap;
 use std::fmt;
 
@@ -25,8 +26,8 @@ pub const NUMBERS: [(&str, &[u64]); 23] = [
     ("default_vtl0_protections", &[4, 19, 20]),
     ("query_host_visibility", &[4, 5, 7, 8, 19, 20]),
     ("query_lower_vtl_permissions", &[4, 7, 8]),
-    ("query_access_permission", &[4, 7, 24]),
-    ("page_fault", &[4, 7, 8]),
+    ("query_access_permission", &[4, 24]),
+    ("page_fault", &[4, 8]),
     ("answer done", &[4, 15, 16, 20, 21]),
     ("answer failed", &[4, 16, 20, 21]),
     ("registrar", &[1, 2, 4, 9]),
@@ -153,8 +154,8 @@ pub struct Coverage {
     lengths: BTreeMap<String, BTreeMap<&'static str, u64>>,
     /// Calls whose answer was compared with the original's.
     pub with_original: u64,
-    /// Calls that lie outside document 01's domain, or that stopped half way: compared with the
-    /// predictor alone.
+    /// Calls that the original can't be asked or answers otherwise, or that stopped half way:
+    /// compared with the predictor alone.
     pub predicted_alone: u64,
     /// Operations compared.
     pub operations: u64,
@@ -163,6 +164,10 @@ pub struct Coverage {
 impl Coverage {
     pub fn meet(&mut self, what: String) {
         *self.met.entry(what).or_default() += 1;
+    }
+
+    pub fn meet_any(&mut self, what: Option<String>) {
+        what.into_iter().for_each(|what| self.meet(what));
     }
 
     pub fn number(&mut self, call: &str, number: u64) {
@@ -212,11 +217,8 @@ impl Coverage {
             let runs = RUNS.iter();
             runs.map(move |run| format!("{call}: a run of {run}"))
         });
-        missing.extend(
-            places
-                .chain(runs)
-                .filter(|what| !self.met.contains_key(what)),
-        );
+        let met = places.chain(runs).chain(place::must_be_met());
+        missing.extend(met.filter(|what| !self.met.contains_key(what)));
         missing
     }
 

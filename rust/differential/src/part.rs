@@ -105,7 +105,7 @@ impl Case {
              differs at       {}\n\
              the port gives   {}\n\
              the original     {original}\n\
-             01 is read as    {}\n",
+             predicted        {}\n",
             short.readers(),
             short.script(),
             shown.line,

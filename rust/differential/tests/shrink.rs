@@ -142,7 +142,7 @@ fn is_shown() {
         "    registrar offset=1099511627776 granularity=70368744177664 ram=0-",
         "    register 5 5 fail=7:5:0\n",
         "\ndiffers at       register 5 5 fail=7:5:0\n",
-        "\nthe port gives   one\nthe original     another\n01 is read as    one\n",
+        "\nthe port gives   one\nthe original     another\npredicted        one\n",
     ] {
         assert!(told.contains(line), "{told}");
     }

@@ -6,6 +6,8 @@ use super::change::List;
 use super::change::hex;
 use super::change::runs;
 use super::change::spans;
+use super::place;
+use super::place::FAULTS;
 use super::predict::Answer;
 use super::predict::Call;
 use super::predict::Given;
@@ -421,27 +423,33 @@ impl Run<'_> {
         let result = query_result(query, &awaited);
         let predicted = format!("{result} | ops=0");
         self.coverage.meet_query(name, query, &awaited, lent);
-        // The original is asked where document 01's domain has the call and nothing is half way.
-        let in_domain = match query {
-            Query::Visibility { list, .. } => {
-                [0, 7].contains(&awaited.number) && numbers(list).iter().all(|page| page >> 52 == 0)
-            }
-            Query::Fault { .. } => awaited.number == 0,
-            Query::Lower { gpn, .. } => [0, 7].contains(&awaited.number) && gpn >> 52 == 0,
-            Query::Access { .. } => [0, 24].contains(&awaited.number),
-            Query::Overlay { .. } | Query::Enabled | Query::Default0 => awaited.number == 0,
-        };
-        let asked = in_domain && self.lives && self.open.is_none() && world.state[0] == 0;
-        let original = asked.then(|| self.ask_original(&query_line(query, true)));
+        self.coverage.meet_any(place::met(world, query, &awaited));
+        let asked = self.asks_original(world, query, &awaited);
         match asked {
-            true => self.coverage.with_original += 1,
+            true => {
+                self.coverage.with_original += 1;
+                let past = place::met_with_original(world, query, name);
+                self.coverage.meet_any(past);
+            }
             false => self.coverage.predicted_alone += 1,
         }
+        let original = asked.then(|| self.ask_original(&query_line(query, true)));
         let plain = without_number(&predicted);
         if given != predicted || original.as_ref().is_some_and(|answer| *answer != plain) {
             return differ(place, line, given, original, predicted);
         }
         self.compare_maps(place)
+    }
+
+    /// Whether a query goes to the original: nothing is half way, the port refuses it by no number
+    /// of its own, and the original gives what documents 01 and 02 say.
+    fn asks_original(&self, world: &World, query: &Query, awaited: &Answer) -> bool {
+        let is_alike = match query {
+            Query::Visibility { list, .. } => numbers(list).iter().all(|page| page >> 52 == 0),
+            _ => place::is_alike(world, query),
+        };
+        let idle = self.open.is_none() && world.state[0] == 0;
+        self.lives && idle && is_alike && [0, 7, 24].contains(&awaited.number)
     }
 
     fn await_build(&mut self, build: &Build, lent: &Lend) -> Awaited {
@@ -641,8 +649,18 @@ impl Run<'_> {
         let given = counted(awaited, isolation);
         self.coverage.meet(format!("{label}{stepped}: {given}"));
         self.coverage.predicted_alone += 1;
+        self.count_pages(act, awaited);
+    }
+
+    fn count_pages(&mut self, act: &Act, awaited: &Awaited) {
         match &act.what {
-            What::Call { change, .. } | What::Start(change) => self.coverage.meet_sizes(change),
+            What::Call { change, .. } | What::Start(change) => {
+                self.coverage.meet_sizes(change);
+                let number = awaited.last.number;
+                let world = self.world.as_ref();
+                let past = world.and_then(|world| place::met_overlay(world, change, number));
+                self.coverage.meet_any(past);
+            }
             What::Build(build) if awaited.kind == Kind::Ended && is_across(&build.ram) => {
                 self.coverage.meet("build: RAM across 128 MiB".to_string());
             }
@@ -704,9 +722,7 @@ impl Coverage {
         };
         self.meet(format!("{name}: {kind}"));
         match query {
-            Query::Overlay { gpn, .. } | Query::Lower { gpn, .. } | Query::Access { gpn } => {
-                self.meet_page(name, *gpn);
-            }
+            Query::Overlay { gpn, .. } => self.meet_page(name, *gpn),
             Query::Visibility { list, .. } => self.meet_edge(name, &numbers(list)),
             _ => (),
         }
@@ -767,14 +783,6 @@ fn last_op(line: &str) -> Option<&str> {
 fn kind_of(op: &str) -> &str {
     op.split(' ').next().unwrap_or(op)
 }
-
-const FAULTS: [&str; 5] = [
-    "Retry",
-    "NotMapped",
-    "NotShared",
-    "NotPrivate",
-    "VtlProtected",
-];
 
 /// A query's line; for the original whole pages by their numbers.
 fn query_line(query: &Query, for_original: bool) -> String {

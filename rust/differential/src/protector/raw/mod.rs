@@ -147,7 +147,7 @@ fn run_call(world: &mut World, call: &Call, odd: &Odd, coverage: &mut Coverage) 
 
 fn run_query(world: &World, query: &Query, odd: &Odd, coverage: &mut Coverage) -> Unlike {
     let awaited: Answer = world.query(query);
-    count::count_query(query, &awaited, coverage);
+    count::count_query(query, world, &awaited, coverage);
     if awaited.number == 4 {
         odd.count(query_name(query), coverage, world, |world| {
             world.query(query).number
