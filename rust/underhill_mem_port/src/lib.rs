@@ -70,6 +70,7 @@ pub use protector::HardwareIsolatedMemoryProtector;
 pub use protector::IsolationType;
 pub use protector::Mapping;
 pub use protector::ModifyError;
+pub use protector::NotRam;
 pub use protector::Operation;
 pub use protector::Overlay;
 pub use protector::PageRun;

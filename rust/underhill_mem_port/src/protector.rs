@@ -667,6 +667,24 @@ mod queries {
 
     impl Error for QueryError {}
 
+    /// 7: a page isn't RAM, though there is RAM above it.
+    #[derive(Debug, Clone, Copy, PartialEq, Eq, Hash)]
+    pub struct NotRam;
+
+    impl fmt::Display for NotRam {
+        fn fmt(&self, f: &mut fmt::Formatter<'_>) -> fmt::Result {
+            Refusal::NotRam.fmt(f)
+        }
+    }
+
+    impl Error for NotRam {}
+
+    impl From<NotRam> for Refusal {
+        fn from(_: NotRam) -> Self {
+            Self::NotRam
+        }
+    }
+
     impl HardwareIsolatedMemoryProtector {
         fn seen(&self) -> Seen<'_> {
             let [private, shared, read, write, kernel, user] = &self.maps;
@@ -707,7 +725,7 @@ mod queries {
             Ok(())
         }
 
-        /// What a fault at an address leads to.
+        /// What a fault at an address leads to. Past the end of RAM no page is private or shared.
         pub fn page_fault(
             &self,
             mapping: Mapping,
@@ -715,7 +733,7 @@ mod queries {
             address: u64,
             write: bool,
             bitmap_failure: bool,
-        ) -> Result<Fault, Refusal> {
+        ) -> Fault {
             let answer = raw::page_fault(
                 self.seen(),
                 u64::from(mapping as u8),
@@ -724,33 +742,42 @@ mod queries {
                 u64::from(write),
                 u64::from(bitmap_failure),
             );
-            Ok(match value(answer)? {
-                0 => Fault::Retry,
-                1 => Fault::NotMapped,
-                2 => Fault::NotShared,
-                3 => Fault::NotPrivate,
-                4 => Fault::VtlProtected,
-                _ => unreachable!("a fault's contract has no other answer"),
-            })
+            match (answer.number, answer.value) {
+                (0, 0) => Fault::Retry,
+                (0, 1) => Fault::NotMapped,
+                (0, 2) => Fault::NotShared,
+                (0, 3) => Fault::NotPrivate,
+                (0, 4) => Fault::VtlProtected,
+                _ => unreachable!("what is lent fits, and a fault has no other answer"),
+            }
         }
 
-        /// The flags that a VTL has on a page, as far as lower VTLs decide.
+        /// The flags that a VTL has on a page, as far as lower VTLs decide: of VTL0 those in the
+        /// permission maps if they are tracked, else all four.
+        ///
+        /// Past the end of RAM the maps have none. A page in a hole below it is refused.
         pub fn query_lower_vtl_permissions(
             &self,
             vtl: GuestVtl,
             gpn: u64,
-        ) -> Result<Flags, Refusal> {
-            value(raw::query_lower_vtl_permissions(
-                self.seen(),
-                number(vtl),
-                gpn,
-            ))
-            .map(flags)
+        ) -> Result<Flags, NotRam> {
+            let answer = raw::query_lower_vtl_permissions(self.seen(), number(vtl), gpn);
+            match answer.number {
+                0 => Ok(flags(answer.value)),
+                7 => Err(NotRam),
+                _ => unreachable!("what is lent fits, and this query has no other number"),
+            }
         }
 
-        /// The flags of a page in the permission maps.
-        pub fn query_access_permission(&self, gpn: u64) -> Result<Flags, Refusal> {
-            value(raw::query_access_permission(self.seen(), gpn)).map(flags)
+        /// The flags of a page in the permission maps, [`Flags::NONE`] outside RAM. None if they
+        /// aren't tracked.
+        pub fn query_access_permission(&self, gpn: u64) -> Option<Flags> {
+            let answer = raw::query_access_permission(self.seen(), gpn);
+            match answer.number {
+                0 => Some(flags(answer.value)),
+                24 => None,
+                _ => unreachable!("what is lent fits, and this query has no other number"),
+            }
         }
     }
 }

@@ -229,7 +229,8 @@ pub fn query_host_visibility(state: &[u64], shared: &[u8], list: &[u8], out: &mu
 
 /// `mapping` is 0 for the encrypted one, 1 for the shared; `view` is 0 for read, 1 for kernel
 /// execute, 2 for user execute; `writes` and `failure` are 0 or 1. The answer is 0 for Retry, 1
-/// for NotMapped, 2 for NotShared, 3 for NotPrivate, 4 for VtlProtected.
+/// for NotMapped, 2 for NotShared, 3 for NotPrivate, 4 for VtlProtected. Refused by 4 and 8: past
+/// the maps no page is marked.
 pub fn page_fault(
     seen: Seen<'_>,
     mapping: u64,
@@ -245,12 +246,13 @@ pub fn page_fault(
     )
 }
 
-/// The flags that a VTL has on a page, as far as lower VTLs decide.
+/// The flags that a VTL has on a page, as far as lower VTLs decide. Refused by 4, 8 and, in a hole
+/// of the layout, 7: a page past the maps is in none.
 pub fn query_lower_vtl_permissions(seen: Seen<'_>, vtl: u64, gpn: u64) -> Value {
     look!(protector_query_lower_vtl_permissions, seen, [vtl, gpn])
 }
 
-/// The flags of a page in the permission maps.
+/// The flags of a page in the permission maps, none past their end. Refused by 4 and 24.
 pub fn query_access_permission(seen: Seen<'_>, gpn: u64) -> Value {
     look!(protector_query_access_permission, seen, [gpn])
 }

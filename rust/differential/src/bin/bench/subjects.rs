@@ -145,7 +145,7 @@ impl Subject for HardwareIsolatedMemoryProtector {
             true => Mapping::Shared,
             false => Mapping::Encrypted,
         };
-        self.page_fault(mapping, View::Read, address, false, true) == Ok(Fault::Retry)
+        self.page_fault(mapping, View::Read, address, false, true) == Fault::Retry
     }
 
     fn query(&mut self, pages: &[u64]) -> bool {
