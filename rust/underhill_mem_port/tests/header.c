@@ -81,8 +81,13 @@ static int queries(void)
     CHECK(value.number == 0 && value.value == 3);
     value = protector_query_lower_vtl_permissions(MAPS, STATE, 1, 9);
     CHECK(value.number == 0 && value.value == 15);
+    /* Past the maps no page is marked, and none has flags there. */
+    value = protector_page_fault(MAPS, STATE, 1, 0, UINT64_MAX, 0, 1);
+    CHECK(value.number == 0 && value.value == 2);
+    value = protector_query_lower_vtl_permissions(MAPS, STATE, 0, 16);
+    CHECK(value.number == 0 && value.value == 0);
     value = protector_query_access_permission(MAPS, STATE, 16);
-    CHECK(value.number == 7);
+    CHECK(value.number == 0 && value.value == 0);
     return 1;
 }
 
