@@ -62,18 +62,27 @@ fn changes(seed: u64, coverage: &mut Coverage) -> Part {
             }
         }
     }
-    for isolation in [2, 3, 4] {
-        let build = calls::Build {
-            isolation,
-            tracked: 1,
-            release: 0,
-            layout: LAYOUTS[2],
-            enable: true,
-        };
-        calls::record_locked_overlay(build, &mut part, coverage);
-        calls::record_count(build, &mut part, coverage);
-    }
+    written_out(&mut part, coverage);
     part
+}
+
+/// The lists of the protector's calls that are written out.
+fn written_out(part: &mut Part, coverage: &mut Coverage) {
+    let build = |isolation: u64, tracked: u64| calls::Build {
+        isolation,
+        tracked,
+        release: 0,
+        layout: LAYOUTS[2],
+        enable: true,
+    };
+    for isolation in [2, 3, 4] {
+        calls::record_locked_overlay(build(isolation, 1), part, coverage);
+        calls::record_count(build(isolation, 1), part, coverage);
+    }
+    for isolation in [2, 3, 4] {
+        calls::record_past(build(isolation, 1), part, coverage);
+        calls::record_past(build(isolation, 0), part, coverage);
+    }
 }
 
 /// The registrar's part.
