@@ -88,6 +88,10 @@ pub trait Subject {
     fn unlock(&mut self, pages: &[u64]) -> bool;
     /// A fault of a read by one of the mappings where its bitmap failed: whether it is tried again.
     fn fault(&mut self, shared: bool, address: u64) -> bool;
+    /// Whether VTL0 has all permissions on a page.
+    fn lower(&mut self, gpn: u64) -> bool;
+    /// The same by the permission maps.
+    fn access(&mut self, gpn: u64) -> bool;
     /// Of at most 512 pages.
     fn query(&mut self, pages: &[u64]) -> bool;
 }
@@ -146,6 +150,14 @@ impl Subject for HardwareIsolatedMemoryProtector {
             false => Mapping::Encrypted,
         };
         self.page_fault(mapping, View::Read, address, false, true) == Fault::Retry
+    }
+
+    fn lower(&mut self, gpn: u64) -> bool {
+        self.query_lower_vtl_permissions(VTL0, gpn) == Ok(Flags::ALL)
+    }
+
+    fn access(&mut self, gpn: u64) -> bool {
+        self.query_access_permission(gpn) == Some(Flags::ALL)
     }
 
     fn query(&mut self, pages: &[u64]) -> bool {
@@ -222,6 +234,18 @@ impl Subject for Original {
         };
         let action = view.page_fault(address, 1, false, true);
         matches!(action, PageFaultAction::Retry)
+    }
+
+    fn lower(&mut self, gpn: u64) -> bool {
+        let given = self
+            .mappings
+            .query_lower_vtl_permissions(GuestVtl::Vtl0, gpn);
+        given.is_ok_and(|given| given.into_bits() == flags(15).into_bits())
+    }
+
+    fn access(&mut self, gpn: u64) -> bool {
+        let given = self.mappings.query_access_permission(gpn);
+        given.is_some_and(|given| given.into_bits() == flags(15).into_bits())
     }
 
     fn query(&mut self, pages: &[u64]) -> bool {
