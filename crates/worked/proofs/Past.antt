@@ -74,6 +74,7 @@ past-permissions =
       gaps-past = refl;
       hole-access = refl;
       hole-fault = refl;
+      hole-fault-shared = refl;
       unaligned-vtl0 = refl;
       unaligned-vtl1 = refl;
       lent = record { long = refl; fits = refl };
@@ -110,4 +111,6 @@ past-lists =
       dma-vtl0 = refl;
       dma-vtl1 = refl;
       dma-untracked = refl;
+      dma-vtl1-entry = refl;
+      dma-untracked-entry = refl;
     }

@@ -63,6 +63,10 @@ pub record Faults : Type 0 where
   pub view-3 : faultIn tracks split 0 3 163840 0 1 ≡ value 8 0
   pub write-2 : faultIn tracks split 0 0 163840 2 1 ≡ value 8 0
   pub failure-2 : faultIn tracks split 0 0 163840 0 2 ≡ value 8 0
+  -- without a bitmap failure, on the shared mapping and for a write too
+  pub unfit-unfailed : faultIn tracks split 2 0 12288 0 0 ∷ faultIn tracks split 0 3 12288 0 0 ∷ faultIn tracks split 0 0 12288 2 0 ∷ [] ≡ replicate 3 (value 8 0)
+  pub view-3-shared : faultIn tracks split 1 3 12288 0 1 ≡ value 8 0
+  pub view-3-write : faultIn tracks split 0 3 12288 1 1 ≡ value 8 0
   pub length-first : faultIn tracks-not split 2 0 163840 0 1 ≡ value 4 0
   pub state-length : faultIn (replicate 127 0) split 2 0 0 0 1 ≡ value 4 0
   -- while an operation waits, and the private mark is gone by then; no shared one is set yet

@@ -18,7 +18,7 @@ use Rattle.queries.specs.Queries.{queryOf, faultIn, lowerIn, accessIn}
 use Rattle.visibility_claims.specs.Table.{page, fresh}
 use Rattle.worked.specs.Crossing.{ok, refused, keeps, waits, protects, allRam, clear, untracked}
 use Rattle.worked.specs.Faults.{split, tracks, tracks-not, under-way}
-use Rattle.worked.specs.Overlays.{without}
+use Rattle.worked.specs.Overlays.{in0, in1, without}
 
 -- ---- faults: at the last address of the last page, the next, 2^52 and the highest, whose page is 2^52 - 1
 
@@ -112,7 +112,8 @@ pub record PastPermissions : Type 0 where
   pub gaps-past : lowerIn gaps gaps-maps 0 48 ∷ lowerIn gaps gaps-maps 1 48 ∷ [] ≡ value 0 0 ∷ value 0 15 ∷ []
   -- the maps' own bits count, in a hole too
   pub hole-access : accessIn tracks set-in-a-hole 16 ∷ lowerIn tracks set-in-a-hole 0 16 ∷ [] ≡ value 0 1 ∷ value 7 8 ∷ []
-  pub hole-fault : faultIn tracks set-in-a-hole 0 0 65536 0 1 ≡ value 0 0
+  pub hole-fault : faultIn tracks set-in-a-hole 0 0 65536 0 1 ∷ faultIn tracks set-in-a-hole 0 1 65536 0 1 ∷ [] ≡ value 0 0 ∷ value 0 4 ∷ []
+  pub hole-fault-shared : faultIn tracks (maps clear hole-set clear clear clear clear) 1 1 65536 1 1 ≡ value 0 0
   -- it is the maps' length that counts, also where the entries don't fit it
   pub unaligned-vtl0 : map (lowerIn unaligned one-byte 0) (0 ∷ 1 ∷ 8 ∷ 10 ∷ []) ≡ value 0 15 ∷ value 7 8 ∷ value 0 0 ∷ value 0 0 ∷ []
   pub unaligned-vtl1 : map (lowerIn unaligned one-byte 1) (0 ∷ 1 ∷ 8 ∷ 10 ∷ []) ≡ value 0 15 ∷ value 7 8 ∷ value 0 15 ∷ value 0 15 ∷ []
@@ -162,3 +163,6 @@ pub record PastLists : Type 0 where
   pub dma-vtl0 : dma fresh 0 ≡ refused 7 8 ∷ replicate 4 waits
   pub dma-vtl1 : dma fresh 1 ≡ refused 7 8 ∷ replicate 4 waits
   pub dma-untracked : dma without 0 ≡ refused 7 8 ∷ replicate 4 waits
+  -- and has no flags, whatever a VTL has on guest memory
+  pub dma-vtl1-entry : registerOf fresh 1 40 1 15 16 .buffers .tables ≡ in1 (1 ∷ 40 ∷ 0 ∷ 0 ∷ 1 ∷ 1 ∷ [])
+  pub dma-untracked-entry : registerOf without 0 40 1 15 16 .buffers .tables ≡ in0 (1 ∷ 40 ∷ 0 ∷ 0 ∷ 1 ∷ 1 ∷ [])
