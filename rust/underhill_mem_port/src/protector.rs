@@ -725,7 +725,8 @@ mod queries {
             Ok(())
         }
 
-        /// What a fault at an address leads to. Past the end of RAM no page is private or shared.
+        /// What a fault at an address leads to: past the end of RAM to `NotMapped` or, after a bitmap
+        /// failure, to `NotPrivate` or `NotShared`.
         pub fn page_fault(
             &self,
             mapping: Mapping,
@@ -755,7 +756,8 @@ mod queries {
         /// The flags that a VTL has on a page, as far as lower VTLs decide: of VTL0 those in the
         /// permission maps if they are tracked, else all four.
         ///
-        /// Past the end of RAM the maps have none. A page in a hole below it is refused.
+        /// Past the end of RAM that is [`Flags::NONE`] for VTL0 if they are tracked, else all four. A
+        /// page in a hole below it is refused.
         pub fn query_lower_vtl_permissions(
             &self,
             vtl: GuestVtl,
@@ -769,8 +771,8 @@ mod queries {
             }
         }
 
-        /// The flags of a page in the permission maps, [`Flags::NONE`] outside RAM. None if they
-        /// aren't tracked.
+        /// The flags of a page in the permission maps, [`Flags::NONE`] outside RAM; `None` where
+        /// permissions aren't tracked.
         pub fn query_access_permission(&self, gpn: u64) -> Option<Flags> {
             let answer = raw::query_access_permission(self.seen(), gpn);
             match answer.number {

@@ -428,7 +428,7 @@ impl Run<'_> {
         match asked {
             true => {
                 self.coverage.with_original += 1;
-                let past = place::met_with_original(world, query, name);
+                let past = place::met_with_original(world, query, name, &awaited);
                 self.coverage.meet_any(past);
             }
             false => self.coverage.predicted_alone += 1,

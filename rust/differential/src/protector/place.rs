@@ -21,7 +21,7 @@ enum Place {
     /// Past the maps, not past the original's.
     HostPage,
     Past,
-    /// No fault is there.
+    /// From 2^52 on, where no fault is.
     High,
     /// The highest that a call can name.
     Highest,
@@ -157,9 +157,19 @@ fn compared(call: &str) -> String {
     format!("{call}: past the maps with the original")
 }
 
-pub(super) fn met_with_original(world: &World, query: &Query, name: &str) -> Option<String> {
+/// A fault without bitmap failure, or a query without tracking, reads no map and doesn't count.
+pub(super) fn met_with_original(
+    world: &World,
+    query: &Query,
+    name: &str,
+    given: &Answer,
+) -> Option<String> {
     let (_, page, _) = asked(query)?;
-    (page >= world.end()).then(|| compared(name))
+    let counts = match query {
+        Query::Fault { failure, .. } => *failure == 1,
+        _ => given.number == 0,
+    };
+    (counts && page >= world.end()).then(|| compared(name))
 }
 
 /// A guest page past the maps, which no VTL may have as overlay.

@@ -229,8 +229,8 @@ pub fn query_host_visibility(state: &[u64], shared: &[u8], list: &[u8], out: &mu
 
 /// `mapping` is 0 for the encrypted one, 1 for the shared; `view` is 0 for read, 1 for kernel
 /// execute, 2 for user execute; `writes` and `failure` are 0 or 1. The answer is 0 for Retry, 1
-/// for NotMapped, 2 for NotShared, 3 for NotPrivate, 4 for VtlProtected. Refused by 4 and 8: past
-/// the maps no page is marked.
+/// for NotMapped, 2 for NotShared, 3 for NotPrivate, 4 for VtlProtected. Refused by 4 and 8
+/// alone. Past the maps no page is marked.
 pub fn page_fault(
     seen: Seen<'_>,
     mapping: u64,
@@ -247,7 +247,7 @@ pub fn page_fault(
 }
 
 /// The flags that a VTL has on a page, as far as lower VTLs decide. Refused by 4, 8 and, in a hole
-/// of the layout, 7: a page past the maps is in none.
+/// of the layout, 7. A page past the maps is in no hole.
 pub fn query_lower_vtl_permissions(seen: Seen<'_>, vtl: u64, gpn: u64) -> Value {
     look!(protector_query_lower_vtl_permissions, seen, [vtl, gpn])
 }
