@@ -1,8 +1,7 @@
 #!/usr/bin/env bash
 # Shows that the differential run would see a fault: each edit below changes little, mostly one operand,
 # in a copy of the original's source, and each must be reported as a difference and shrunk to a short list
-# of calls. First the source as it is must give none. The last edits are of the port's own code, which is
-# then compiled without its proofs (unproved.py). Prints a table (docs/SENSITIVITY.md).
+# of calls. First the source as it is must give none. Prints a table (docs/SENSITIVITY.md).
 #
 #   ./sensitivity.sh [CALLS [FILE [FROM [TO]]]]
 #
@@ -24,13 +23,14 @@ trap 'rm -rf "$copy"' EXIT
 number=0 tried=0 missed=0
 
 # edit FILE FROM TO [FROM TO]: makes the edit in a copy and runs on it. FROM is replaced where it first stands, `N:FROM`
-# where it stands for the Nth time. FILE is the original's, or one of the port's crates.
+# where it stands for the Nth time.
 edit() {
     local file=$1
     number=$((number + 1))
     if [ -n "$only" ] && [ "$file" != "$only" ] || [ "$number" -lt "$first" ] || [ "$number" -gt "$last" ]; then return; fi
     tried=$((tried + 1))
-    copy_all
+    cp "$source"/*.rs "$copy/"
+    chmod u+w "$copy"/*.rs
     shift
     local shown=''
     while [ $# -gt 0 ]; do
@@ -39,32 +39,14 @@ edit() {
         shift 2
     done
     local said
-    if said=$(run_on "$file"); then
+    if said=$(run); then
         row "$file" "$shown" "MISSED in $calls calls"
     else
         report "$file" "$shown" "$said"
     fi
 }
 
-# The sources as they are.
-copy_all() {
-    cp "$source"/*.rs "$copy/"
-    chmod u+w "$copy"/*.rs
-    (cd .. && cp -r --parents crates.txt crates/*/src rust/unproved.py "$copy/")
-}
-
-# A run on the copy in which that file was edited.
-run_on() {
-    case $1 in
-    crates/*)
-        "$copy/rust/unproved.py" "$copy/lib" >/dev/null || exit 2
-        UNDERHILL_MEM_LIB=$copy/lib run
-        ;;
-    *) run ;;
-    esac
-}
-
-# Not optimized in full, and built from what is there: the edits come to one crate.
+# A run on the copy. Not optimized in full, and built from what is there: the edits come to one crate.
 run() {
     UNDERHILL_MEM_SRC=$copy cargo build --offline --quiet --target-dir "$target" -p differential --bin differential >&2 || exit 2
     "$target"/debug/differential --calls "$calls" --seed 1 2>/dev/null
@@ -74,10 +56,7 @@ replace() {
     local nth=1 from=$2
     if [[ $from =~ ^([0-9]):(.*)$ ]]; then nth=${BASH_REMATCH[1]} from=${BASH_REMATCH[2]}; fi
     FROM=$from TO=$3 NTH=$nth perl -0pi -e 's/\Q$ENV{FROM}\E/++$n == $ENV{NTH} ? $ENV{TO} : $&/ge' "$copy/$1"
-    case $1 in
-    crates/*) ! cmp -s "../$1" "$copy/$1" ;;
-    *) ! cmp -s "$source/$1" "$copy/$1" ;;
-    esac
+    ! cmp -s "$source/$1" "$copy/$1"
 }
 
 nth() { if [[ $1 =~ ^([0-9]): ]]; then echo " (number ${BASH_REMATCH[1]})"; fi; }
@@ -101,13 +80,9 @@ tell() { echo "| $number | $1 | $2 | $3 |"; }
 
 cell() { echo "\`$(tr '\n' ' ' <<<"$1" | sed 's/  */ /g; s/ *$//; s/|/\\|/g')\`"; }
 
-# A run that must find nothing, on sources as they are.
-unedited() {
-    copy_all
-    run_on "$1" >/dev/null || { echo "sensitivity.sh: the source as it is shows a difference" >&2; exit 2; }
-}
-
-unedited lib.rs
+cp "$source"/*.rs "$copy/"
+chmod u+w "$copy"/*.rs
+run >/dev/null || { echo "sensitivity.sh: the source as it is shows a difference" >&2; exit 2; }
 
 echo '| | file | edit | shrunk to |'
 echo '|---|---|---|---|'
@@ -225,61 +200,6 @@ edit mapping.rs 'let gpn = address / PAGE_SIZE as u64;' 'let gpn = (address + 1)
 # ---- the registrar's layouts that end high
 
 edit registrar.rs 'return Err(range.start());' 'return Err(range.start() / self.granularity * self.granularity);'
-
-# ---- the port: pages that a visibility change names again
-
-pages=crates/request_pages/src/lib.rt
-if [ "$last" -gt "$number" ] && { [ -z "$only" ] || [[ $only == crates/* ]]; }; then unedited "$pages"; fi
-
-# A repeat asked for again.
-edit $pages '!is_stored(pages, stored, gpn)' 'true'
-edit $pages 'if numbers::word_at(pages, i) == gpn {' 'if numbers::word_at(pages, i) == gpn + 1 {'
-# The page stored first, and the one stored last, not looked at.
-edit $pages 'while 0 < i {' 'while 1 < i {'
-edit $pages 'let mut i = numbers::min(stored, pages.len() as u64);' 'let mut i = numbers::saturating_sub(numbers::min(stored, pages.len() as u64), 1);'
-# The last place counted.
-edit $pages 'let keep = is_kept(pages, stored, low, high, shared, share, gpn);' 'let mut keep = is_wanted(shared, share, gpn);
-        let mut j = i + 1;
-        while j < n {
-            if page_list::page_at(list, j) == gpn {
-                keep = false;
-            }
-            j += 1;
-        }'
-# An index among the pages without repeats, of 16; of 15, without those next to themselves.
-edit $pages 'stored = store_one(pages, stored, gpn, i, keep);' 'stored = store_one(pages, stored, gpn, i - repeats, keep);
-        if is_wanted(shared, share, gpn) {
-            if !keep {
-                repeats += 1;
-            }
-        }' 'let mut high = low;' 'let mut high = low;
-    let mut repeats: u64 = 0;'
-edit $pages 'return i;' 'return i - again;' 'while i < n {' 'while i < n {
-        if 0 < i {
-            if page_list::page_at(list, i - 1) == page_list::page_at(list, i) {
-                again += 1;
-            }
-        }' 'let mut i: u64 = 0;' 'let mut again: u64 = 0;
-    let mut i: u64 = 0;'
-# What lies outside of the pages stored.
-edit $pages 'low = numbers::min(low, gpn);' 'low = numbers::max(low, gpn);'
-edit $pages 'high = numbers::max(high, gpn);' 'high = numbers::min(high, gpn);'
-edit $pages 'if gpn < low {' 'if gpn <= low {'
-edit $pages 'if high < gpn {' 'if high <= gpn {'
-# A page that drops out asked for where it stands again.
-edit $pages 'let keep = is_kept(pages, stored, low, high, shared, share, gpn);' 'let mut keep = is_kept(pages, stored, low, high, shared, share, gpn);
-        if 0 < i {
-            if page_list::page_at(list, i - 1) == gpn {
-                keep = !is_wanted(shared, share, gpn);
-            }
-        }'
-# 6 for a page next to itself.
-edit crates/call_refusals/src/lib.rt 'if !permissions::is_vtl(vtl) {' 'if 1 < page_list::page_count(list) {
-        if page_list::page_at(list, 0) == page_list::page_at(list, 1) {
-            return 6;
-        }
-    }
-    if !permissions::is_vtl(vtl) {'
 
 echo
 echo "sensitivity: $tried edits, $missed missed"

@@ -19,7 +19,6 @@ wrong_length = 4
 abbrev pub long_list : ℕ
 long_list = 5
 
--- a page that stands twice: no definition of a call has it any more (02, (iii))
 abbrev pub repeated_page : ℕ
 repeated_page = 6
 

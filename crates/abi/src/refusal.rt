@@ -11,8 +11,9 @@ pub const UNFIT_ISOLATION: u64 = 3;
 // Of what is lent.
 pub const WRONG_LENGTH: u64 = 4;
 
-// 6, a page that stands twice, is given no more.
 pub const LONG_LIST: u64 = 5;
+
+pub const REPEATED_PAGE: u64 = 6;
 
 // Or RAM, where a Dma page must not be.
 pub const NOT_RAM: u64 = 7;

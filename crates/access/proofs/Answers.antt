@@ -1,10 +1,11 @@
 -- What a permission query gives, a law for each return. Assumes nothing.
-use mathlib.Core.Bool.{Bool, false, not, ◌&&◌}
+use mathlib.Core.Bool.{Bool, true, false, not, cond, ◌&&◌}
 use mathlib.Core.List.{List}
-use mathlib.Core.Path.{◌≡◌, refl, ap, ◌∙◌}
+use mathlib.Core.Path.{◌≡◌, refl, sym, ap, ◌∙◌}
 use Prim.Native.Nat.{ℕ, ◌/◌}
-use lib.Dec.{ltb}
-use Rattle.laws.specs.Refusal.{refused, answered, number_given}
+use borrow.Author.Tests.{eqb-true}
+use lib.Dec.{eqb, ltb}
+use Rattle.laws.specs.Refusal.{refused, answered}
 use Rattle.layout.specs.declared.MemoryRangeWithNode.{MemoryRangeWithNode}
 use Rattle.layout.specs.Layout.{is_ram, map_len}
 use Rattle.permissions.specs.declared.GuestVtl.{GuestVtl}
@@ -13,7 +14,7 @@ use Rattle.permissions.specs.declared.HvMapGpaFlags.{HvMapGpaFlags}
 use Rattle.permissions.specs.Flags.{vtl_of, all_flags}
 use Rattle.mapping.specs.Maps.{Permissions, Maps, maps_fit, lengths_of, flags_at}
 use Rattle.access.specs.declared.PermissionsAnswer.TheVariants.{Flags, Refused}
-use Rattle.access.specs.Query.{access_refusal, access_permission, is_hole, lower_refusal, lower_flags, lower_vtl_permissions, permissions_number}
+use Rattle.access.specs.Query.{answer, access_refusal, access_permission, is_hole, lower_refusal, lower_flags, lower_vtl_permissions, permissions_number}
 
 -- the permission queries
 module _ (es : List MemoryRangeWithNode) (m : Maps) (tracked : Bool) (p n len : ℕ) (fits : Bool) (l : len ≡ map_len es) (f : fits ≡ maps_fit len tracked (lengths_of m)) where
@@ -55,10 +56,17 @@ module _ (m : Permissions) (p : ℕ) where
 
 -- what refuses a query
 module _ (es : List MemoryRangeWithNode) (m : Maps) (tracked : Bool) (p : ℕ) where
+  number_of : (n : ℕ) (f : HvMapGpaFlags) → permissions_number (answer n f) ≡ n
+  number_of n f = go (eqb n 0) refl
+    where
+      go : (b : Bool) → eqb n 0 ≡ b → permissions_number (cond b (Flags f) (Refused n)) ≡ n
+      go true e = sym (eqb-true n 0 e)
+      go false e = refl
+
   pub access_number : permissions_number (access_permission es m tracked p) ≡ access_refusal (maps_fit (map_len es) tracked (lengths_of m)) tracked
   unfolding access_permission
-  access_number = number_given permissions_number (access_refusal (maps_fit (map_len es) tracked (lengths_of m)) tracked) (Flags (flags_at m.permissions p)) Refused refl refl
+  access_number = number_of (access_refusal (maps_fit (map_len es) tracked (lengths_of m)) tracked) (flags_at m.permissions p)
 
   pub lower_number : (vtl : ℕ) → permissions_number (lower_vtl_permissions es m tracked vtl p) ≡ lower_refusal (maps_fit (map_len es) tracked (lengths_of m)) vtl (is_hole es p)
   unfolding lower_vtl_permissions
-  lower_number vtl = number_given permissions_number (lower_refusal (maps_fit (map_len es) tracked (lengths_of m)) vtl (is_hole es p)) (Flags (lower_flags m.permissions tracked (vtl_of vtl) p)) Refused refl refl
+  lower_number vtl = number_of (lower_refusal (maps_fit (map_len es) tracked (lengths_of m)) vtl (is_hole es p)) (lower_flags m.permissions tracked (vtl_of vtl) p)

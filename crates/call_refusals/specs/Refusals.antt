@@ -6,7 +6,7 @@ use Rattle.laws.specs.Refusal.{unless, when, first}
 use Rattle.layout.specs.declared.MemoryRangeWithNode.{MemoryRangeWithNode}
 use Rattle.layout.specs.Layout.{refusal_of, is_ram}
 use Rattle.permissions.specs.Flags.{fit_vtl, vtl_of, fit_isolation, fit_bool, bool_of}
-use Rattle.page_list.specs.Pages.{pages_of, is_long, is_ragged}
+use Rattle.page_list.specs.Pages.{pages_of, is_long, repeats, is_ragged}
 use Rattle.overlay_table.specs.Overlays.{is_overlay}
 use Rattle.protector_state.specs.State.{state_len, entries_in}
 use Rattle.call_refusals.specs.declared.Lengths.{Lengths}
@@ -35,15 +35,16 @@ unfoldable pub first_refusal : (ℕ → ℕ) → List ℕ → ℕ
 first_refusal f [] = 0
 first_refusal f (gpn ∷ ps) = first (f gpn) (first_refusal f ps)
 
--- then 5 and 8; a visibility as it crosses: private 0, shared 1. Repeats refuse nothing (02, (iii))
+-- then 5, 6, 8; a visibility as it crosses: private 0, shared 1
 unfoldable pub visibility_refusal : List ℕ → Bool → List ℕ → ℕ → ℕ → List ℕ → ℕ
 visibility_refusal state fit tables vtl visibility list =
     ready state fit
     (when (is_long list) refusal.long_list
+    (when (repeats (pages_of list)) refusal.repeated_page
     (unless (fit_vtl vtl) refusal.unfit_number
     (unless (fit_bool visibility) refusal.unfit_number
     (when (is_ragged list) refusal.unfit_number
-    (first_refusal (page_refusal (entries_in state) (overlays_of tables (vtl_of vtl)) (locks_of tables (vtl_of vtl)) (bool_of visibility)) (pages_of list))))))
+    (first_refusal (page_refusal (entries_in state) (overlays_of tables (vtl_of vtl)) (locks_of tables (vtl_of vtl)) (bool_of visibility)) (pages_of list)))))))
 
 -- ---- an answer passes 19: 4 of the state block, 20, 4 of what else is lent, 21
 

@@ -197,6 +197,9 @@ pub fn visibility_refusal(
     if page_list::is_long(list) {
         return refusal::LONG_LIST;
     }
+    if page_list::has_repeat(list) {
+        return refusal::REPEATED_PAGE;
+    }
     if !permissions::is_vtl(vtl) {
         return refusal::UNFIT_NUMBER;
     }
@@ -206,12 +209,12 @@ pub fn visibility_refusal(
     if page_list::is_ragged(list) {
         return refusal::UNFIT_NUMBER;
     }
-    // Called at two places, the walk is compiled as a function of its own, with the registers that it needs.
-    if vtl == 0 {
-        listed_refusal(state, tables, GuestVtl::Vtl0, visibility == 1, list)
-    } else {
-        listed_refusal(state, tables, GuestVtl::Vtl1, visibility == 1, list)
+    // One test more before the walk: so far down it is compiled as a function of its own, with the registers that it needs.
+    if page_list::page_count(list) == 0 {
+        return 0;
     }
+    let v = permissions::vtl_of(vtl);
+    listed_refusal(state, tables, v, visibility == 1, list)
 }
 
 // Whether the operation of a phase can fail.

@@ -12,7 +12,6 @@ use Rattle.permissions.specs.declared.GuestVtl.{GuestVtl}
 use Rattle.permissions.specs.Flags.{vtl_of, flags_of, bits_of}
 use Rattle.page_list.specs.Pages.{pages_of}
 use Rattle.page_list.specs.Runs.{part, runs_of, run}
-use Rattle.request_pages.specs.Request.{every_place}
 use Rattle.request_pages.proofs.Table.{in_use, length_table, pages_few, pick_each}
 use Rattle.overlay_table.specs.declared.OverlayPage.{OverlayPage}
 use Rattle.overlay_table.specs.Overlays.{is_overlay, entry, add_words}
@@ -78,8 +77,8 @@ from_call w t T x W gs h =
 
 -- ---- change_vtl_protections
 
-pub listed : (l t : List ℕ) → part (all_listed l t) (length (pages_of l)) 0 ≡ pages_of l
-listed l t = subst (λ (ps : List ℕ). part (all_listed l t) (length ps) 0 ≡ ps) (pick_each 0 (pages_of l)) (in_use every_place (pages_of l) t)
+listed : (l t : List ℕ) → part (all_listed l t) (length (pages_of l)) 0 ≡ pages_of l
+listed l t = subst (λ (ps : List ℕ). part (all_listed l t) (length ps) 0 ≡ ps) (pick_each (pages_of l)) (in_use (λ p. true) (pages_of l) t)
 
 module _ (w : Buffers) (vtl flags : ℕ) (l : List ℕ) (z : protection_refusal w.state (fits w) w.maps.shared w.tables vtl flags l ≡ 0) (gs : List BackendAnswer) where
   abbrev protecting : Change
@@ -94,7 +93,7 @@ module _ (w : Buffers) (vtl flags : ℕ) (l : List ℕ) (z : protection_refusal 
       let k = protection_passed w vtl flags l _ refl z in
       let few : n ≤ 512 = pages_few l k.2 in
       let long : length w.pages ≡ 1024 = table_fits w vtl flags l _ refl z in
-      let tl : length t ≡ 1024 = length_table every_place (pages_of l) w.pages long few in
+      let tl : length t ≡ 1024 = length_table (λ p. true) (pages_of l) w.pages long few in
       let fit : at.fit (drop 14 w.state) t w.maps w.tables ≡ true = fits_kept w t w.tables (tl ∙ sym long) refl ∙ k.1 in
       rw (eq-eqb (protection_refusal w.state (fits w) w.maps.shared w.tables vtl flags l) 0 z)
       (from_call w t w.tables (λ s. changes.start_pages s.tracked v flags n t) (λ s. whole_pages s.tracked v (flags_of flags) (pages_of l) w.maps gs) gs

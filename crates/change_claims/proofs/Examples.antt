@@ -4,7 +4,7 @@ use mathlib.Core.Path.{◌≡◌, refl}
 use Rattle.bitmap.specs.Pages.{word, written_from}
 use Rattle.words.specs.Words.{closed, closed_to}
 use Rattle.layout.specs.Layout.{entries_of, ram_byte, ordered, aligned, refusal_of}
-use Rattle.page_list.specs.Pages.{number_of, number_at, numbers_from, among}
+use Rattle.page_list.specs.Pages.{number_of, number_at, numbers_from, among, repeats}
 use Rattle.page_list.specs.Runs.{neighbours, run_at}
 use Rattle.request_pages.specs.Request.{pick, pick_places, table_of, run_end}
 use Rattle.overlay_table.specs.Overlays.{place_from}
@@ -66,7 +66,7 @@ pub record Taken : Type 0 where
   pub visibility : TakesVisibility fresh 0 1 (page 3 [])
 
 pub taken : Taken
-unfolding word written_from entries_of ordered aligned refusal_of ram_byte number_of number_at numbers_from among place_from any_of
+unfolding word written_from entries_of ordered aligned refusal_of ram_byte number_of number_at numbers_from among repeats place_from any_of
     first_refusal ready visibility_refusal protection_refusal default_refusal call_refusal within known_refusal guest_refusal dma_refusal page_refusal register_refusal
     current_of unregister_refusal phase_of first_phases
 taken = record { layout = refl; default = (refl, refl); protection = refl; register = refl; unregister = refl; visibility = refl }

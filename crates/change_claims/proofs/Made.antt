@@ -18,9 +18,8 @@ use Rattle.permissions.specs.declared.GuestVtl.TheVariants.{Vtl0, Vtl1}
 use Rattle.permissions.specs.declared.HvMapGpaFlags.{HvMapGpaFlags}
 use Rattle.permissions.specs.Flags.{vtl_of, bool_of, flags_of, no_flags, fit_vtl, fit_bool, fit_flags}
 use Rattle.mapping.specs.Maps.{Permissions, Maps, marks_fit, permission_len, lengths_of}
-use Rattle.page_list.specs.Pages.{among, pages_of, is_long, is_ragged}
-use Rattle.request_pages.specs.Request.{wanted}
-use Rattle.request_pages.proofs.Asked.{among_asked}
+use Rattle.page_list.specs.Pages.{among, repeats, pages_of, is_long, is_ragged}
+use Rattle.request_pages.specs.Request.{pick, wanted}
 use Rattle.visibility_steps.specs.declared.Settings.{Settings}
 use Rattle.protector_state.specs.State.{settings_of, ram_of, entries_in}
 use Rattle.call_refusals.specs.Buffers.{Buffers, overlays_of, locks_of, fits, lengths_in}
@@ -117,10 +116,11 @@ unfolding visibility_refusal
 shown_ram w vtl visibility l z =
     let b = is_ready w.state (fits w) _ z in
     let c = when_passed (is_long l) 4 _ b.goes in
-    let d = passed (fit_vtl vtl) 7 _ c.1 in
-    let e = passed (fit_bool visibility) 7 _ d.1 in
-    let f = when_passed (is_ragged l) 7 _ e.1 in
-    (b.fits, λ p h. each_ram (entries_in w.state) (overlays_of w.tables (vtl_of vtl)) (locks_of w.tables (vtl_of vtl)) (bool_of visibility) (pages_of l) p f.1 h)
+    let d = when_passed (repeats (pages_of l)) 5 _ c.1 in
+    let e = passed (fit_vtl vtl) 7 _ d.1 in
+    let f = passed (fit_bool visibility) 7 _ e.1 in
+    let g = when_passed (is_ragged l) 7 _ f.1 in
+    (b.fits, λ p h. each_ram (entries_in w.state) (overlays_of w.tables (vtl_of vtl)) (locks_of w.tables (vtl_of vtl)) (bool_of visibility) (pages_of l) p g.1 h)
 
 -- ---- visibility changes: the pages asked for are of the list
 
@@ -132,6 +132,15 @@ unfolding among
 among_take zero ps p h = false≢true h
 among_take (suc n) [] p h = h
 among_take (suc n) (q ∷ ps) p h = one_more_lem p q (take n ps) ps (among_take n ps p) h
+
+pub among_pick : (P : ℕ → Bool) (ps : List ℕ) (p : ℕ) → among (pick P ps) p ≡ true → among ps p ≡ true
+unfolding among pick
+among_pick P [] p h = h
+among_pick P (q ∷ ps) p h = go (P q) h (among_pick P ps p)
+  where
+    go : (b : Bool) → among (cond b (q ∷ pick P ps) (pick P ps)) p ≡ true → (among (pick P ps) p ≡ true → among ps p ≡ true) → (eqb p q || among ps p) ≡ true
+    go true h f = one_more_lem p q (pick P ps) ps f h
+    go false h f = or_right (eqb p q) (among ps p) (f h)
 
 module _ (w : Buffers) (vtl visibility : ℕ) (l : List ℕ) (gs : List BackendAnswer) (z : TakesVisibility w vtl visibility l) (h : FitLayout w) where
   as_whole : (b : Bool) → bool_of visibility ≡ b → (whole_of w (vtl_of vtl) b l gs).maps.permissions ≡ (visibility_call w vtl visibility l gs).last.buffers.maps.permissions
@@ -151,8 +160,7 @@ module _ (w : Buffers) (vtl visibility : ℕ) (l : List ℕ) (gs : List BackendA
       let r = shown_ram w vtl visibility l z in
       let n : ℕ = stop_of w (vtl_of vtl) share l in
       let listed : (p : ℕ) → among (requested_pages w (vtl_of vtl) share l) p ≡ true → among (pages_of l) p ≡ true
-      = λ p d. among_take n (pages_of l) p (and_left (among (take n (pages_of l)) p) (wanted w.maps.shared share p)
-      (sym (among_asked (wanted w.maps.shared share) (pages_of l) n p) ∙ subst (λ (qs : List ℕ). among qs p ≡ true) (same_pages w (vtl_of vtl) share l) d)) in
+      = λ p d. among_take n (pages_of l) p (among_pick (wanted w.maps.shared share) (take n (pages_of l)) p (subst (λ (qs : List ℕ). among qs p ≡ true) (same_pages w (vtl_of vtl) share l) d)) in
       subst (PermitsFor (tracked_in w) v (all (among ps)) f w.maps.permissions) (as_whole share e)
       (for_all (tracked_in w) v (among ps) f (map_len (entries_in w.state)) w.maps.permissions _ (maps_long w r.0)
       (λ p d. page_in_map (ram_of w.state) p (fit (ram_of w.state) h) (r.1 p (listed p (part p d))))

@@ -1,7 +1,7 @@
 -- The pages that a default change's Protects name, all of them done: each private RAM page without an overlay once, ascending, and no other. Assumes nothing.
 use native.Mathlib.Omega.{arith}
 use mathlib.Core.Path.{◌≡◌, refl, sym, ap, fun_ext, ◌∙◌}
-use mathlib.Core.Bool.{Bool}
+use mathlib.Core.Bool.{Bool, true}
 use mathlib.Core.List.{List, [], ◌∷◌, ◌++◌}
 use Prim.Native.Nat.{ℕ, zero, suc, ◌-◌, ◌*◌, ◌≤◌}
 use lib.ListN.{length}
@@ -91,7 +91,7 @@ default_visited w vtl flags gs z o e =
     let pieces = ap pages_in (sym (pieces_runs es o overlays w.maps)) in
     record {
       pages = by ∙ pieces ∙ visits private overlays es o (page_end es) (last_below es) ∙ ap (λ (P : ℕ → Bool). pick (taken_ram es private P) (up_to 0 (page_end es))) same;
-      ascends = ap (strict) (by ∙ pieces) ∙ ascends private overlays es o (page_end es) (last_below es);
+      ascends = ap (strict true) (by ∙ pieces) ∙ ascends private overlays es o (page_end es) (last_below es);
       visits = λ p. ap (λ (l : List ℕ). among l p) by ∙ ram_visits es (first w vtl flags gs z o e) w.maps p ∙ ap (λ (P : ℕ → Bool). taken_ram es private P p) same;
       overlays = overlays_stay w vtl flags gs z o e;
     }

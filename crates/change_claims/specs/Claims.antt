@@ -150,7 +150,7 @@ taken_ram entries private overlay gpn = is_ram entries gpn && is_protected priva
 
 pub record DefaultPages (buffers : Buffers) (vtl : ℕ) (told : Told) : Type 0 where
   pub pages : protected_in told.asked ≡ pick (taken_ram (entries_in buffers.state) buffers.maps.private (overlay_in told.last.buffers.tables (vtl_of vtl))) (up_to 0 (page_end (entries_in buffers.state)))
-  pub ascends : strict (protected_in told.asked) ≡ true
+  pub ascends : strict true (protected_in told.asked) ≡ true
   pub visits : (gpn : ℕ) → among (protected_in told.asked) gpn ≡ taken_ram (entries_in buffers.state) buffers.maps.private (overlay_in told.last.buffers.tables (vtl_of vtl)) gpn
   pub overlays : (gpn : ℕ) → overlay_in told.last.buffers.tables (vtl_of vtl) gpn ≡ overlay_in buffers.tables (vtl_of vtl) gpn
 

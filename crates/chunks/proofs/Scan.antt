@@ -50,8 +50,8 @@ module _ (P : ℕ → Bool) where
       go true h = (omega (arith, h.0), omega (arith, h.1))
       go false h = (omega arith, omega arith)
 
-  pub first_from_lem : (c e : ℕ) → c ≤ first_not P c e
-  first_from_lem c e = (first_of_range (e - c) c).0
+  pub first_from : (c e : ℕ) → c ≤ first_not P c e
+  first_from c e = (first_of_range (e - c) c).0
 
   pub first_to : (c e : ℕ) → c ≤ e → first_not P c e ≤ e
   first_to c e h = omega (arith, (first_of_range (e - c) c).1)

@@ -202,23 +202,23 @@ module _ (Q : ℕ → Bool) where
       ∙ ap (λ (l : List ℕ). l ++ pick Q (up_to (s + n) (end - (s + n)))) (pick_all n s holds)
 
   -- they ascend, and a page is among them just where it counts
-  steps_pick : (k a p : ℕ) → p < a → steps_from p (pick Q (up_to a k)) ≡ true
+  steps_pick : (k a p : ℕ) → p < a → steps_from true p (pick Q (up_to a k)) ≡ true
   unfolding up_to pick steps_from
   steps_pick zero a p h = refl
   steps_pick (suc k) a p h = go (Q a) (steps_pick k (suc a) a (omega arith)) (steps_pick k (suc a) p (omega arith))
     where
-      go : (b : Bool) → steps_from a (pick Q (up_to (suc a) k)) ≡ true → steps_from p (pick Q (up_to (suc a) k)) ≡ true
-          → steps_from p (cond b (a ∷ pick Q (up_to (suc a) k)) (pick Q (up_to (suc a) k))) ≡ true
+      go : (b : Bool) → steps_from true a (pick Q (up_to (suc a) k)) ≡ true → steps_from true p (pick Q (up_to (suc a) k)) ≡ true
+          → steps_from true p (cond b (a ∷ pick Q (up_to (suc a) k)) (pick Q (up_to (suc a) k))) ≡ true
       go true x y = rw (lt-ltb p a h) x
       go false x y = y
 
-  strict_pick : (k a : ℕ) → strict (pick Q (up_to a k)) ≡ true
+  strict_pick : (k a : ℕ) → strict true (pick Q (up_to a k)) ≡ true
   unfolding up_to pick strict
   strict_pick zero a = refl
   strict_pick (suc k) a = go (Q a) (steps_pick k (suc a) a (omega arith)) (strict_pick k (suc a))
     where
-      go : (b : Bool) → steps_from a (pick Q (up_to (suc a) k)) ≡ true → strict (pick Q (up_to (suc a) k)) ≡ true
-          → strict (cond b (a ∷ pick Q (up_to (suc a) k)) (pick Q (up_to (suc a) k))) ≡ true
+      go : (b : Bool) → steps_from true a (pick Q (up_to (suc a) k)) ≡ true → strict true (pick Q (up_to (suc a) k)) ≡ true
+          → strict true (cond b (a ∷ pick Q (up_to (suc a) k)) (pick Q (up_to (suc a) k))) ≡ true
       go true x y = x
       go false x y = y
 
@@ -313,8 +313,8 @@ module _ (private overlays : List ℕ) (es : List MemoryRangeWithNode) (o : orde
         visits_from (wanted private overlays) es o n all n 0 (omega arith) ∙ ap (λ (k : ℕ). pick (λ q. is_ram es q && wanted private overlays q) (up_to 0 k)) d
 
     -- each above the one before it
-    pub ascends : strict (pages_in (pieces n private overlays es)) ≡ true
-    ascends = ap (strict) visits ∙ strict_pick (λ q. is_ram es q && wanted private overlays q) n 0
+    pub ascends : strict true (pages_in (pieces n private overlays es)) ≡ true
+    ascends = ap (strict true) visits ∙ strict_pick (λ q. is_ram es q && wanted private overlays q) n 0
 
     -- and no other
     pub visited : (p : ℕ) → among (pages_in (pieces n private overlays es)) p ≡ (is_ram es p && wanted private overlays p)

@@ -1,9 +1,11 @@
 -- What a fault gives, a law for each return. Assumes nothing.
 use mathlib.Core.Bool.{Bool, true, false, not, cond, ◌&&◌}
 use mathlib.Core.List.{List}
-use mathlib.Core.Path.{◌≡◌, refl, ap, ◌∙◌}
+use mathlib.Core.Path.{◌≡◌, refl, sym, ap, ◌∙◌}
 use Prim.Native.Nat.{ℕ, ◌/◌}
-use Rattle.laws.specs.Refusal.{refused, answered, number_given}
+use borrow.Author.Tests.{eqb-true}
+use lib.Dec.{eqb}
+use Rattle.laws.specs.Refusal.{refused, answered}
 use Rattle.bitmap.specs.Pages.{bit_at}
 use Rattle.layout.specs.declared.MemoryRangeWithNode.{MemoryRangeWithNode}
 use Rattle.layout.specs.Layout.{map_len}
@@ -13,7 +15,7 @@ use Rattle.fault.specs.declared.PageFaultAction.{PageFaultAction}
 use Rattle.fault.specs.declared.PageFaultAction.TheVariants.{Retry, NotMapped, NotShared, NotPrivate, VtlProtected, Refused as FaultRefused}
 use Rattle.mapping.specs.Maps.{Maps, maps_fit, lengths_of}
 use Rattle.permissions.specs.Flags.{bool_of}
-use Rattle.fault.specs.Fault.{GuestMemoryViewReadType, mapping_of, view_of, marks, unmarked, has_permissions, access_map, fault_of, fault_refusal, page_fault, fault_number}
+use Rattle.fault.specs.Fault.{GuestMemoryViewReadType, mapping_of, view_of, marks, unmarked, has_permissions, access_map, fault_of, fault_refusal, or_refused, page_fault, fault_number}
 
 module _ (m : Maps) (tracked : Bool) (mapping : GuestValidMemoryType) (view : GuestMemoryViewReadType) (p : ℕ) (write failure : Bool) where
   abbrev given : PageFaultAction
@@ -74,8 +76,8 @@ pub fault_number_lem : (es : List MemoryRangeWithNode) (m : Maps) (tracked : Boo
     → fault_number (page_fault es m tracked mapping view address write failure) ≡ fault_refusal (maps_fit (map_len es) tracked (lengths_of m)) mapping view write failure
 unfolding page_fault fault_of
 fault_number_lem es m tracked mapping view address write failure =
-    number_given fault_number (fault_refusal (maps_fit (map_len es) tracked (lengths_of m)) mapping view write failure) _ FaultRefused
-    (taken (mapping_of mapping) (view_of view) (address / 4096) (bool_of write) (bool_of failure)) refl
+    number_of (fault_refusal (maps_fit (map_len es) tracked (lengths_of m)) mapping view write failure) _
+    (taken (mapping_of mapping) (view_of view) (address / 4096) (bool_of write) (bool_of failure))
   where
     each : (a b c : Bool) (k : GuestValidMemoryType) → fault_number (cond a NotMapped (cond b (unmarked k) (cond c VtlProtected Retry))) ≡ 0
     each true b c k = refl
@@ -86,3 +88,10 @@ fault_number_lem es m tracked mapping view address write failure =
 
     taken : (k : GuestValidMemoryType) (v : GuestMemoryViewReadType) (p : ℕ) (w f : Bool) → fault_number (fault_of m tracked k v p w f) ≡ 0
     taken k v p w f = each (not f) (not (bit_at 8 (marks k m) p)) (has_permissions k tracked && not (bit_at 8 (access_map v w m.permissions) p)) k
+
+    number_of : (n : ℕ) (a : PageFaultAction) → fault_number a ≡ 0 → fault_number (or_refused n a) ≡ n
+    number_of n a e = go (eqb n 0) refl
+      where
+        go : (b : Bool) → eqb n 0 ≡ b → fault_number (cond b a (FaultRefused n)) ≡ n
+        go true f = e ∙ sym (eqb-true n 0 f)
+        go false f = refl

@@ -15,7 +15,7 @@ use Rattle.permissions.specs.declared.GuestVtl.TheVariants.{Vtl0, Vtl1}
 use Rattle.permissions.specs.Flags.{vtl_of, vtl_number, isolation_of, bool_of, bits_of}
 use Rattle.page_list.specs.Pages.{pages_of}
 use Rattle.overlay_table.specs.Overlays.{is_overlay}
-use Rattle.request_pages.specs.Request.{put}
+use Rattle.request_pages.specs.Request.{wanted, put}
 use Rattle.request_pages.proofs.Table.{length_table, pages_few}
 use Rattle.visibility_steps.specs.declared.Phase.{Phase}
 use Rattle.visibility_steps.specs.declared.Phase.TheVariants as at
@@ -32,7 +32,7 @@ use Rattle.protector_state.specs.Reply.{modifies, on_run, flat_of, asked_of}
 use Rattle.protector_state.specs.Changing.{stage_in, is_changing, change_in}
 use Rattle.call_refusals.specs.Buffers.{Buffers, buffers, Outcome, overlays_of, fits}
 use Rattle.protector.specs.Writes.{applied}
-use Rattle.protector.specs.Calls.{refused_by, carried_out, carried_change, stop_of, is_asked, asked_for, table_for, visibility_taken, visibility_of, after_done, after_failed, visibility_done, visibility_failed, change_done, change_failed, answer_done, answer_failed}
+use Rattle.protector.specs.Calls.{refused_by, carried_out, carried_change, stop_of, asked_for, table_for, visibility_taken, visibility_of, after_done, after_failed, visibility_done, visibility_failed, change_done, change_failed, answer_done, answer_failed}
 use Rattle.call_refusals.specs.Refusals.{visibility_refusal}
 use Rattle.protection_entries.specs.Calls.{default_refusal, stored_default, stored, barred, renewed_tables, renewed_in, default_step, default_started, default_taken, default_of, protection_refusal, all_listed, protection_step, protection_taken, protection_of}
 use Rattle.overlay_refusals.specs.Refusals.{unregister_refusal, register_refusal}
@@ -333,7 +333,7 @@ module _ (es : List MemoryRangeWithNode) (w : Buffers) (o : Observed) (k : Stand
     n = length (asked_for w v b l)
 
     table_long : length t ≡ 1024
-    table_long = length_table (is_asked w b l) (take (stop_of w v b l) (pages_of l)) w.pages (fits_pages w x.fit) (omega (arith, length-take (stop_of w v b l) (pages_of l), pages_few l x.short))
+    table_long = length_table (wanted w.maps.shared b) (take (stop_of w v b l) (pages_of l)) w.pages (fits_pages w x.fit) (omega (arith, length-take (stop_of w v b l) (pages_of l), pages_few l x.short))
 
     few_asked : n ≤ 512
     few_asked = few es w o k v b l x

@@ -2,25 +2,23 @@
 use Prim.Native.Nat.{ℕ, ◌≤◌, ◌<◌}
 use mathlib.Core.Path.{◌≡◌, refl, sym, ap, ◌∙◌, subst}
 use mathlib.Core.List.{List, []}
-use mathlib.Core.Bool.{Bool, true, false, cond, ◌&&◌}
+use mathlib.Core.Bool.{Bool, true, false, cond}
 use native.Mathlib.Omega.{arith}
 use lib.ListN.{length, get_or, take, set, length-take}
 use lib.Seq.{get_or-take, get_or-set_other, drop-set-lt}
 use lib.Dec.{eqb, ltb}
 use borrow.Author.Tests.{eqb-true, ltb-false}
 use Rattle.abi.specs.Refusals as refusal
-use Rattle.laws.specs.Bools.{and_left, and_right}
 use Rattle.laws.specs.Refusal.{passed, when_passed}
 use Rattle.call_refusals.proofs.Laws.{is_ready}
 use Rattle.layout.specs.declared.MemoryRangeWithNode.{MemoryRangeWithNode}
 use Rattle.layout.specs.Layout.{is_ram}
 use Rattle.permissions.specs.declared.GuestVtl.{GuestVtl}
 use Rattle.permissions.specs.Flags.{fit_vtl, vtl_of, fit_bool, bool_of}
-use Rattle.page_list.specs.Pages.{pages_of, is_long, is_ragged, among}
-use Rattle.page_list.proofs.Laws.{among_at, places_apart}
+use Rattle.page_list.specs.Pages.{pages_of, is_long, is_ragged, among, repeats}
+use Rattle.page_list.proofs.Laws.{among_at}
 use Rattle.request_pages.specs.Request.{wanted}
 use Rattle.request_pages.proofs.Table.{length_pick, pages_few}
-use Rattle.request_pages.proofs.Asked.{among_asked, asked_once}
 use Rattle.visibility_steps.specs.declared.Phase.TheVariants as at
 use Rattle.visibility_steps.specs.declared.Settings.{Settings}
 use Rattle.visibility_steps.specs.Steps.{asked, start_of}
@@ -31,14 +29,14 @@ use Rattle.protector_state.specs.Reply.{asked_of, flat_of}
 use Rattle.protector_state.specs.Changing.{is_changing}
 use Rattle.call_refusals.specs.Buffers.{Buffers, buffers, Outcome, overlays_of, locks_of, fits, status_in}
 use Rattle.protector.specs.Writes.{applied}
-use Rattle.protector.specs.Calls.{refused_by, decided, carried_out, carried_change, stop_of, is_asked, asked_for, table_for, visibility_taken, visibility_of}
+use Rattle.protector.specs.Calls.{refused_by, decided, carried_out, carried_change, stop_of, asked_for, table_for, visibility_taken, visibility_of}
 use Rattle.call_refusals.specs.Refusals.{page_refusal, first_refusal, visibility_refusal}
 use Rattle.visibility_claims.proofs.Calls.{modify_pages}
-use Rattle.change_claims.proofs.Made.{among_take}
+use Rattle.change_claims.proofs.Made.{among_take, among_pick}
 use Rattle.history.specs.Observed.{Observed, asks, sees_call}
 use Rattle.history.proofs.Took.{shared_in}
 use Rattle.history.proofs.Right.{opened, Right}
-use Rattle.history.proofs.Start.{first_all, ram_page, start_right}
+use Rattle.history.proofs.Start.{repeats_take, repeats_pick, holds, places_apart, first_all, ram_page, start_right}
 use Rattle.history.proofs.Buffers.{Stands, settled, stops, quiet_names, idle_shut, stands_step, stands_change}
 use Rattle.history.proofs.Answers.{Told}
 
@@ -127,6 +125,7 @@ pub record Taken (w : Buffers) (v : GuestVtl) (share : Bool) (l : List ℕ) : Ty
   pub fit : fits w ≡ true
   pub idle : status_in w.state ≡ 0
   pub short : length l ≤ 4096
+  pub apart : repeats (pages_of l) ≡ false
   pub each : first_refusal (page_refusal (entries_in w.state) (overlays_of w.tables v) (locks_of w.tables v) share) (pages_of l) ≡ 0
 
 pub taken : (w : Buffers) (vtl visibility : ℕ) (l : List ℕ) → visibility_refusal w.state (fits w) w.tables vtl visibility l ≡ 0 → Taken w (vtl_of vtl) (bool_of visibility) l
@@ -134,17 +133,18 @@ unfolding visibility_refusal
 taken w vtl visibility l z =
     let a = is_ready w.state (fits w) _ z in
     let d = when_passed (is_long l) 4 _ a.goes in
-    let e = passed (fit_vtl vtl) 7 _ d.1 in
-    let f = passed (fit_bool visibility) 7 _ e.1 in
-    let g = when_passed (is_ragged l) 7 _ f.1 in
-    record { fit = a.fits; idle = a.idle; short = ltb-false 4096 (length l) d.0; each = g.1 }
+    let e = when_passed (repeats (pages_of l)) 5 _ d.1 in
+    let f = passed (fit_vtl vtl) 7 _ e.1 in
+    let g = passed (fit_bool visibility) 7 _ f.1 in
+    let h = when_passed (is_ragged l) 7 _ g.1 in
+    record { fit = a.fits; idle = a.idle; short = ltb-false 4096 (length l) d.0; apart = e.0; each = h.1 }
 
 module _ (es : List MemoryRangeWithNode) (w : Buffers) (o : Observed) (k : Stands es w o) (v : GuestVtl) (b : Bool) (l : List ℕ) (x : Taken w v b l) where
   abbrev P : ℕ → Bool
   P = wanted w.maps.shared b
 
-  abbrev stop : ℕ
-  stop = stop_of w v b l
+  abbrev ps : List ℕ
+  ps = take (stop_of w v b l) (pages_of l)
 
   abbrev Q : List ℕ
   Q = asked_for w v b l
@@ -155,15 +155,8 @@ module _ (es : List MemoryRangeWithNode) (w : Buffers) (o : Observed) (k : Stand
   page : (j : ℕ) → j < length Q → get_or t j 0 ≡ get_or Q j 0
   page j h = sym (get_or-take (length Q) t j 0 h) ∙ ap (λ (m : List ℕ). get_or m j 0) (modify_pages w v b l)
 
-  -- a page asked for is one before the stop that is wanted
-  asked_page : (j : ℕ) → j < length Q → (among (take stop (pages_of l)) (get_or Q j 0) && P (get_or Q j 0)) ≡ true
-  asked_page j h = sym (among_asked P (pages_of l) stop (get_or Q j 0)) ∙ among_at Q j h
-
   named : (j : ℕ) → j < length Q → among (pages_of l) (get_or t j 0) ≡ true
-  named j h = ap (among (pages_of l)) (page j h) ∙ among_take stop (pages_of l) (get_or Q j 0) (and_left _ _ (asked_page j h))
-
-  wants : (j : ℕ) → j < length Q → P (get_or t j 0) ≡ true
-  wants j h = ap P (page j h) ∙ and_right (among (take stop (pages_of l)) (get_or Q j 0)) _ (asked_page j h)
+  named j h = ap (among (pages_of l)) (page j h) ∙ among_take (stop_of w v b l) (pages_of l) (get_or Q j 0) (among_pick P ps (get_or Q j 0) (among_at Q j h))
 
   pub in_ram : (j : ℕ) → j < length Q → is_ram es (get_or t j 0) ≡ true
   in_ram j h =
@@ -171,20 +164,21 @@ module _ (es : List MemoryRangeWithNode) (w : Buffers) (o : Observed) (k : Stand
       ∙ ram_page (entries_in w.state) (overlays_of w.tables v) (locks_of w.tables v) b (get_or t j 0) (first_all _ (pages_of l) (get_or t j 0) x.each (named j h))
 
   apart : (i j : ℕ) → i < length Q → j < length Q → get_or t i 0 ≡ get_or t j 0 → i ≡ j
-  apart i j h d e = places_apart Q (asked_once P (pages_of l) stop) i j h d (sym (page i h) ∙ e ∙ page j d)
+  apart i j h d e = places_apart Q (repeats_pick P ps (repeats_take (stop_of w v b l) (pages_of l) x.apart)) i j h d (sym (page i h) ∙ e ∙ page j d)
 
   pub few : length Q ≤ 512
-  few = omega (arith, length_pick (is_asked w b l) 0 (take stop (pages_of l)), length-take stop (pages_of l), pages_few l x.short)
+  few = omega (arith, length_pick P ps, length-take (stop_of w v b l) (pages_of l), pages_few l x.short)
 
   taken_stands : let T = visibility_taken w v b l in Stands es T.buffers (sees_call (pages_of l) T.reply T.buffers.pages o)
   unfolding visibility_taken carried_out applied start_of flat_of asked_of
   taken_stands =
       let s : Settings = settings_of w.state in
+      let stop : ℕ = stop_of w v b l in
       let stopped : Bool = ltb stop (length (pages_of l)) in
       let T = visibility_taken w v b l in
       let made =
       start_right (is_ram es) w.maps.private w.maps.shared (phase_in w.state) (request_of w.state) w.pages o.listed (shared_in o) (settled_right es w o k x.idle) (shut es w o k x.idle)
-      t (pages_of l) (length Q) stop stopped s.tracked v apart in_ram named b wants in
+      t (pages_of l) (length Q) stop stopped s.tracked v apart in_ram named b (λ j h. ap P (page j h) ∙ holds P ps j h) in
       let o' : Observed = record { op = T.reply; table = t; halted = o.halted; listed = pages_of l; last = o.last; age = o.age } in
       stands_step es T.buffers.maps w.state t w.tables o' at.Wait (asked v b (length Q) stop stopped) few k.layout
       (subst (λ (h : Bool). Right (is_ram es) T.buffers.maps.private T.buffers.maps.shared at.Wait (asked v b (length Q) stop stopped) t h (pages_of l) (shared_in o)) (sym (free es w o k x.idle)) made)

@@ -8,7 +8,7 @@ use Rattle.bitmap.specs.Pages.{word, written_from}
 use Rattle.words.specs.Words.{closed, closed_to}
 use Rattle.layout.specs.Layout.{entries_of, ordered, aligned, refusal_of, ram_byte}
 use Rattle.mapping.specs.Maps.{maps}
-use Rattle.page_list.specs.Pages.{number_of, number_at, numbers_from, among}
+use Rattle.page_list.specs.Pages.{number_of, number_at, numbers_from, among, repeats}
 use Rattle.page_list.specs.Runs.{neighbours, run_at}
 use Rattle.request_pages.specs.Request.{pick, table_of, stop_at, put}
 use Rattle.overlay_table.specs.Overlays.{place_from}
@@ -72,13 +72,8 @@ pub share8 : Made sharing8 built8 asking8.buffers asking8.reply
 share8 = (any_call built8).made sharing8
 
 pub share8_asks : asks asking8.reply ≡ true
-unfolding visibility_of ready visibility_refusal build_of build_refusal refusal_of entries_of ordered aligned build_taken word written_from ram_byte number_of number_at numbers_from among pick table_of stop_at put place_from ask operation_of cleared start_of first_phases phase_of asked_of flat_of applied carried_out first_refusal visibility_taken
+unfolding visibility_of ready visibility_refusal build_of build_refusal refusal_of entries_of ordered aligned build_taken word written_from ram_byte number_of number_at numbers_from among repeats pick table_of stop_at put place_from ask operation_of cleared start_of first_phases phase_of asked_of flat_of applied carried_out first_refusal visibility_taken
 share8_asks = refl
-
--- so may a list that names it again
-pub again8_asks : asks (visibility_of built8 0 1 (page 3 (page 4 (page 3 [])))).reply ≡ true
-unfolding visibility_of ready visibility_refusal build_of build_refusal refusal_of entries_of ordered aligned build_taken word written_from ram_byte number_of number_at numbers_from among pick table_of stop_at put place_from ask operation_of cleared start_of first_phases phase_of asked_of flat_of applied carried_out first_refusal visibility_taken
-again8_asks = refl
 
 -- ---- and while it waits a build with isolation 9, lent what stands, is refused: a step of the list
 

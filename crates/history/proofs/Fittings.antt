@@ -13,12 +13,12 @@ use Rattle.page_list.specs.Pages.{pages_of}
 use Rattle.overlay_table.specs.Overlays.{is_overlay, used, place_of, count_words}
 use Rattle.lock_table.specs.Locks.{lock_words, unlock_words}
 use Rattle.default_change.specs.Renewed.{renewed}
-use Rattle.request_pages.specs.Request.{every_place}
+use Rattle.request_pages.specs.Request.{wanted}
 use Rattle.request_pages.proofs.Table.{length_table, pages_few}
 use Rattle.protector_state.specs.State.{entries_in}
 use Rattle.protector_state.specs.Changing.{is_changing}
 use Rattle.call_refusals.specs.Buffers.{Buffers, buffers, overlays_of, locks_of, fits}
-use Rattle.protector.specs.Calls.{refused_by, stop_of, is_asked, table_for, visibility_taken, visibility_of, visibility_done, visibility_failed, change_done, change_failed, answer_done, answer_failed}
+use Rattle.protector.specs.Calls.{refused_by, stop_of, table_for, visibility_taken, visibility_of, visibility_done, visibility_failed, change_done, change_failed, answer_done, answer_failed}
 use Rattle.call_refusals.specs.Refusals.{visibility_refusal, answer_refusal}
 use Rattle.protection_entries.specs.Calls.{protection_refusal, all_listed, protection_taken, protection_of, default_refusal, stored, barred, renewed_in, default_started, default_taken, default_of}
 use Rattle.protection_entries.proofs.Laws.{protection_passed}
@@ -42,7 +42,7 @@ module _ (w : Buffers) (k : Fitting w) where
       let b : Bool = bool_of share in
       let p = fits_pages w k.fit in
       decides Fitting w (visibility_refusal w.state (fits w) w.tables vtl share l) (visibility_taken w v b l) k
-      (λ z. step_fitting w (table_for w v b l) _ (length_table (is_asked w b l) (take (stop_of w v b l) (pages_of l)) w.pages p (omega (arith, length-take (stop_of w v b l) (pages_of l), pages_few l (taken w vtl share l z).short)) ∙ sym p) k)
+      (λ z. step_fitting w (table_for w v b l) _ (length_table (wanted w.maps.shared b) (take (stop_of w v b l) (pages_of l)) w.pages p (omega (arith, length-take (stop_of w v b l) (pages_of l), pages_few l (taken w vtl share l z).short)) ∙ sym p) k)
 
   pub answer_long : (g : BackendAnswer) → Fitting (answer_of g w).buffers
   unfolding answer_done answer_failed
@@ -56,7 +56,7 @@ module _ (w : Buffers) (k : Fitting w) where
   protection_long vtl flags l =
       let p = fits_pages w k.fit in
       decides Fitting w (protection_refusal w.state (fits w) w.maps.shared w.tables vtl flags l) (protection_taken w (vtl_of vtl) flags l) k
-      (λ z. change_fitting w (all_listed l w.pages) _ (length_table every_place (pages_of l) w.pages p (pages_few l (protection_passed w vtl flags l _ refl z).2) ∙ sym p) k)
+      (λ z. change_fitting w (all_listed l w.pages) _ (length_table (λ p. true) (pages_of l) w.pages p (pages_few l (protection_passed w vtl flags l _ refl z).2) ∙ sym p) k)
 
   counted : (v : GuestVtl) (p n : ℕ) → Fitting (counting w v p n).buffers
   counted v p n =

@@ -1,11 +1,11 @@
 -- Every call keeps the permission maps inside RAM, and so does every list of calls. Assumes nothing.
 use native.Mathlib.Omega.{arith}
-use mathlib.Core.Path.{◌≡◌, refl, sym, ap, ◌∙◌}
+use mathlib.Core.Path.{◌≡◌, refl, sym, ap, ◌∙◌, subst}
 use mathlib.Core.Bool.{Bool, true, false, cond}
 use mathlib.Core.List.{List}
 use Prim.Native.Nat.{ℕ, ◌+◌, ◌-◌, ◌≤◌, ◌<◌, min}
 use lib.Dec.{eqb, ltb}
-use lib.ListN.{length, get_or, set}
+use lib.ListN.{length, get_or, take, set}
 use lib.Seq.{get_or-take, get_or-set_other}
 use borrow.Author.Tests.{eqb-true, ltb-true, ltb-false}
 use Rattle.abi.specs.Refusals as refusal
@@ -24,8 +24,8 @@ use Rattle.page_list.specs.declared.PageRun.{PageRun}
 use Rattle.page_list.specs.Pages.{pages_of, among, is_long, is_ragged}
 use Rattle.page_list.specs.Runs.{part}
 use Rattle.page_list.proofs.Laws.{among_at}
-use Rattle.request_pages.specs.Request.{put, every_place}
-use Rattle.request_pages.proofs.Table.{length_table, pages_few}
+use Rattle.request_pages.specs.Request.{put}
+use Rattle.request_pages.proofs.Table.{in_use, length_table, pages_few, pick_each}
 use Rattle.overlay_table.specs.declared.OverlayPage.{OverlayPage}
 use Rattle.overlay_table.specs.Overlays.{is_overlay}
 use Rattle.default_change.specs.Pieces.{wanted, free, next_piece}
@@ -49,7 +49,6 @@ use Rattle.overlay_refusals.proofs.Laws.{call_passed, flags_passed}
 use Rattle.overlay_entries.specs.Calls.{entry_in, counting, unregister_taken, unregister_of, current_in, register_taken, register_of}
 use Rattle.visibility_claims.specs.Whole.{BackendAnswer, Succeeds, Fails}
 use Rattle.visibility_claims.specs.Calls.{answer_of}
-use Rattle.change_claims.proofs.Calls.{listed}
 use Rattle.history.specs.Observed.{Observed}
 use Rattle.history.specs.Marks.{Has}
 use Rattle.history.specs.Call.{Writer, Visibility, Protection, Default, Register, Unregister, Lock, Unlock, Enable, Call, Write, Read, Answer, gives_writer, gives}
@@ -187,7 +186,8 @@ module _ (es : List MemoryRangeWithNode) where
     listed_ram j h d =
         let t : List ℕ = all_listed l w.pages in
         let ps : List ℕ = pages_of l in
-        let own : get_or t j 0 ≡ get_or ps j 0 = sym (get_or-take (length ps) t j 0 h) ∙ ap (λ (m : List ℕ). get_or m j 0) (listed l w.pages) in
+        let first : take (length ps) t ≡ ps = subst (λ (x : List ℕ). take (length x) t ≡ x) (pick_each ps) (in_use (λ p. true) ps w.pages) in
+        let own : get_or t j 0 ≡ get_or ps j 0 = sym (get_or-take (length ps) t j 0 h) ∙ ap (λ (m : List ℕ). get_or m j 0) first in
         ap (λ (y : List MemoryRangeWithNode). is_ram y (get_or t j 0)) (sym layout)
         ∙ ram_page (entries_in w.state) (overlays_of w.tables (vtl_of vtl)) (locks_of w.tables (vtl_of vtl)) true (get_or t j 0)
         (first_all _ ps (get_or t j 0) listed_each.1 (ap (among ps) own ∙ among_at ps j h))
@@ -249,7 +249,7 @@ module _ (es : List MemoryRangeWithNode) where
         decides (Permitted es) w (protection_refusal w.state (fits w) w.maps.shared w.tables vtl flags l) _ p
         (λ z. let few : length (pages_of l) ≤ 512 = pages_few l (listed_each w k.first.layout vtl flags l z).0 in
         let q : length w.pages ≡ 1024 = fits_pages w (fitting w (passed_in (Protection vtl flags l) w z)).fit in
-        let long : length (all_listed l w.pages) ≡ 1024 = length_table every_place (pages_of l) w.pages q few in
+        let long : length (all_listed l w.pages) ≡ 1024 = length_table (λ p. true) (pages_of l) w.pages q few in
         change_permits w (all_listed l w.pages) _ p.inside
         (safe_pages es (all_listed l w.pages) (settings_of w.state).tracked (change_of (vtl_of vtl) flags (length (pages_of l))) 0 (omega (arith, few, long)) (listed_ram w k.first.layout vtl flags l z)))
 

@@ -1,30 +1,85 @@
 -- A visibility change that is taken: the pages that it asks for are listed, RAM, apart from each other, and bear neither mark once it has cleared theirs.
 -- Assumes nothing.
-use Prim.Native.Nat.{ℕ, ◌<◌}
+use Prim.Native.Nat.{ℕ, zero, suc, ◌<◌}
 use mathlib.Core.Path.{◌≡◌, refl, sym, ap, ◌∙◌}
 use mathlib.Core.List.{List, [], ◌∷◌}
 use mathlib.Core.Bool.{Bool, true, false, cond, ◌||◌}
 use native.Mathlib.Omega.{arith}
-use lib.ListN.{get_or}
+use lib.ListN.{length, get_or, take}
 use lib.Dec.{eqb}
 use borrow.Author.Tests.{eqb-true}
+use Rattle.laws.specs.Bools.{or_false}
 use Rattle.laws.specs.Refusal.{passed}
 use Rattle.bitmap.proofs.Map.{length_written}
 use Rattle.layout.specs.declared.MemoryRangeWithNode.{MemoryRangeWithNode}
 use Rattle.layout.specs.Layout.{is_ram}
 use Rattle.permissions.specs.declared.GuestVtl.{GuestVtl}
-use Rattle.page_list.specs.Pages.{among}
+use Rattle.page_list.specs.Pages.{among, repeats}
 use Rattle.page_list.specs.Runs.{part}
-use Rattle.request_pages.specs.Request.{wanted, put}
+use Rattle.page_list.proofs.Laws.{among_at}
+use Rattle.request_pages.specs.Request.{pick, wanted, put}
 use Rattle.visibility_steps.specs.declared.Phase.{Phase}
 use Rattle.visibility_steps.specs.declared.Phase.TheVariants as at
 use Rattle.visibility_steps.specs.declared.Request.{Request}
 use Rattle.visibility_steps.specs.Steps.{asked, cleared}
 use Rattle.protector.specs.Writes.{put_places}
 use Rattle.call_refusals.specs.Refusals.{page_refusal, first_refusal}
+use Rattle.change_claims.proofs.Made.{among_take, among_pick}
 use Rattle.history.specs.Marks.{Has}
 use Rattle.history.proofs.Bits.{clash, in_part, clear_kept, clear_gone, clear_same, not_among, none_among, was_private, was_shared}
 use Rattle.history.proofs.Right.{opened, Right}
+
+-- ---- a part of a list, and what is picked of it
+
+pub repeats_take : (k : ℕ) (ps : List ℕ) → repeats ps ≡ false → repeats (take k ps) ≡ false
+unfolding repeats
+repeats_take zero ps e = refl
+repeats_take (suc k) [] e = refl
+repeats_take (suc k) (p ∷ ps) e =
+    let z = or_false (among ps p) (repeats ps) e in
+    go (among (take k ps) p) (λ d. clash _ (among_take k ps p d) z.0) (repeats_take k ps z.1)
+  where
+    go : (b : Bool) → (b ≡ true → ⊥) → repeats (take k ps) ≡ false → (b || repeats (take k ps)) ≡ false
+    go true f r = absurd (f refl)
+    go false f r = r
+
+pub repeats_pick : (P : ℕ → Bool) (ps : List ℕ) → repeats ps ≡ false → repeats (pick P ps) ≡ false
+unfolding repeats pick
+repeats_pick P [] e = refl
+repeats_pick P (p ∷ ps) e =
+    let z = or_false (among ps p) (repeats ps) e in
+    go (P p) (among (pick P ps) p) (λ d. clash _ (among_pick P ps p d) z.0) (repeats_pick P ps z.1)
+  where
+    both : (b : Bool) → (b ≡ true → ⊥) → repeats (pick P ps) ≡ false → (b || repeats (pick P ps)) ≡ false
+    both true f r = absurd (f refl)
+    both false f r = r
+
+    go : (c b : Bool) → (among (pick P ps) p ≡ true → ⊥) → repeats (pick P ps) ≡ false → repeats (cond c (p ∷ pick P ps) (pick P ps)) ≡ false
+    go true b f r = both (among (pick P ps) p) f r
+    go false b f r = r
+
+-- what is picked holds, and no two places have one page
+pub holds : (P : ℕ → Bool) (ps : List ℕ) (j : ℕ) → j < length (pick P ps) → P (get_or (pick P ps) j 0) ≡ true
+unfolding pick
+holds P [] j h = absurd (omega arith)
+holds P (p ∷ ps) j h = go (P p) refl j h (holds P ps)
+  where
+    go : (c : Bool) → P p ≡ c → (j : ℕ) → j < length (cond c (p ∷ pick P ps) (pick P ps)) → ((j : ℕ) → j < length (pick P ps) → P (get_or (pick P ps) j 0) ≡ true)
+        → P (get_or (cond c (p ∷ pick P ps) (pick P ps)) j 0) ≡ true
+    go false e j h r = r j h
+    go true e zero h r = e
+    go true e (suc j) h r = r j (omega arith)
+
+pub places_apart : (l : List ℕ) → repeats l ≡ false → (i j : ℕ) → i < length l → j < length l → get_or l i 0 ≡ get_or l j 0 → i ≡ j
+unfolding repeats
+places_apart [] e i j a b d = absurd (omega arith)
+places_apart (p ∷ l) e zero zero a b d = refl
+places_apart (p ∷ l) e zero (suc j) a b d =
+    let z = or_false (among l p) (repeats l) e in clash (among l p) (ap (among l) d ∙ among_at l j (omega arith)) z.0
+places_apart (p ∷ l) e (suc i) zero a b d =
+    let z = or_false (among l p) (repeats l) e in clash (among l p) (ap (among l) (sym d) ∙ among_at l i (omega arith)) z.0
+places_apart (p ∷ l) e (suc i) (suc j) a b d =
+    let z = or_false (among l p) (repeats l) e in ap suc (places_apart l z.1 i j (omega arith) (omega arith) d)
 
 -- ---- every listed page passed
 

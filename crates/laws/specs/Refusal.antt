@@ -63,11 +63,3 @@ module _ {A : Type 0} (n x : ℕ) (e : n ≡ x) where
 
   pub answered : (a b : A) (f : ℕ → A) → n ≡ 0 → b ≡ a → b ≡ cond (eqb x 0) a (f x)
   answered a b f h q = rw (← e, eq-eqb n 0 h) q
-
--- and the number that is read from what it gives is that of its chain
-pub number_given : {A : Type 0} (number : A → ℕ) (n : ℕ) (a : A) (f : ℕ → A) → number a ≡ 0 → number (f n) ≡ n → number (cond (eqb n 0) a (f n)) ≡ n
-number_given number n a f e d = go (eqb n 0) refl
-  where
-    go : (b : Bool) → eqb n 0 ≡ b → number (cond b a (f n)) ≡ n
-    go true z = e ∙ sym (eqb-true n 0 z)
-    go false z = d

@@ -14,7 +14,26 @@ use Rattle.laws.specs.Bools.{and_true, and_false, and_right, lt_or_le}
 use Rattle.words.specs.Words.{closed_to, swapped}
 use Rattle.words.proofs.Laws.{swapped_none}
 use Rattle.page_list.specs.Runs.{part}
+use Rattle.page_list.specs.Pages.{among}
+use Rattle.page_list.proofs.Laws as pages
 use Rattle.lock_table.specs.Locks.{same, kept, used, end_of, list_at, lists_from, lists_of, has_room, lock_code, lock_words, equal_from, moved, without, unlock_code, unlock_words}
+
+-- ---- a page among words
+module _ (t : List ℕ) (i n p q : ℕ) (h : i < n) (g : i < length t) (e : q ≡ get_or t i 0) where
+  inside : i < length (take n t)
+  inside = omega (arith, length-take n t)
+
+  read : q ≡ get_or (take n t) i 0
+  read = e ∙ sym (get_or-take n t i 0 h)
+
+  pub among_hit : p ≡ q → among (part t n i) p ≡ true
+  among_hit d = pages.among_hit (take n t) i q inside read p d
+
+  pub among_miss : (p ≡ q → ⊥) → among (part t n i) p ≡ among (part t n (i + 1)) p
+  among_miss d = pages.among_miss (take n t) i q inside read p d
+
+pub among_end : (t : List ℕ) (i n p : ℕ) → min n (length t) ≤ i → among (part t n i) p ≡ false
+among_end t i n p h = pages.among_end (take n t) i (omega (arith, length-take n t)) p
 
 -- ---- how many pages the first lists have
 

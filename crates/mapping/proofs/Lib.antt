@@ -1,4 +1,3 @@
 pub mod Marks
 pub mod Six
-pub mod Lengths
 pub mod Past

@@ -8,7 +8,7 @@ use borrow.Author.Tests.{ltb-true, ltb-false, lt-ltb, eqb-true}
 use lib.Dec.{eqb, ltb}
 use lib.ListN.{length}
 use Rattle.abi.specs.Lengths.{page_size}
-use Rattle.laws.specs.Bools.{same, and_right, both_true}
+use Rattle.laws.specs.Bools.{same, and_left, and_right, both_true}
 use Rattle.bitmap.specs.Pages.{bit_at}
 use Rattle.bitmap.proofs.Map.{page_past}
 use Rattle.layout.specs.declared.MemoryRangeWithNode.{MemoryRangeWithNode}
@@ -16,7 +16,6 @@ use Rattle.layout.specs.Layout.{entries_of, is_ram, last_end, map_len}
 use Rattle.layout.proofs.Laws.{Fit, entry_on_bytes, page_in_map}
 use Rattle.permissions.specs.Flags.{no_flags}
 use Rattle.mapping.specs.Maps.{Maps, maps_fit, marks_fit, permission_len, lengths_of, in_maps, flags_at}
-use Rattle.mapping.proofs.Lengths.{private_long, shared_long}
 
 module _ (ws : List ℕ) (p : ℕ) (fit : Fit ws) where
   pub maps_end : in_maps (entries_of ws) p ≡ ltb p (last_end (entries_of ws) / page_size)
@@ -35,6 +34,9 @@ module _ (ws : List ℕ) (p : ℕ) (fit : Fit ws) where
       go false e = refl
 
 module _ (es : List MemoryRangeWithNode) (m : Maps) (tracked : Bool) (p : ℕ) (fits : maps_fit (map_len es) tracked (lengths_of m) ≡ true) (past : in_maps es p ≡ false) where
+  marks_fit_lem : marks_fit (map_len es) (lengths_of m) ≡ true
+  marks_fit_lem = and_left (marks_fit (map_len es) (lengths_of m)) _ fits
+
   not_set : (map : List ℕ) (n : ℕ) → length map ≡ n → n ≤ map_len es → bit_at 8 map p ≡ false
   not_set map n e h = page_past 8 map p (omega (arith, e, h, ltb-false (p / 8) (map_len es) past))
 
@@ -43,10 +45,10 @@ module _ (es : List MemoryRangeWithNode) (m : Maps) (tracked : Bool) (p : ℕ) (
   short false = omega arith
 
   pub past_not_private : bit_at 8 m.private p ≡ false
-  past_not_private = not_set m.private _ (private_long (map_len es) tracked m fits) (omega arith)
+  past_not_private = not_set m.private _ (eqb-true _ _ (and_left (eqb (length m.private) (map_len es)) _ marks_fit_lem)) (omega arith)
 
   pub past_not_shared : bit_at 8 m.shared p ≡ false
-  past_not_shared = not_set m.shared _ (shared_long (map_len es) tracked m fits) (omega arith)
+  past_not_shared = not_set m.shared _ (eqb-true _ _ (and_right (eqb (length m.private) (map_len es)) _ marks_fit_lem)) (omega arith)
 
   pub past_no_flags : flags_at m.permissions p ≡ no_flags
   past_no_flags =

@@ -4,7 +4,7 @@ use mathlib.Core.List.{List, [], ◌∷◌}
 use mathlib.Core.Path.{◌≡◌, refl}
 use Prim.Native.Nat.{ℕ}
 use lib.ListN.{replicate}
-use Rattle.page_list.specs.Pages.{is_long, among, is_first, is_ragged}
+use Rattle.page_list.specs.Pages.{number_of, number_at, numbers_from, pages_of, is_long, among, repeats, is_ragged}
 use Rattle.page_list.specs.Runs.{run, neighbours, run_at}
 
 of_4096 : is_long (replicate 4096 0) ≡ false
@@ -16,10 +16,9 @@ of_4097 = refl
 abbrev page : ℕ → List ℕ → List ℕ
 page p l = p ∷ 0 ∷ 0 ∷ 0 ∷ 0 ∷ 0 ∷ 0 ∷ 0 ∷ l
 
--- 3, 4, 3: the second 3 isn't at its first place
-first_places_lem : (is_first (3 ∷ 4 ∷ 3 ∷ []) 0 3 ≡ true) × ((is_first (3 ∷ 4 ∷ 3 ∷ []) 1 4 ≡ true) × (is_first (3 ∷ 4 ∷ 3 ∷ []) 2 3 ≡ false))
-unfolding among
-first_places_lem = (refl, (refl, refl))
+ragged_repeat : repeats (pages_of (page 3 (page 3 (1 ∷ [])))) ≡ true
+unfolding number_of number_at numbers_from among repeats
+ragged_repeat = refl
 
 ragged_tail : is_ragged (page 3 (page 4 (1 ∷ []))) ≡ true
 ragged_tail = refl

@@ -1,4 +1,4 @@
--- Laws of tables of pages: the loop that looks for a page, the loop that finds a run, and that runs found one after the other are those of the list. Assumes nothing.
+-- Laws of runs: the loop that finds one, and that runs found one after the other are those of the list. Assumes nothing.
 use mathlib.Core.Bool.{Bool, true, false, cond}
 use mathlib.Core.List.{List, [], ◌∷◌}
 use mathlib.Core.Path.{◌≡◌, refl, sym, ap, ap₂, ◌∙◌}
@@ -11,7 +11,6 @@ use lib.ListN.{length, get_or, take, drop, length-take, drop_of_length-le}
 use lib.Seq.{drop-cons, drop-drop, get_or-take}
 use borrow.Author.Tests.{eq-eqb, ne_eqb, lt-ltb, le-ltb}
 use Rattle.page_list.specs.declared.PageRun.{PageRun}
-use Rattle.page_list.specs.Pages.{among}
 use Rattle.page_list.specs.Runs.{run, before, runs_of, part, neighbours, run_at}
 
 pub neighbour_yes : (p q : ℕ) → p < q → eqb (q - p) 1 ≡ eqb q (p + 1)
@@ -28,20 +27,6 @@ part_next t n a h g =
 
 pub part_end : (t : List ℕ) (n a : ℕ) → min n (length t) ≤ a → part t n a ≡ []
 part_end t n a h = let g : length (take n t) ≤ a = omega (arith, length-take n t) in drop_of_length-le (take n t) g
-
--- ---- a page in a table
-module _ (t : List ℕ) (i n p q : ℕ) (h : i < n) (g : i < length t) (e : q ≡ get_or t i 0) where
-  pub among_hit : p ≡ q → among (part t n i) p ≡ true
-  unfolding among
-  among_hit d = rw (part_next t n i h g, eq-eqb p (get_or t i 0) (d ∙ e))
-
-  pub among_miss : (p ≡ q → ⊥) → among (part t n i) p ≡ among (part t n (i + 1)) p
-  unfolding among
-  among_miss d = rw (part_next t n i h g, ne_eqb p (get_or t i 0) (λ x. d (x ∙ sym e)))
-
-pub among_end : (t : List ℕ) (i n p : ℕ) → min n (length t) ≤ i → among (part t n i) p ≡ false
-unfolding among
-among_end t i n p h = rw (part_end t n i h)
 
 -- the run at a place: none, or counted page by page
 pub run_none : (t : List ℕ) (n a : ℕ) → n ≤ a → run 0 0 ≡ run_at t n a

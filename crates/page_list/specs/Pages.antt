@@ -1,5 +1,5 @@
--- A page list as it crosses (01, the opening, "From the input" 5 and 8; 02, (iii)): 8-byte little-endian numbers.
-use Rattle.std.specs.Prelude.{Bool, true, false, not, ◌&&◌, ◌||◌, List, [], ◌∷◌, ℕ, zero, suc, ◌+◌, ◌*◌, ◌/◌, ◌%◌, eqb, ltb, length, get_or, take}
+-- A page list as it crosses (01, the opening, "From the input" 5, 6 and 8): 8-byte little-endian numbers.
+use Rattle.std.specs.Prelude.{Bool, true, false, cond, not, ◌&&◌, ◌||◌, List, [], ◌∷◌, ℕ, zero, suc, ◌+◌, ◌*◌, ◌/◌, ◌%◌, eqb, ltb, length, get_or}
 use Rattle.abi.specs.Limits as limit
 
 -- a number of eight bytes, the lowest first
@@ -20,19 +20,15 @@ numbers_from l i (suc k) = number_at l i ∷ numbers_from l (suc i) k
 abbrev pub pages_of : List ℕ → List ℕ
 pages_of l = numbers_from l 0 (length l / 8)
 
--- 5: over 512 pages, a repeat counting as another, in bytes
+-- 5: over 512 pages, in bytes
 abbrev pub is_long : List ℕ → Bool
 is_long l = ltb limit.list_bytes (length l)
 
+-- 6: a page that stands twice
 unfoldable pub among : List ℕ → ℕ → Bool
 among [] q = false
 among (p ∷ ps) q = eqb q p || among ps q
 
--- 02, (iii): page p at place i is at its first place where no place before has it
-abbrev pub is_first : List ℕ → ℕ → ℕ → Bool
-is_first ps i p = not (among (take i ps) p)
-
--- a page that stands twice
 unfoldable pub repeats : List ℕ → Bool
 repeats [] = false
 repeats (p ∷ ps) = among ps p || repeats ps
@@ -41,11 +37,14 @@ repeats (p ∷ ps) = among ps p || repeats ps
 abbrev pub is_ragged : List ℕ → Bool
 is_ragged l = not (eqb (length l % 8) 0)
 
--- each page above the one before it
-unfoldable pub steps_from : ℕ → List ℕ → Bool
-steps_from p [] = true
-steps_from p (q ∷ qs) = ltb p q && steps_from q qs
+-- each page above the one before it, or each below
+abbrev pub steps : Bool → ℕ → ℕ → Bool
+steps up p q = cond up (ltb p q) (ltb q p)
 
-unfoldable pub strict : List ℕ → Bool
-strict [] = true
-strict (p ∷ ps) = steps_from p ps
+unfoldable pub steps_from : Bool → ℕ → List ℕ → Bool
+steps_from up p [] = true
+steps_from up p (q ∷ qs) = steps up p q && steps_from up q qs
+
+unfoldable pub strict : Bool → List ℕ → Bool
+strict up [] = true
+strict up (p ∷ ps) = steps_from up p ps

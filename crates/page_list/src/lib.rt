@@ -1,6 +1,6 @@
 // Page lists as they cross, 8-byte little-endian numbers, and runs of ascending neighbours in a table of pages.
-ghost use Rattle.std.specs.Prelude.{◌≡◌, ◌+◌, ◌*◌, eqb, length, get_or};
-ghost use Rattle.page_list.specs.Pages.{number_of, pages_of, is_long, is_ragged};
+ghost use Rattle.std.specs.Prelude.{◌≡◌, true, false, ◌+◌, ◌*◌, eqb, length, get_or, drop};
+ghost use Rattle.page_list.specs.Pages.{number_of, pages_of, is_long, among, repeats, is_ragged, steps, strict};
 ghost use Rattle.page_list.specs.Runs.{run_at};
 
 use abi::limit;
@@ -66,6 +66,75 @@ pub fn is_ragged(list: &[u8]) -> bool
     ensures { result ≡ is_ragged list.now }
 {
     list.len() % 8 != 0
+}
+
+fn steps_on(up: bool, p: u64, q: u64) -> bool
+    ensures { result ≡ steps up p q }
+{
+    if up { p < q } else { q < p }
+}
+
+// Whether each page is above the one before it, or each below.
+fn is_strict(list: &[u8], up: bool) -> bool
+    ensures { result ≡ strict up (pages_of list.now) }
+{
+    let n = page_count(list);
+    let mut p = page_at(list, 0);
+    let mut i: u64 = 1;
+    while i < n {
+        let q = page_at(list, i);
+        if !steps_on(up, p, q) {
+            return false;
+        }
+        p = q;
+        i += 1;
+    }
+    true
+}
+
+// Whether a page is among those from place `from` on.
+fn is_among(list: &[u8], from: u64, p: u64) -> bool
+    ensures { result ≡ among (drop from (pages_of list.now)) p }
+{
+    let n = page_count(list);
+    let mut i = from;
+    while i < n {
+        let q = page_at(list, i);
+        if p == q {
+            return true;
+        }
+        i += 1;
+    }
+    false
+}
+
+// Whether a page stands twice, each page held against all that follow.
+fn is_repeated(list: &[u8]) -> bool
+    ensures { result ≡ repeats (pages_of list.now) }
+{
+    let n = page_count(list);
+    let mut i: u64 = 0;
+    while i < n {
+        let p = page_at(list, i);
+        if is_among(list, i + 1, p) {
+            return true;
+        }
+        i += 1;
+    }
+    false
+}
+
+// Whether a page stands twice: seen in one pass for a list that ascends or descends.
+pub fn has_repeat(list: &[u8]) -> bool
+    ensures { result ≡ repeats (pages_of list.now) }
+{
+    if is_strict(list, true) {
+        return false;
+    }
+    if is_strict(list, false) {
+        return false;
+    }
+    is_repeated(list)
 }
 
 fn is_neighbour(p: u64, q: u64) -> bool

@@ -9,7 +9,7 @@ use Rattle.permissions.specs.declared.GuestVtl.{GuestVtl}
 use Rattle.permissions.specs.Flags.{fit_vtl, vtl_of, vtl_number, fit_flags}
 use Rattle.page_list.specs.declared.PageRun.{PageRun}
 use Rattle.page_list.specs.Pages.{pages_of, is_long, is_ragged}
-use Rattle.request_pages.specs.Request.{table_of, every_place}
+use Rattle.request_pages.specs.Request.{table_of}
 use Rattle.default_change.specs.Pieces.{next_piece}
 use Rattle.default_change.specs.Barred as barring
 use Rattle.default_change.specs.Renewed.{renewed}
@@ -90,7 +90,7 @@ protection_refusal state fit shared tables vtl flags list =
 
 -- all listed pages with their places, in list order
 abbrev pub all_listed : List ℕ → List ℕ → List ℕ
-all_listed list pages = table_of every_place (pages_of list) pages
+all_listed list pages = table_of (λ p. true) (pages_of list) pages
 
 abbrev pub protection_step : List ℕ → List ℕ → GuestVtl → ℕ → ℕ → ChangeStep
 protection_step state pages vtl flags count = changes.start_pages (settings_of state).tracked vtl flags count pages

@@ -1,4 +1,4 @@
--- A build, a visibility change and the answers to all requests, each as a definition of what it gives (01, "The request under way", "From the input", "From the state", and the order of refusals; 02, (iii)).
+-- A build, a visibility change and the answers to all requests, each as a definition of what it gives (01, "The request under way", "From the input", "From the state", and the order of refusals).
 use Rattle.std.specs.Prelude.{Bool, true, false, cond, ◌&&◌, List, ℕ, eqb, ltb, length, take, replicate}
 use Rattle.layout.specs.declared.MemoryRangeWithNode.{MemoryRangeWithNode}
 use Rattle.layout.specs.Layout.{entries_of, map_len}
@@ -9,7 +9,7 @@ use Rattle.permissions.specs.HvError.{code_of}
 use Rattle.mapping.specs.Maps.{Maps, built}
 use Rattle.page_list.specs.declared.PageRun.{PageRun}
 use Rattle.page_list.specs.Pages.{pages_of}
-use Rattle.request_pages.specs.Request.{pick, table_of, stop_at, is_readable_and_writable, is_asked_for}
+use Rattle.request_pages.specs.Request.{pick, table_of, stop_at, is_readable_and_writable, wanted}
 use Rattle.default_change.specs.Pieces.{next_piece}
 use Rattle.visibility_steps.specs.declared.Settings.{Settings}
 use Rattle.visibility_steps.specs.declared.Step.{Step}
@@ -65,21 +65,17 @@ build_of buffers ram isolation tracked release =
 abbrev pub checks_permissions : Settings → GuestVtl → Bool → Bool
 checks_permissions settings vtl share = share && (is_vtl0 vtl && settings.enabled)
 
--- where it stops (15): how many places come before the first page that isn't readable and writable
+-- where it stops (15): how many pages come before the first that isn't readable and writable
 abbrev pub stop_of : Buffers → GuestVtl → Bool → List ℕ → ℕ
 stop_of buffers vtl share list =
     stop_at (is_readable_and_writable buffers.maps.permissions.read buffers.maps.permissions.write (checks_permissions (settings_of buffers.state) vtl share)) (pages_of list)
 
--- whether a place counts: the first of its page (02, (iii)), which isn't yet as asked
-abbrev pub is_asked : Buffers → Bool → List ℕ → ℕ → ℕ → Bool
-is_asked buffers share list = is_asked_for buffers.maps.shared share (pages_of list)
-
--- the pages at such places before the stop, and the table that has them with their places in the list
+-- the pages before the stop that aren't yet as asked, and the table that has them with their places in the list
 abbrev pub asked_for : Buffers → GuestVtl → Bool → List ℕ → List ℕ
-asked_for buffers vtl share list = pick (is_asked buffers share list) 0 (take (stop_of buffers vtl share list) (pages_of list))
+asked_for buffers vtl share list = pick (wanted buffers.maps.shared share) (take (stop_of buffers vtl share list) (pages_of list))
 
 abbrev pub table_for : Buffers → GuestVtl → Bool → List ℕ → List ℕ
-table_for buffers vtl share list = table_of (is_asked buffers share list) (take (stop_of buffers vtl share list) (pages_of list)) buffers.pages
+table_for buffers vtl share list = table_of (wanted buffers.maps.shared share) (take (stop_of buffers vtl share list) (pages_of list)) buffers.pages
 
 unfoldable pub visibility_taken : Buffers → GuestVtl → Bool → List ℕ → Outcome
 visibility_taken buffers vtl share list =

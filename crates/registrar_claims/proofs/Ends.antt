@@ -18,7 +18,7 @@ use Rattle.bitmap.specs.Pages.{bit_at}
 use Rattle.layout.specs.declared.MemoryRange.{MemoryRange}
 use Rattle.layout.specs.Layout.{spans}
 use Rattle.chunks.specs.Chunks.{chunk_count, first_chunk, end_chunk, is_power, empty, part, pieces, first_of, first_not_of, first_not, alike, aligned_part, edge_of}
-use Rattle.chunks.proofs.Scan.{first_step, first_from_lem}
+use Rattle.chunks.proofs.Scan.{first_step, first_from}
 use Rattle.registrar_steps.specs.declared.Request.{Request}
 use Rattle.registrar_steps.specs.declared.Answer.TheVariants.{Done, RegistrationFailed}
 use Rattle.registrar_steps.specs.declared.Look.{Look}
@@ -44,7 +44,7 @@ module _ (P : ℕ → Bool) where
 
   -- where it stops before the end, P does not hold
   pub first_not_lem : (c e : ℕ) → first_not P c e < e → P (first_not P c e) ≡ false
-  first_not_lem c e h = first_of_not (e - c) c (omega (arith, first_from_lem P c e))
+  first_not_lem c e h = first_of_not (e - c) c (omega (arith, first_from P c e))
 
 -- a plan that asks goes past chunk c
 abbrev Past : ℕ → Request → Type 0
@@ -55,7 +55,7 @@ unfolding register_from
 register_past s o n c last =
     let e : ℕ = min last (chunk_count s.granularity s.entries) in
     let t : ℕ = first_not (passes s) c e in
-    go t (first_from_lem (passes s) c e) (ltb t e) (bit_at word_bits s.failed t)
+    go t (first_from (passes s) c e) (ltb t e) (bit_at word_bits s.failed t)
   where
     go : (t : ℕ) → c ≤ t → (x y : Bool)
         → Past c (cond x (cond y (ends c t (RegistrationFailed (t * s.granularity) n)) (asks o c t (piece_of n t (t + 1) last (ram_from s.granularity s.entries t (t * s.granularity))))) (ends c t (Done n))).request
@@ -79,7 +79,7 @@ module _ (registered failed : List ℕ) where
       let n : alike registered failed true a ≡ false = first_not_lem (alike registered failed true) c e h in
       let y : alike registered failed false a ≡ true = not_alike (bit_at word_bits failed a) (bit_at word_bits registered a) n f in
       let q = first_step (alike registered failed false) a e h y in
-      omega (arith, q, first_from_lem (alike registered failed false) (a + 1) e, first_from_lem (alike registered failed true) c e)
+      omega (arith, q, first_from (alike registered failed false) (a + 1) e, first_from (alike registered failed true) c e)
 
 -- what is found at or after chunk c ends after it
 abbrev StretchPast : ℕ → Look → Type 0

@@ -17,7 +17,7 @@ use Rattle.layout.specs.declared.MemoryRangeWithNode.{MemoryRangeWithNode}
 use Rattle.layout.specs.Layout.{range, entry, entry_at, ordered, last_end, spans, spans_from}
 use Rattle.layout.proofs.Laws.{entry_known, entries_apart}
 use Rattle.chunks.specs.Chunks.{up, chunk_count, empty, part, pieces, first_of, first_not, alike, aligned_part, edge_of}
-use Rattle.chunks.proofs.Scan.{first_from_lem, first_to}
+use Rattle.chunks.proofs.Scan.{first_from, first_to}
 use Rattle.registrar_steps.specs.declared.Request.{Request}
 use Rattle.registrar_steps.specs.declared.Answer.TheVariants.{Done, RegistrationFailed}
 use Rattle.registrar_steps.specs.declared.Look.{Look}
@@ -147,7 +147,7 @@ in_within g registered failed c e m h k =
     go a true hx false true = tt
     go a true hx false false =
         let l = first_to (alike registered failed false) a e (omega (arith, ltb-true a e hx)) in
-        let f = first_from_lem (alike registered failed false) a e in
+        let f = first_from (alike registered failed false) a e in
         (omega arith, omega (arith, mul-le-mul_right {m = first_not (alike registered failed false) a e} {n = e} g l), mul-le-mul_right {m = a} {n = first_not (alike registered failed false) a e} g f)
 
 look_within : (g : ℕ) (registered failed : List ℕ) (al ignore c : ℕ) (r : MemoryRange) → Within r.end (look_at g registered failed al ignore c r)

@@ -21,7 +21,7 @@ use Rattle.layout.specs.declared.MemoryRange.{MemoryRange}
 use Rattle.layout.specs.declared.MemoryRangeWithNode.{MemoryRangeWithNode}
 use Rattle.layout.specs.Layout.{entries_of, ordered, spans}
 use Rattle.chunks.specs.Chunks.{chunk_count, map_words, first_chunk, end_chunk, empty, pieces, first_of, first_not_of, first_not}
-use Rattle.chunks.proofs.Scan.{first_step, first_stop, first_end, first_from_lem}
+use Rattle.chunks.proofs.Scan.{first_step, first_stop, first_end, first_from}
 use Rattle.registrar_steps.specs.declared.Request.{Request}
 use Rattle.registrar_steps.specs.declared.Answer.TheVariants.{Done, RegistrationFailed}
 use Rattle.registrar_steps.specs.declared.Plan.{Plan}
@@ -218,7 +218,7 @@ module _ (tail f : List ℕ) (last : ℕ) where
           let v : t ≡ first_not Q (c + 1) (min last (chunk_count g es)) =
           first_agree P Q (last - (c + 1)) (c + 1) (λ d l. ap (λ (b : Bool). b || (not (bit_at word_bits f d) && empty (ram_from g es d (d * g)))) (sym (marked_other c d r (omega arith))))
           ∙ sym (walked (marked c (c + 1) r) (c + 1)) in
-          ap (λ (n : ℕ). carried_out (at q r) (stopped c n)) u ∙ moved r t (first_from_lem P (c + 1) last) ∙ ap (λ (n : ℕ). carried_out (at q (marked c (c + 1) r)) (stopped (c + 1) n)) v
+          ap (λ (n : ℕ). carried_out (at q r) (stopped c n)) u ∙ moved r t (first_from P (c + 1) last) ∙ ap (λ (n : ℕ). carried_out (at q (marked c (c + 1) r)) (stopped (c + 1) n)) v
 
       here : (r : List ℕ) (t : Plan) → stopped c c ≡ t → first_not (passes (chunk_state g es r f)) c last ≡ c → from q r k c ≡ carried_out (at q r) t
       unfolding register_from stopped

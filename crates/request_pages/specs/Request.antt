@@ -1,32 +1,32 @@
--- The pages of the request under way (01, "The request under way"; 02, (iii)): a table of 1,024 words, 512 for pages and 512 for their places in the
--- list as sent.
-use Rattle.std.specs.Prelude.{Bool, true, cond, not, ◌&&◌, List, [], ◌∷◌, ◌++◌, ◌≡◌, ℕ, suc, ◌+◌, ◌≤◌, length, take, drop}
+-- The pages of the request under way (01, "The request under way"): a table of 1,024 words, 512 for pages and 512 for their places in the list
+-- as sent.
+use Rattle.std.specs.Prelude.{Bool, true, cond, not, ◌&&◌, List, [], ◌∷◌, ◌++◌, ℕ, suc, ◌+◌, length, take, drop}
 use Rattle.abi.specs.Lengths.{places_start}
 use Rattle.bitmap.specs.Pages.{bit_at, written}
 use Rattle.permissions.specs.declared.HvMapGpaFlags.{HvMapGpaFlags}
 use Rattle.mapping.specs.Maps.{Permissions, perms}
-use Rattle.page_list.specs.Pages.{among, is_first}
+use Rattle.page_list.specs.Pages.{among}
 use Rattle.page_list.specs.Runs.{part, run_at}
 
--- the pages that P holds of, by place and page, in order; the first page of the list is at place i
-unfoldable pub pick : (ℕ → ℕ → Bool) → ℕ → List ℕ → List ℕ
-pick P i [] = []
-pick P i (p ∷ ps) = cond (P i p) (p ∷ pick P (suc i) ps) (pick P (suc i) ps)
+-- the pages that P holds of, in order
+unfoldable pub pick : (ℕ → Bool) → List ℕ → List ℕ
+pick P [] = []
+pick P (p ∷ ps) = cond (P p) (p ∷ pick P ps) (pick P ps)
 
--- their places
-unfoldable pub pick_places : (ℕ → ℕ → Bool) → ℕ → List ℕ → List ℕ
+-- their places, the first page of the list being at place i
+unfoldable pub pick_places : (ℕ → Bool) → ℕ → List ℕ → List ℕ
 pick_places P i [] = []
-pick_places P i (p ∷ ps) = cond (P i p) (i ∷ pick_places P (suc i) ps) (pick_places P (suc i) ps)
+pick_places P i (p ∷ ps) = cond (P p) (i ∷ pick_places P (suc i) ps) (pick_places P (suc i) ps)
 
 -- xs laid over the start of a run of words
 abbrev pub over : List ℕ → List ℕ → List ℕ
 over xs words = xs ++ drop (length xs) words
 
 -- the table once the pages of ps that P holds of are stored in it: what they don't use is as it was
-unfoldable pub table_of : (ℕ → ℕ → Bool) → List ℕ → List ℕ → List ℕ
-table_of P ps table = over (pick P 0 ps) (take places_start table) ++ over (pick_places P 0 ps) (drop places_start table)
+unfoldable pub table_of : (ℕ → Bool) → List ℕ → List ℕ → List ℕ
+table_of P ps table = over (pick P ps) (take places_start table) ++ over (pick_places P 0 ps) (drop places_start table)
 
--- where sharing stops ("From the state" 15): how many places come before the first page that P doesn't hold of
+-- where sharing stops ("From the state" 15): how many pages come before the first that P doesn't hold of
 unfoldable pub stop_at : (ℕ → Bool) → List ℕ → ℕ
 stop_at P [] = 0
 stop_at P (p ∷ ps) = cond (P p) (suc (stop_at P ps)) 0
@@ -38,18 +38,6 @@ is_readable_and_writable read write asked p = cond asked (bit_at 8 read p && bit
 -- what doesn't drop out: its shared mark isn't yet as asked
 abbrev pub wanted : List ℕ → Bool → ℕ → Bool
 wanted shared share p = cond (bit_at 8 shared p) (not share) share
-
--- what is asked for of the places before the stop: each page at its first place, where it doesn't drop out
-abbrev pub is_asked_for : List ℕ → Bool → List ℕ → ℕ → ℕ → Bool
-is_asked_for shared share ps i p = is_first ps i p && wanted shared share p
-
--- every page lies from `low` to `high`
-abbrev pub Within : ℕ → ℕ → List ℕ → Type 0
-Within low high ps = (p : ℕ) → among ps p ≡ true → (low ≤ p) × (p ≤ high)
-
--- of a list whose repeats count, every place
-abbrev pub every_place : ℕ → ℕ → Bool
-every_place i p = true
 
 -- the place after the run that starts at place `at`, among the first `count`
 unfoldable pub run_end : List ℕ → ℕ → ℕ → ℕ

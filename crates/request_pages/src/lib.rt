@@ -1,13 +1,13 @@
 // The pages of the request under way, in a table of 1,024 words: pages in the first 512, then their places in the list
 // as sent.
-ghost use Rattle.std.specs.Prelude.{◌≡◌, true, cond, not, ◌&&◌, ◌+◌, ◌<◌, ◌≤◌, length, get_or, set, take};
+ghost use Rattle.std.specs.Prelude.{◌≡◌, true, cond, ◌&&◌, ◌+◌, ◌<◌, ◌≤◌, length, get_or, set, take};
 ghost use Rattle.abi.specs.Limits as limit;
 ghost use Rattle.abi.specs.Lengths.{pages_len, places_start};
 ghost use Rattle.bitmap.specs.Pages.{bit_at};
 ghost use Rattle.mapping.specs.Maps.{perms};
-ghost use Rattle.page_list.specs.Pages.{pages_of, among};
-ghost use Rattle.page_list.specs.Runs.{part, run_at};
-ghost use Rattle.request_pages.specs.Request.{pick, table_of, stop_at, is_readable_and_writable, wanted, is_asked_for, Within, every_place, run_end, put, put_flags};
+ghost use Rattle.page_list.specs.Pages.{pages_of};
+ghost use Rattle.page_list.specs.Runs.{run_at};
+ghost use Rattle.request_pages.specs.Request.{pick, table_of, stop_at, is_readable_and_writable, wanted, run_end, put, put_flags};
 
 use abi::PLACES_START;
 use page_list::PageRun;
@@ -63,62 +63,17 @@ fn store_one(pages: &mut [u64], stored: u64, gpn: u64, place: u64, keep: bool) -
     stored
 }
 
-// Whether a page is among those stored, the last of them looked at first.
-fn is_stored(pages: &[u64], stored: u64, gpn: u64) -> bool
-    ensures { result ≡ among (part pages.now stored 0) gpn }
-{
-    let mut i = numbers::min(stored, pages.len() as u64);
-    while 0 < i {
-        i -= 1;
-        if numbers::word_at(pages, i) == gpn {
-            return true;
-        }
-    }
-    false
-}
-
-// Whether a page is wanted and not yet stored. Those stored lie from `low` to `high`: outside of that none is looked for.
-fn is_kept(
-    pages: &[u64],
-    stored: u64,
-    low: u64,
-    high: u64,
-    shared: &[u8],
-    share: bool,
-    gpn: u64,
-) -> bool
-    requires { Within low high (part pages.now stored 0) }
-    ensures { result ≡ (wanted shared.now share gpn && not (among (part pages.now stored 0) gpn)) }
-{
-    if !is_wanted(shared, share, gpn) {
-        return false;
-    }
-    if gpn < low {
-        return true;
-    }
-    if high < gpn {
-        return true;
-    }
-    !is_stored(pages, stored, gpn)
-}
-
-// The pages before place `stop` of a list that are wanted, each at its first place; how many they are.
+// The pages before place `stop` of a list that are wanted, with their places; how many they are.
 pub fn store(pages: &mut [u64], shared: &[u8], share: bool, list: &[u8], stop: u64) -> u64
     requires { (length pages.old ≡ pages_len) × (length list.now ≤ limit.list_bytes) }
-    ensures value { result ≡ length (pick (is_asked_for shared.now share (pages_of list.now)) 0 (take stop (pages_of list.now))) }
-    ensures pages_after { pages.new ≡ table_of (is_asked_for shared.now share (pages_of list.now)) (take stop (pages_of list.now)) pages.old }
+    ensures { (result ≡ length (pick (wanted shared.now share) (take stop (pages_of list.now)))) × (pages.new ≡ table_of (wanted shared.now share) (take stop (pages_of list.now)) pages.old) }
 {
     let n = numbers::min(stop, page_list::page_count(list));
     let mut stored: u64 = 0;
-    let mut low = page_list::page_at(list, 0);
-    let mut high = low;
     let mut i: u64 = 0;
     while i < n {
         let gpn = page_list::page_at(list, i);
-        let keep = is_kept(pages, stored, low, high, shared, share, gpn);
-        stored = store_one(pages, stored, gpn, i, keep);
-        low = numbers::min(low, gpn);
-        high = numbers::max(high, gpn);
+        stored = store_one(pages, stored, gpn, i, is_wanted(shared, share, gpn));
         i += 1;
     }
     stored
@@ -127,7 +82,7 @@ pub fn store(pages: &mut [u64], shared: &[u8], share: bool, list: &[u8], stop: u
 // All pages of a list, with their places.
 pub fn store_all(pages: &mut [u64], list: &[u8])
     requires { (length pages.old ≡ pages_len) × (length list.now ≤ limit.list_bytes) }
-    ensures { pages.new ≡ table_of every_place (pages_of list.now) pages.old }
+    ensures { pages.new ≡ table_of (λ p. true) (pages_of list.now) pages.old }
 {
     let n = page_list::page_count(list);
     let mut i: u64 = 0;

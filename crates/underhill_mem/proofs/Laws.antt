@@ -17,7 +17,7 @@ use Rattle.permissions.specs.HvError.{code_of}
 use Rattle.mapping.specs.Maps.{Maps, Permissions, maps, perms, built}
 use Rattle.page_list.specs.Pages.{pages_of, is_long}
 use Rattle.page_list.proofs.Laws.{long_le}
-use Rattle.request_pages.specs.Request.{pick, table_of, stop_at, is_readable_and_writable}
+use Rattle.request_pages.specs.Request.{pick, table_of, stop_at, is_readable_and_writable, wanted}
 use Rattle.visibility_steps.specs.declared.Settings.{Settings}
 use Rattle.visibility_steps.specs.declared.Step.{Step}
 use Rattle.visibility_steps.specs.Steps.{start_of}
@@ -30,7 +30,7 @@ use Rattle.call_refusals.specs.Buffers.{Buffers, outcome, lengths_in, status_in}
 use Rattle.call_refusals.proofs.Laws.{is_ready}
 use Rattle.protector.specs.Writes.{permitted_run, entered, applied}
 use Rattle.queries.specs.Queries.{query_refusal, ram_before, visibilities, filled_by, Query, query, query_taken, query_of}
-use Rattle.protector.specs.Calls.{carried_out, with_permissions, carried_change, build_taken, checks_permissions, is_asked, visibility_taken}
+use Rattle.protector.specs.Calls.{carried_out, with_permissions, carried_change, build_taken, checks_permissions, visibility_taken}
 use Rattle.call_refusals.specs.Refusals.{build_fits, build_refusal, visibility_refusal, answer_refusal}
 
 -- ---- what a call that isn't refused knows of its lengths
@@ -90,7 +90,7 @@ module _ (w : Buffers) (v : GuestVtl) (share : Bool) (l : List ℕ) where
 
   pub visibility_made : (set : Settings) (looks : Bool) (stop count pc : ℕ) (table : List ℕ) (m : Maps) (s : List ℕ) (r : Reply) → set ≡ settings_of w.state → looks ≡ checks_permissions set v share
       → stop ≡ stop_at (is_readable_and_writable w.maps.permissions.read w.maps.permissions.write looks) (pages_of l)
-      → count ≡ length (pick (is_asked w share l) 0 (take stop (pages_of l))) → table ≡ table_of (is_asked w share l) (take stop (pages_of l)) w.pages
+      → count ≡ length (pick (wanted w.maps.shared share) (take stop (pages_of l))) → table ≡ table_of (wanted w.maps.shared share) (take stop (pages_of l)) w.pages
       → pc ≡ length (pages_of l) → m ≡ applied table (begun count stop pc).writes w.maps
       → s ≡ with_request (begun count stop pc).phase (begun count stop pc).request w.state → r ≡ flat_of (settings_of w.state).isolation (begun count stop pc).answer
       → outcome m s table w.tables r ≡ visibility_taken w v share l
@@ -100,8 +100,8 @@ module _ (w : Buffers) (v : GuestVtl) (share : Bool) (l : List ℕ) where
       let f : stop ≡ stop_at (is_readable_and_writable w.maps.permissions.read w.maps.permissions.write (checks_permissions (settings_of w.state) v share)) ps
       = e3 ∙ ap (λ (y : Bool). stop_at (is_readable_and_writable w.maps.permissions.read w.maps.permissions.write y) ps) (e2 ∙ ap (λ (y : Settings). checks_permissions y v share) e1) in
       carried w table (settings_of w.state) (begun count stop pc) _ m s r refl refl a b c
-      ∙ ap₂ (carried_out w) (e5 ∙ ap (λ (k : ℕ). table_of (is_asked w share l) (take k ps) w.pages) f)
-      (ap₂ (λ (n k : ℕ). begun n stop k) e4 e6 ∙ ap (λ (k : ℕ). begun (length (pick (is_asked w share l) 0 (take k ps))) k (length ps)) f)
+      ∙ ap₂ (carried_out w) (e5 ∙ ap (λ (k : ℕ). table_of (wanted w.maps.shared share) (take k ps) w.pages) f)
+      (ap₂ (λ (n k : ℕ). begun n stop k) e4 e6 ∙ ap (λ (k : ℕ). begun (length (pick (wanted w.maps.shared share) (take k ps))) k (length ps)) f)
 
 pub build_made : (w : Buffers) (ram : List ℕ) (isolation tracked release : ℕ) (m : Maps) (s p t : List ℕ) (r : Reply) → m ≡ built (entries_of ram) w.maps → s ≡ built_state ram isolation tracked release
     → p ≡ replicate (length w.pages) 0 → t ≡ replicate (length w.tables) 0 → r ≡ finished 0 0 0 0 → outcome m s p t r ≡ build_taken w ram isolation tracked release

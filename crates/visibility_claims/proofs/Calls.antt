@@ -17,8 +17,8 @@ use Rattle.permissions.specs.declared.IsolationType.{IsolationType}
 use Rattle.permissions.specs.Flags.{fit_vtl, vtl_of, fit_bool, bool_of}
 use Rattle.mapping.specs.Maps.{Maps}
 use Rattle.page_list.specs.declared.PageRun.{PageRun}
-use Rattle.page_list.specs.Pages.{pages_of, is_long, is_ragged}
-use Rattle.request_pages.specs.Request.{pick_places, put}
+use Rattle.page_list.specs.Pages.{pages_of, is_long, repeats, is_ragged}
+use Rattle.request_pages.specs.Request.{pick_places, put, wanted}
 use Rattle.request_pages.proofs.Table.{in_use, length_table, length_pick, place_of, pages_few, stop_unasked}
 use Rattle.visibility_steps.specs.declared.Phase.{Phase}
 use Rattle.visibility_steps.specs.declared.Phase.TheVariants as at
@@ -37,7 +37,7 @@ use Rattle.protector_state.specs.Reply.{modifies, asked_of, flat_of}
 use Rattle.protector_state.specs.Changing.{stage_in, is_changing}
 use Rattle.call_refusals.specs.Buffers.{Buffers, buffers, Outcome, outcome, fits, status_of, status_in, takes, takes_at, takes_in}
 use Rattle.protector.specs.Writes.{applied}
-use Rattle.protector.specs.Calls.{refused_by, decided, carried_out, stop_of, is_asked, asked_for, table_for, visibility_taken, visibility_of, answer_done, answer_failed}
+use Rattle.protector.specs.Calls.{refused_by, decided, carried_out, stop_of, asked_for, table_for, visibility_taken, visibility_of, answer_done, answer_failed}
 use Rattle.call_refusals.specs.Refusals.{ready, visibility_refusal, answer_refusal}
 use Rattle.call_refusals.proofs.Laws.{is_ready, fits_pages, untaken_refused}
 use Rattle.visibility_claims.specs.Whole.{Operation, BackendAnswer, Succeeds, Fails, Status, Denied, stands, whole_share, whole_return}
@@ -406,8 +406,9 @@ refusal_is w vtl visibility l =
     let d : ℕ = denial w (vtl_of vtl) (bool_of visibility) (pages_of l) in
     ready_chain w.state (fits w) _ _ d
     (when_chain (is_long l) 5 _ _ d refl
+    (when_chain (repeats (pages_of l)) 6 _ _ d refl
     (ap (λ (n : ℕ). unless (fit_vtl vtl) 8 (unless (fit_bool visibility) 8 (when (is_ragged l) 8 n))) (sym (same_denial w (vtl_of vtl) (bool_of visibility) (pages_of l)))
-    ∙ unfit_chain (fit_vtl vtl) (fit_bool visibility) (is_ragged l) d))
+    ∙ unfit_chain (fit_vtl vtl) (fit_bool visibility) (is_ragged l) d)))
 
 -- a call that is taken is refused by neither
 pub taken_input : (w : Buffers) (vtl visibility : ℕ) (l : List ℕ) → visibility_refusal w.state (fits w) w.tables vtl visibility l ≡ 0 → input_refusal w vtl visibility l ≡ 0
@@ -429,10 +430,6 @@ unfolding input_refusal
 taken_call w vtl visibility l z =
     let a = is_ready w.state (fits w) _ z in
     record { block = a.long; idle = a.idle; fit = a.fits; short = ltb-false 4096 (length l) (when_passed (is_long l) 4 _ a.goes).0 }
-
-pub input_short : (w : Buffers) (vtl visibility : ℕ) (l : List ℕ) → input_refusal w vtl visibility l ≡ 0 → is_long l ≡ false
-unfolding input_refusal
-input_short w vtl visibility l z = (when_passed (is_long l) 4 _ (is_ready w.state (fits w) _ z).goes).0
 
 -- where nothing is under way no answer is taken
 pub idle_takes : (s : List ℕ) (b : Bool) → status_in s ≡ 0 → takes_in s b ≡ false
@@ -459,7 +456,7 @@ idle_takes s b e = go (is_changing s) e
 
 -- the pages of Modify: the first of the table
 pub modify_pages : (w : Buffers) (v : GuestVtl) (share : Bool) (l : List ℕ) → take (length (asked_for w v share l)) (table_for w v share l) ≡ asked_for w v share l
-modify_pages w v share l = in_use (is_asked w share l) (take (stop_of w v share l) (pages_of l)) w.pages
+modify_pages w v share l = in_use (wanted w.maps.shared share) (take (stop_of w v share l) (pages_of l)) w.pages
 
 module _ (w : Buffers) (v : GuestVtl) (l : List ℕ) (k : Taken w l) where
   pages_long : length w.pages ≡ 1024
@@ -469,8 +466,8 @@ module _ (w : Buffers) (v : GuestVtl) (l : List ℕ) (k : Taken w l) where
   few_pages n = omega (arith, length-take n (pages_of l), pages_few l k.short)
 
   module _ (share : Bool) where
-    abbrev P : ℕ → ℕ → Bool
-    P = is_asked w share l
+    abbrev P : ℕ → Bool
+    P = wanted w.maps.shared share
 
     abbrev ps : List ℕ
     ps = take (stop_of w v share l) (pages_of l)
@@ -479,7 +476,7 @@ module _ (w : Buffers) (v : GuestVtl) (l : List ℕ) (k : Taken w l) where
     table_long = length_table P ps w.pages pages_long (few_pages (stop_of w v share l))
 
     few_asked : length (asked_for w v share l) ≤ 512
-    few_asked = omega (arith, length_pick P 0 ps, few_pages (stop_of w v share l))
+    few_asked = omega (arith, length_pick P ps, few_pages (stop_of w v share l))
 
   abbrev start : Bool → Step
   start share = start_of (settings_of w.state) v share (length (asked_for w v share l)) (stop_of w v share l) (ltb (stop_of w v share l) (length (pages_of l)))

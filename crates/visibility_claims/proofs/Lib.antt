@@ -1,11 +1,9 @@
 pub mod Requested
-pub mod Bytes
 pub mod Maps
 pub mod Steps
 pub mod Counts
 pub mod Taken
 pub mod Calls
-pub mod Repeats
 pub mod Refusals
 pub mod Ends
 pub mod Marks

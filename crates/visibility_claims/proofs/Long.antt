@@ -1,85 +1,97 @@
--- A list of 512 pages is taken, and one of 513 pages refused (5), whether it names many pages or one. Assumes nothing.
+-- A list of 512 pages is taken, and one of 513 pages refused (5). Assumes nothing.
 use native.Mathlib.Omega.{arith}
 use mathlib.Core.Path.{◌≡◌, refl, ap, ap₂, ◌∙◌}
 use mathlib.Core.Bool.{true, false, not}
-use mathlib.Core.List.{List, [], ◌∷◌}
-use mathlib.Core.Logic.{⊎_elim}
+use mathlib.Core.List.{List, [], ◌∷◌, ◌++◌}
 use Prim.Native.Nat.{ℕ, zero, suc, ◌+◌, ◌*◌, ◌/◌, ◌%◌, ◌≤◌, ◌<◌}
-use lib.Dec.{eqb}
-use lib.ListN.{length, replicate}
-use borrow.Author.Tests.{eqb-true, eq-eqb, le-ltb, lt-ltb}
-use Rattle.abi.specs.Refusals as refusal
-use Rattle.laws.specs.Bools.{false≢true, or_left, or_right, or_true}
+use lib.ListN.{length, get_or}
+use lib.Seq.{get_or-append-add}
+use borrow.Author.Tests.{ne_eqb, eq-eqb, le-ltb, lt-ltb}
 use Rattle.laws.specs.Ranges.{between_true}
 use Rattle.layout.specs.Layout.{entries_of, ram_byte}
 use Rattle.permissions.specs.declared.GuestVtl.TheVariants.{Vtl0}
-use Rattle.page_list.specs.Pages.{number_of, number_at, numbers_from, pages_of, is_long, among, is_ragged}
+use Rattle.page_list.specs.Pages.{number_of, number_at, numbers_from, pages_of, is_long, among, repeats, is_ragged}
 use Rattle.overlay_table.specs.Overlays.{place_from}
 use Rattle.protector_state.specs.State.{first_phases, phase_of, entries_in}
 use Rattle.call_refusals.specs.Buffers.{overlays_of, locks_of, fits, status_in}
 use Rattle.call_refusals.specs.Refusals.{ready, page_refusal, first_refusal, visibility_refusal}
-use Rattle.visibility_claims.specs.Table.{bytes_of, up_from, broad, Lists}
-use Rattle.visibility_claims.proofs.Bytes.{pages_more}
+use Rattle.visibility_claims.specs.Table.{bytes_from, broad, Lists}
+
+-- n pages from p on
+unfoldable up_from : ℕ → ℕ → List ℕ
+up_from p zero = []
+up_from p (suc n) = p ∷ up_from (suc p) n
 
 -- ---- the pages are read from the bytes
 
-abbrev eight : ℕ → List ℕ
-eight p = p % 256 ∷ p / 256 ∷ 0 ∷ 0 ∷ 0 ∷ 0 ∷ 0 ∷ 0 ∷ []
+module _ (a b : ℕ) (l : List ℕ) where
+  abbrev eight : List ℕ
+  eight = a ∷ b ∷ 0 ∷ 0 ∷ 0 ∷ 0 ∷ 0 ∷ 0 ∷ []
 
-number_eight : (p : ℕ) → number_at (eight p) 0 ≡ p
-unfolding number_at number_of
-number_eight p = omega arith
+  later : (j k : ℕ) → j ≡ 8 + k → get_or (eight ++ l) j 0 ≡ get_or l k 0
+  later j k e = ap (λ (i : ℕ). get_or (eight ++ l) i 0) e ∙ get_or-append-add eight l k 0
 
-pages_of_lem : (ps : List ℕ) → pages_of (bytes_of ps) ≡ ps
-unfolding numbers_from bytes_of
-pages_of_lem [] = refl
-pages_of_lem (p ∷ ps) = pages_more (eight p) (bytes_of ps) refl ∙ ap₂ (λ (q : ℕ) (qs : List ℕ). q ∷ qs) (number_eight p) (pages_of_lem ps)
+  number_later : (i : ℕ) → number_at (eight ++ l) (suc i) ≡ number_at l i
+  unfolding number_at
+  number_later i =
+      rw (
+        later (8 * suc i) (8 * i) (omega arith),
+        later (8 * suc i + 1) (8 * i + 1) (omega arith),
+        later (8 * suc i + 2) (8 * i + 2) (omega arith),
+        later (8 * suc i + 3) (8 * i + 3) (omega arith),
+        later (8 * suc i + 4) (8 * i + 4) (omega arith),
+        later (8 * suc i + 5) (8 * i + 5) (omega arith),
+        later (8 * suc i + 6) (8 * i + 6) (omega arith),
+        later (8 * suc i + 7) (8 * i + 7) (omega arith),
+      )
 
-length_bytes : (ps : List ℕ) → length (bytes_of ps) ≡ 8 * length ps
-unfolding bytes_of
-length_bytes [] = refl
-length_bytes (p ∷ ps) = omega (arith, length_bytes ps)
+  numbers_later : (k i : ℕ) → numbers_from (eight ++ l) (suc i) k ≡ numbers_from l i k
+  unfolding numbers_from
+  numbers_later zero i = refl
+  numbers_later (suc k) i = ap₂ (λ (x : ℕ) (xs : List ℕ). x ∷ xs) (number_later i) (numbers_later k (suc i))
 
--- ---- none of them is refused
+numbers_read : (n p : ℕ) → numbers_from (bytes_from p n) 0 n ≡ up_from p n
+unfolding numbers_from bytes_from up_from number_at number_of
+numbers_read zero p = refl
+numbers_read (suc n) p =
+    let e : p % 256 + 0x100 * (p / 256) + 0x1_0000 * 0 + 0x100_0000 * 0 + 0x1_0000_0000 * 0 + 0x100_0000_0000 * 0 + 0x1_0000_0000_0000 * 0 + 0x100_0000_0000_0000 * 0 ≡ p = omega arith in
+    ap₂ (λ (x : ℕ) (xs : List ℕ). x ∷ xs) e (numbers_later (p % 256) (p / 256) (bytes_from (suc p) n) n 0 ∙ numbers_read n (suc p))
 
-none_refused : (f : ℕ → ℕ) (ps : List ℕ) → ((q : ℕ) → among ps q ≡ true → f q ≡ 0) → first_refusal f ps ≡ 0
-unfolding among first_refusal
-none_refused f [] h = refl
-none_refused f (p ∷ ps) h = rw (h p (or_left (eqb p p) (among ps p) (eq-eqb p p refl))) (none_refused f ps (λ q e. h q (or_right (eqb q p) (among ps q) e)))
+length_bytes : (n p : ℕ) → length (bytes_from p n) ≡ 8 * n
+unfolding bytes_from
+length_bytes zero p = refl
+length_bytes (suc n) p = omega (arith, length_bytes n (suc p))
 
-length_up : (n p : ℕ) → length (up_from p n) ≡ n
-unfolding up_from
-length_up zero p = refl
-length_up (suc n) p = ap suc (length_up n (suc p))
+-- ---- no page stands twice, and none is refused
 
-below : (n p q : ℕ) → among (up_from p n) q ≡ true → q < p + n
+above : (n p q : ℕ) → q < p → among (up_from p n) q ≡ false
 unfolding up_from among
-below zero p q e = false≢true e
-below (suc n) p q e = ⊎_elim (λ (h : eqb q p ≡ true). omega (arith, eqb-true q p h)) (λ (h : among (up_from (suc p) n) q ≡ true). omega (arith, below n (suc p) q h)) (or_true _ _ e)
+above zero p q h = refl
+above (suc n) p q h = rw (ne_eqb q p (λ e. omega arith)) (above n (suc p) q (omega arith))
 
-length_same : (n p : ℕ) → length (replicate n p) ≡ n
-length_same zero p = refl
-length_same (suc n) p = ap suc (length_same n p)
+no_repeat : (n p : ℕ) → repeats (up_from p n) ≡ false
+unfolding up_from repeats
+no_repeat zero p = refl
+no_repeat (suc n) p = rw (above n (suc p) p (omega arith)) (no_repeat n (suc p))
 
-one_page : (n p q : ℕ) → among (replicate n p) q ≡ true → q ≡ p
-unfolding among
-one_page zero p q e = false≢true e
-one_page (suc n) p q e = ⊎_elim (λ (h : eqb q p ≡ true). eqb-true q p h) (λ (h : among (replicate n p) q ≡ true). one_page n p q h) (or_true _ _ e)
+none_refused : (f : ℕ → ℕ) (b n p : ℕ) → ((q : ℕ) → q < b → f q ≡ 0) → p + n ≤ b → first_refusal f (up_from p n) ≡ 0
+unfolding up_from first_refusal
+none_refused f b zero p h l = refl
+none_refused f b (suc n) p h l = rw (h p (omega arith)) (none_refused f b n (suc p) h (omega arith))
 
 page_taken : (q : ℕ) → q < 512 → page_refusal (entries_in broad.state) (overlays_of broad.tables Vtl0) (locks_of broad.tables Vtl0) true q ≡ 0
 unfolding entries_of ram_byte place_from among
 page_taken q h = rw (between_true 0 2097152 (q * 4096) (omega arith) (omega arith))
 
--- a list by its bytes: not over 512 pages, and no bytes over
-module _ (ps : List ℕ) (n : ℕ) (e : length ps ≡ n) where
-  short : n ≤ 512 → is_long (bytes_of ps) ≡ false
-  short h = le-ltb 4096 (length (bytes_of ps)) (omega (arith, length_bytes ps))
+module _ (n : ℕ) where
+  pages_are : pages_of (bytes_from 0 n) ≡ up_from 0 n
+  pages_are = let e : length (bytes_from 0 n) / 8 ≡ n = omega (arith, length_bytes n 0) in ap (numbers_from (bytes_from 0 n) 0) e ∙ numbers_read n 0
 
-  long : 512 < n → is_long (bytes_of ps) ≡ true
-  long h = lt-ltb 4096 (length (bytes_of ps)) (omega (arith, length_bytes ps))
+  short : n ≤ 512 → is_long (bytes_from 0 n) ≡ false
+  short h = le-ltb 4096 (length (bytes_from 0 n)) (omega (arith, length_bytes n 0))
 
-  whole_pages_lem : is_ragged (bytes_of ps) ≡ false
-  whole_pages_lem = ap not (eq-eqb (length (bytes_of ps) % 8) 0 (omega (arith, length_bytes ps)))
+  whole_pages_lem : is_ragged (bytes_from 0 n) ≡ false
+  whole_pages_lem = ap not (eq-eqb (length (bytes_from 0 n) % 8) 0 (omega (arith, length_bytes n 0)))
 
 broad_fits : fits broad ≡ true
 unfolding entries_of
@@ -89,20 +101,12 @@ broad_idle : status_in broad.state ≡ 0
 unfolding phase_of first_phases
 broad_idle = refl
 
-accepted : (ps : List ℕ) → length ps ≡ 512 → ((q : ℕ) → among ps q ≡ true → q < 512) → visibility_refusal broad.state (fits broad) broad.tables 0 1 (bytes_of ps) ≡ 0
-unfolding ready visibility_refusal
-accepted ps n h = rw (broad_fits, broad_idle, short ps 512 n (omega arith), pages_of_lem ps, whole_pages_lem ps 512 n) (none_refused _ ps (λ q e. page_taken q (h q e)))
-
-refused : (ps : List ℕ) → length ps ≡ 513 → visibility_refusal broad.state (fits broad) broad.tables 0 1 (bytes_of ps) ≡ refusal.long_list
-unfolding ready visibility_refusal
-refused ps n = rw (broad_fits, broad_idle, long ps 513 n (omega arith))
-
 -- THE CLAIMS
 pub lists : Lists
+unfolding ready visibility_refusal
 lists =
     record {
-      taken_512 = accepted (up_from 0 512) (length_up 512 0) (λ q e. omega (arith, below 512 0 q e));
-      refused_513 = refused (up_from 0 513) (length_up 513 0);
-      repeated_512 = accepted (replicate 512 1) (length_same 512 1) (λ q e. omega (arith, one_page 512 1 q e));
-      repeated_513 = refused (replicate 513 1) (length_same 513 1);
+      taken_512 = rw (broad_fits, broad_idle, short 512 (omega arith), pages_are 512, no_repeat 512 0, whole_pages_lem 512)
+          (none_refused (page_refusal (entries_in broad.state) (overlays_of broad.tables Vtl0) (locks_of broad.tables Vtl0) true) 512 512 0 page_taken (omega arith));
+      refused_513 = rw (broad_fits, broad_idle, lt-ltb 4096 (length (bytes_from 0 513)) (omega (arith, length_bytes 513 0)));
     }

@@ -1,32 +1,28 @@
--- The pages that a visibility change is for, as documents 01 and 02 have them, are those of the protector's own definitions, and each page that a list
--- names has one first place. Assumes nothing.
+-- The pages that a visibility change is for, as document 01 has them, are those of the protector's own definitions. Assumes nothing.
 use native.Mathlib.Omega.{arith}
 use mathlib.Core.Path.{◌≡◌, refl, sym, ap, ap₂, ◌∙◌, subst}
 use mathlib.Core.Bool.{Bool, true, false, cond, not, ◌&&◌}
 use mathlib.Core.List.{List, [], ◌∷◌, ◌++◌, append_assoc}
-use mathlib.Core.Logic.{⊎_elim}
-use Prim.Native.Nat.{ℕ, zero, suc, ◌+◌, ◌≤◌, ◌<◌}
+use Prim.Native.Nat.{ℕ, zero, suc, ◌+◌, ◌<◌}
 use lib.Dec.{ltb}
 use lib.ListN.{length, get_or, take, length-append}
-use lib.Seq.{get_or-append-add, take_all, take-append_seam}
-use borrow.Author.Tests.{ltb-true, lt-ltb, not-true}
-use Rattle.laws.specs.Bools.{false≢true, same, and_true, and_left, and_right, or_true}
+use lib.Seq.{get_or-append-add}
+use borrow.Author.Tests.{ltb-true, lt-ltb}
+use Rattle.laws.specs.Bools.{same, and_true}
 use Rattle.laws.specs.Refusal.{unless, when, first}
 use Rattle.bitmap.specs.Pages.{bit_at}
 use Rattle.layout.specs.Layout.{is_ram}
 use Rattle.permissions.specs.declared.GuestVtl.{GuestVtl}
 use Rattle.permissions.specs.declared.GuestVtl.TheVariants.{Vtl0, Vtl1}
-use Rattle.page_list.specs.Pages.{pages_of, among, is_first, repeats, steps_from, strict}
-use Rattle.page_list.proofs.Laws.{among_append, among_one}
+use Rattle.page_list.specs.Pages.{pages_of, steps_from, strict}
 use Rattle.lock_table.specs.Locks.{held_in}
 use Rattle.request_pages.specs.Request.{pick, pick_places, table_of, stop_at, is_readable_and_writable, wanted}
-use Rattle.request_pages.proofs.Asked.{among_asked, asked_once}
 use Rattle.protector_state.specs.State.{settings_of, entries_in}
 use Rattle.call_refusals.specs.Buffers.{Buffers, overlays_of, locks_of}
 use Rattle.call_refusals.specs.Refusals.{page_refusal, first_refusal}
-use Rattle.protector.specs.Calls.{checks_permissions, stop_of, is_asked, asked_for, table_for}
+use Rattle.protector.specs.Calls.{checks_permissions, stop_of, asked_for, table_for}
 use Rattle.visibility_claims.specs.Whole.{Ok, StoppedAt}
-use Rattle.visibility_claims.specs.Requested.{is_overlay_page, denial, access_denied, is_so_marked, Listed, pages_in, places_in, first_from, first_places, Requested, no_more, with_page, requested_from, requested_of, stored_in, Placed, PlacesHold, AsksAll, FirstPlaces}
+use Rattle.visibility_claims.specs.Requested.{is_overlay_page, denial, access_denied, is_so_marked, Listed, Requested, no_more, with_page, requested_from, requested_of, pages_in, places_in, stored_in, PlacesHold}
 
 -- ---- the checks of all pages
 
@@ -57,82 +53,45 @@ same_denial w v share (p ∷ ps) =
 ltb_suc : (a b : ℕ) → ltb (suc a) (suc b) ≡ ltb a b
 ltb_suc a b = same (ltb (suc a) (suc b)) (ltb a b) (λ e. lt-ltb a b (omega (arith, ltb-true (suc a) (suc b) e))) (λ e. lt-ltb (suc a) (suc b) (omega (arith, ltb-true a b e)))
 
--- a place of a list behind those of `pre`
-pub first_here : (all pre ps : List ℕ) (i p : ℕ) → all ≡ pre ++ ps → length pre ≡ i → is_first all i p ≡ not (among pre p)
-first_here all pre ps i p e n = ap₂ (λ (xs : List ℕ) (k : ℕ). not (among (take k xs) p)) e (sym n) ∙ ap (λ (xs : List ℕ). not (among xs p)) (take-append_seam pre ps)
-
-pub one_behind : (all pre ps : List ℕ) (p : ℕ) → all ≡ pre ++ (p ∷ ps) → all ≡ (pre ++ (p ∷ [])) ++ ps
-one_behind all pre ps p e = e ∙ sym (append_assoc pre (p ∷ []) ps)
-
-pub length_behind : (pre : List ℕ) (i p : ℕ) → length pre ≡ i → length (pre ++ (p ∷ [])) ≡ suc i
-length_behind pre i p n = length-append pre (p ∷ []) ∙ omega (arith, n)
-
--- what holds of the pages before and of this one
-pub both_behind : (K : ℕ → Type 0) (pre : List ℕ) (p : ℕ) → ((q : ℕ) → among pre q ≡ true → K q) → K p → (q : ℕ) → among (pre ++ (p ∷ [])) q ≡ true → K q
-both_behind K pre p h k q e =
-    ⊎_elim (λ (a : among pre q ≡ true). h q a) (λ (a : among (p ∷ []) q ≡ true). subst K (sym (among_one p q a)) k) (or_true _ _ (sym (among_append pre (p ∷ []) q) ∙ e))
-
-module _ (w : Buffers) (v : GuestVtl) (share : Bool) (O P : ℕ → Bool) (f : (p : ℕ) → O p ≡ not (access_denied w v share p)) (g : (p : ℕ) → P p ≡ not (is_so_marked w share p)) (all : List ℕ) where
-  abbrev F : ℕ → ℕ → Bool
-  F i p = is_first all i p && P p
-
-  -- of the pages from place i on
-  record Agrees (i : ℕ) (ps : List ℕ) (x : Requested) : Type 0 where
-    pages : pages_in x.listed ≡ pick F i (take (stop_at O ps) ps)
-    places : places_in x.listed ≡ pick_places F i (take (stop_at O ps) ps)
-    end : x.end ≡ cond (ltb (stop_at O ps) (length ps)) (StoppedAt (i + stop_at O ps)) Ok
-
-  -- the page at place i stops the list, is a repeat or drops out, or is asked for
-  module _ (i p : ℕ) (ps : List ℕ) where
-    stops : O p ≡ false → Agrees i (p ∷ ps) (no_more (StoppedAt i))
-    unfolding pages_in places_in pick pick_places stop_at
-    stops e =
-        let z : i ≡ i + 0 = omega arith in
-        record { pages = rw e; places = rw e; end = rw e (ap₂ (λ (y : Bool) (k : ℕ). cond y (StoppedAt k) Ok) (sym (lt-ltb 0 (suc (length ps)) (omega arith))) z) }
-
-    goes_on_lem : (x : Requested) → x.end ≡ cond (ltb (stop_at O ps) (length ps)) (StoppedAt (suc i + stop_at O ps)) Ok
-        → x.end ≡ cond (ltb (suc (stop_at O ps)) (suc (length ps))) (StoppedAt (i + suc (stop_at O ps))) Ok
-    goes_on_lem x h =
-        let z : suc i + stop_at O ps ≡ i + suc (stop_at O ps) = omega arith in h ∙ ap₂ (λ (y : Bool) (k : ℕ). cond y (StoppedAt k) Ok) (sym (ltb_suc (stop_at O ps) (length ps))) z
-
-    passes_over : (x : Requested) → O p ≡ true → F i p ≡ false → Agrees (suc i) ps x → Agrees i (p ∷ ps) x
-    unfolding pick pick_places stop_at
-    passes_over x e d h = record { pages = rw (e, d) h.pages; places = rw (e, d) h.places; end = rw e (goes_on_lem x h.end) }
-
-    asks_for_lem : (x : Requested) → O p ≡ true → F i p ≡ true → Agrees (suc i) ps x → Agrees i (p ∷ ps) (with_page (record { page = p; place = i }) x)
-    unfolding pages_in places_in pick pick_places stop_at
-    asks_for_lem x e d h =
-        record { pages = rw (e, d) (ap (λ (l : List ℕ). p ∷ l) h.pages); places = rw (e, d) (ap (λ (l : List ℕ). i ∷ l) h.places); end = rw e (goes_on_lem x h.end) }
-
-  -- a repeat of a page that didn't stop the list doesn't either
-  agrees : (pre : List ℕ) (i : ℕ) (ps : List ℕ) → all ≡ pre ++ ps → length pre ≡ i → ((q : ℕ) → among pre q ≡ true → O q ≡ true) → Agrees i ps (requested_from w v share (first_from all i ps))
-  unfolding requested_from first_from pages_in places_in pick pick_places stop_at
-  agrees pre i [] e n h = record { pages = refl; places = refl; end = refl }
-  agrees pre i (p ∷ ps) e n h =
-      go (among pre p) refl (access_denied w v share p) refl (is_so_marked w share p) refl
-      (λ o. agrees (pre ++ (p ∷ [])) (suc i) ps (one_behind all pre ps p e) (length_behind pre i p n) (both_behind (λ q. O q ≡ true) pre p h o))
+module _ (w : Buffers) (v : GuestVtl) (share : Bool) (O P : ℕ → Bool) (f : (p : ℕ) → O p ≡ not (access_denied w v share p)) (g : (p : ℕ) → P p ≡ not (is_so_marked w share p)) where
+  pages_from_lem : (i : ℕ) (ps : List ℕ) → pages_in (requested_from w v share i ps).listed ≡ pick P (take (stop_at O ps) ps)
+  unfolding requested_from pages_in pick stop_at
+  pages_from_lem i [] = refl
+  pages_from_lem i (p ∷ ps) = go (access_denied w v share p) (is_so_marked w share p) (f p) (g p) (requested_from w v share (suc i) ps) (pages_from_lem (suc i) ps)
     where
-      rest : List Listed
-      rest = first_from all (suc i) ps
+      go : (a b : Bool) → O p ≡ not a → P p ≡ not b → (x : Requested) → pages_in x.listed ≡ pick P (take (stop_at O ps) ps)
+          → pages_in (cond a (no_more (StoppedAt i)) (cond b x (with_page p i x))).listed ≡ pick P (take (cond (O p) (suc (stop_at O ps)) 0) (p ∷ ps))
+      go true b e d x h = rw e
+      go false true e d x h = rw (e, d) h
+      go false false e d x h = rw (e, d) (ap (λ (l : List ℕ). p ∷ l) h)
 
-      here : Listed
-      here = record { page = p; place = i }
+  places_from : (i : ℕ) (ps : List ℕ) → places_in (requested_from w v share i ps).listed ≡ pick_places P i (take (stop_at O ps) ps)
+  unfolding requested_from places_in pick_places stop_at
+  places_from i [] = refl
+  places_from i (p ∷ ps) = go (access_denied w v share p) (is_so_marked w share p) (f p) (g p) (requested_from w v share (suc i) ps) (places_from (suc i) ps)
+    where
+      go : (a b : Bool) → O p ≡ not a → P p ≡ not b → (x : Requested) → places_in x.listed ≡ pick_places P (suc i) (take (stop_at O ps) ps)
+          → places_in (cond a (no_more (StoppedAt i)) (cond b x (with_page p i x))).listed ≡ pick_places P i (take (cond (O p) (suc (stop_at O ps)) 0) (p ∷ ps))
+      go true b e d x h = rw e
+      go false true e d x h = rw (e, d) h
+      go false false e d x h = rw (e, d) (ap (λ (l : List ℕ). i ∷ l) h)
 
-      go : (r : Bool) → among pre p ≡ r → (a : Bool) → access_denied w v share p ≡ a → (b : Bool) → is_so_marked w share p ≡ b → (O p ≡ true → Agrees (suc i) ps (requested_from w v share rest))
-          → Agrees i (p ∷ ps) (requested_from w v share (cond (is_first all i p) (here ∷ rest) rest))
-      go true r a d b m next =
-          let no : is_first all i p ≡ false = first_here all pre (p ∷ ps) i p e n ∙ ap not r in
-          rw no (passes_over i p ps _ (h p r) (ap (λ (x : Bool). x && P p) no) (next (h p r)))
-      go false r true d b m next =
-          let yes : is_first all i p ≡ true = first_here all pre (p ∷ ps) i p e n ∙ ap not r in rw (yes, d) (stops i p ps (f p ∙ ap not d))
-      go false r false d true m next =
-          let yes : is_first all i p ≡ true = first_here all pre (p ∷ ps) i p e n ∙ ap not r in
-          let o : O p ≡ true = f p ∙ ap not d in
-          rw (yes, d, m) (passes_over i p ps _ o (ap₂ (λ (x y : Bool). x && y) yes (g p ∙ ap not m)) (next o))
-      go false r false d false m next =
-          let yes : is_first all i p ≡ true = first_here all pre (p ∷ ps) i p e n ∙ ap not r in
-          let o : O p ≡ true = f p ∙ ap not d in
-          rw (yes, d, m) (asks_for_lem i p ps _ o (ap₂ (λ (x y : Bool). x && y) yes (g p ∙ ap not m)) (next o))
+  end_from_lem : (i : ℕ) (ps : List ℕ) → (requested_from w v share i ps).end ≡ cond (ltb (stop_at O ps) (length ps)) (StoppedAt (i + stop_at O ps)) Ok
+  unfolding requested_from stop_at
+  end_from_lem i [] = refl
+  end_from_lem i (p ∷ ps) = go (access_denied w v share p) (is_so_marked w share p) (f p) (requested_from w v share (suc i) ps) (end_from_lem (suc i) ps)
+    where
+      go : (a b : Bool) → O p ≡ not a → (x : Requested) → x.end ≡ cond (ltb (stop_at O ps) (length ps)) (StoppedAt (suc i + stop_at O ps)) Ok
+          → (cond a (no_more (StoppedAt i)) (cond b x (with_page p i x))).end
+          ≡ cond (ltb (cond (O p) (suc (stop_at O ps)) 0) (suc (length ps))) (StoppedAt (i + cond (O p) (suc (stop_at O ps)) 0)) Ok
+      go true b e x h = let z : i ≡ i + 0 = omega arith in rw e (ap₂ (λ (y : Bool) (k : ℕ). cond y (StoppedAt k) Ok) (sym (lt-ltb 0 (suc (length ps)) (omega arith))) z)
+      go false b e x h =
+          let z : suc i + stop_at O ps ≡ i + suc (stop_at O ps) = omega arith in
+          rw e (last b ∙ h ∙ ap₂ (λ (y : Bool) (k : ℕ). cond y (StoppedAt k) Ok) (sym (ltb_suc (stop_at O ps) (length ps))) z)
+        where
+          last : (b : Bool) → (cond b x (with_page p i x)).end ≡ x.end
+          last true = refl
+          last false = refl
 
 module _ (w : Buffers) (v : GuestVtl) (share : Bool) where
   abbrev O : ℕ → Bool
@@ -167,182 +126,87 @@ module _ (w : Buffers) (v : GuestVtl) (share : Bool) where
       go false false e = rw e
 
   module _ (l : List ℕ) where
-    agreed : Agrees w v share O P open_undenied wanted_unmarked (pages_of l) 0 (pages_of l) (requested_of w v share l)
-    unfolding among
-    agreed = agrees w v share O P open_undenied wanted_unmarked (pages_of l) [] 0 (pages_of l) refl refl (λ q h. false≢true h)
-
     pub same_pages : pages_in (requested_of w v share l).listed ≡ asked_for w v share l
-    same_pages = agreed.pages
+    same_pages = pages_from_lem w v share O P open_undenied wanted_unmarked 0 (pages_of l)
 
-    pub asked_all : (q : ℕ) → among (pages_in (requested_of w v share l).listed) q ≡ (among (take (stop_of w v share l) (pages_of l)) q && not (is_so_marked w share q))
-    asked_all q =
-        ap (λ (ps : List ℕ). among ps q) same_pages ∙ among_asked P (pages_of l) (stop_of w v share l) q ∙ ap (λ (b : Bool). among (take (stop_of w v share l) (pages_of l)) q && b) (wanted_unmarked q)
-
-    pub same_places : places_in (requested_of w v share l).listed ≡ pick_places (is_asked w share l) 0 (take (stop_of w v share l) (pages_of l))
-    same_places = agreed.places
+    pub same_places : places_in (requested_of w v share l).listed ≡ pick_places P 0 (take (stop_of w v share l) (pages_of l))
+    same_places = places_from w v share O P open_undenied wanted_unmarked 0 (pages_of l)
 
     pub same_end : (requested_of w v share l).end ≡ cond (ltb (stop_of w v share l) (length (pages_of l))) (StoppedAt (stop_of w v share l)) Ok
     same_end =
         let z : 0 + stop_of w v share l ≡ stop_of w v share l = omega arith in
-        agreed.end ∙ ap (λ (k : ℕ). cond (ltb (stop_of w v share l) (length (pages_of l))) (StoppedAt k) Ok) z
+        end_from_lem w v share O P open_undenied wanted_unmarked 0 (pages_of l) ∙ ap (λ (k : ℕ). cond (ltb (stop_of w v share l) (length (pages_of l))) (StoppedAt k) Ok) z
 
     pub same_table : stored_in (requested_of w v share l).listed w.pages ≡ table_for w v share l
     unfolding table_of
     same_table = rw (same_pages, same_places)
 
--- THE CLAIM: none is left out
-pub asks_all : AsksAll
-asks_all = asked_all
+-- ---- THE CLAIM: the place of each page asked for holds that page in the list as sent, and places ascend
 
--- ---- THE CLAIMS on places
-
--- what holds of a first place: it has its page, and no place before has
-pub record Held (all : List ℕ) (place page : ℕ) : Type 0 where
-  pub inside : place < length all
-  pub holds : get_or all place 0 ≡ page
-  pub first : among (take place all) page ≡ false
-
-unfoldable pub Every : (ℕ → ℕ → Type 0) → List Listed → Type 0
-Every K [] = Unit {0}
-Every K (x ∷ xs) = K x.place x.page × Every K xs
-
-every_at : (K : ℕ → ℕ → Type 0) (xs : List Listed) → Every K xs → (j : ℕ) → j < length xs → K (get_or (places_in xs) j 0) (get_or (pages_in xs) j 0)
-unfolding Every places_in pages_in
-every_at K [] k j h = absurd (omega arith)
-every_at K (x ∷ xs) k zero h = k.0
-every_at K (x ∷ xs) k (suc j) h = every_at K xs k.1 j (omega arith)
-
-pub held_from : (all pre : List ℕ) (i : ℕ) (ps : List ℕ) → all ≡ pre ++ ps → length pre ≡ i → Every (Held all) (first_from all i ps)
-unfolding first_from Every
-held_from all pre i [] e n = tt
-held_from all pre i (p ∷ ps) e n =
-    go (is_first all i p) refl (held_from all (pre ++ (p ∷ [])) (suc i) ps (one_behind all pre ps p e) (length_behind pre i p n))
-  where
-    here : get_or all i 0 ≡ p
-    here =
-        let z : i ≡ length pre + 0 = omega (arith, n) in
-        ap₂ (λ (xs : List ℕ) (j : ℕ). get_or xs j 0) e z ∙ get_or-append-add pre (p ∷ ps) 0 0
-
-    go : (b : Bool) → is_first all i p ≡ b → Every (Held all) (first_from all (suc i) ps) → Every (Held all) (cond b (record { page = p; place = i } ∷ first_from all (suc i) ps) (first_from all (suc i) ps))
-    go true d next = (record { inside = omega (arith, n, ap length e, length-append pre (p ∷ ps)); holds = here; first = not-true _ d }, next)
-    go false d next = next
-
--- above any place before
-above : (all : List ℕ) (i q : ℕ) (ps : List ℕ) → q < i → steps_from q (places_in (first_from all i ps)) ≡ true
-unfolding first_from places_in steps_from
-above all i q [] h = refl
-above all i q (p ∷ ps) h = go (is_first all i p) (above all (suc i) q ps (omega arith)) (above all (suc i) i ps (omega arith))
-  where
-    go : (b : Bool) → steps_from q (places_in (first_from all (suc i) ps)) ≡ true → steps_from i (places_in (first_from all (suc i) ps)) ≡ true
-        → steps_from q (places_in (cond b (record { page = p; place = i } ∷ first_from all (suc i) ps) (first_from all (suc i) ps))) ≡ true
-    go true k j = and_true _ _ (lt-ltb q i h) j
-    go false k j = k
-
--- from below too
-lower : (q p : ℕ) (ps : List ℕ) → q ≤ p → steps_from p ps ≡ true → steps_from q ps ≡ true
-unfolding steps_from
-lower q p [] h k = refl
-lower q p (r ∷ rs) h k =
-    let up = ltb-true p r (and_left (ltb p r) (steps_from r rs) k) in and_true (ltb q r) (steps_from r rs) (lt-ltb q r (omega arith)) (and_right (ltb p r) (steps_from r rs) k)
-
-strict_from : (q : ℕ) (ps : List ℕ) → steps_from q ps ≡ true → strict ps ≡ true
-unfolding steps_from strict
-strict_from q [] k = refl
-strict_from q (p ∷ ps) k = and_right (ltb q p) (steps_from p ps) k
-
--- what is asked for of some places
 module _ (w : Buffers) (v : GuestVtl) (share : Bool) where
-  every_requested : (K : ℕ → ℕ → Type 0) (xs : List Listed) → Every K xs → Every K (requested_from w v share xs).listed
-  unfolding requested_from Every
-  every_requested K [] k = tt
-  every_requested K (x ∷ xs) k = go (access_denied w v share x.page) (is_so_marked w share x.page) (every_requested K xs k.1)
-    where
-      rest : Requested
-      rest = requested_from w v share xs
+  -- of the pages from place i on, those before being `pre`
+  record Held (all : List ℕ) (xs : List Listed) : Type 0 where
+    inside : (j : ℕ) → j < length xs → get_or (places_in xs) j 0 < length all
+    holds : (j : ℕ) → j < length xs → get_or all (get_or (places_in xs) j 0) 0 ≡ get_or (pages_in xs) j 0
 
-      go : (a b : Bool) → Every K rest.listed → Every K (cond a (no_more (StoppedAt x.place)) (cond b rest (with_page x rest))).listed
-      go true b next = tt
+  one_more_lem : (all : List ℕ) (p i : ℕ) (x : Requested) → i < length all → get_or all i 0 ≡ p → Held all x.listed → Held all (with_page p i x).listed
+  unfolding pages_in places_in
+  one_more_lem all p i x h e k = record { inside = inside; holds = holds }
+    where
+      inside : (j : ℕ) → j < suc (length x.listed) → get_or (i ∷ places_in x.listed) j 0 < length all
+      inside zero o = h
+      inside (suc j) o = k.inside j (omega arith)
+
+      holds : (j : ℕ) → j < suc (length x.listed) → get_or all (get_or (i ∷ places_in x.listed) j 0) 0 ≡ get_or (p ∷ pages_in x.listed) j 0
+      holds zero o = e
+      holds (suc j) o = k.holds j (omega arith)
+
+  held_from : (pre : List ℕ) (i : ℕ) (ps : List ℕ) → length pre ≡ i → Held (pre ++ ps) (requested_from w v share i ps).listed
+  unfolding requested_from
+  held_from pre i [] e = record { inside = λ j h. absurd (omega arith); holds = λ j h. absurd (omega arith) }
+  held_from pre i (p ∷ ps) e =
+      go (access_denied w v share p) (is_so_marked w share p)
+      (subst (λ (l : List ℕ). Held l (requested_from w v share (suc i) ps).listed) (append_assoc pre (p ∷ []) ps)
+      (held_from (pre ++ (p ∷ [])) (suc i) ps (length-append pre (p ∷ []) ∙ omega (arith, e))))
+    where
+      all : List ℕ
+      all = pre ++ (p ∷ ps)
+
+      rest : Requested
+      rest = requested_from w v share (suc i) ps
+
+      here : get_or (pre ++ (p ∷ ps)) i 0 ≡ p
+      here = let z : i ≡ length pre + 0 = omega (arith, e) in ap (λ (j : ℕ). get_or (pre ++ (p ∷ ps)) j 0) z ∙ get_or-append-add pre (p ∷ ps) 0 0
+
+      go : (a b : Bool) → Held all rest.listed → Held all (cond a (no_more (StoppedAt i)) (cond b rest (with_page p i rest))).listed
+      go true b next = record { inside = λ j h. absurd (omega arith); holds = λ j h. absurd (omega arith) }
       go false true next = next
-      go false false next = (k.0, next)
+      go false false next = one_more_lem all p i rest (omega (arith, e, length-append pre (p ∷ ps))) here next
 
-  ascend_requested : (q : ℕ) (xs : List Listed) → steps_from q (places_in xs) ≡ true → steps_from q (places_in (requested_from w v share xs).listed) ≡ true
+  -- above any place before
+  above : (i q : ℕ) (ps : List ℕ) → q < i → steps_from true q (places_in (requested_from w v share i ps).listed) ≡ true
   unfolding requested_from places_in steps_from
-  ascend_requested q [] k = refl
-  ascend_requested q (x ∷ xs) k =
-      let up = ltb-true q x.place (and_left (ltb q x.place) (steps_from x.place (places_in xs)) k) in
-      let on = and_right (ltb q x.place) (steps_from x.place (places_in xs)) k in
-      go (access_denied w v share x.page) (is_so_marked w share x.page) (ascend_requested q xs (lower q x.place (places_in xs) (omega arith) on)) (ascend_requested x.place xs on)
+  above i q [] h = refl
+  above i q (p ∷ ps) h = go (access_denied w v share p) (is_so_marked w share p) (requested_from w v share (suc i) ps) (above (suc i) q ps (omega arith)) (above (suc i) i ps (omega arith))
     where
-      rest : Requested
-      rest = requested_from w v share xs
+      go : (a b : Bool) (x : Requested) → steps_from true q (places_in x.listed) ≡ true → steps_from true i (places_in x.listed) ≡ true
+          → steps_from true q (places_in (cond a (no_more (StoppedAt i)) (cond b x (with_page p i x))).listed) ≡ true
+      go true b x k j = refl
+      go false true x k j = k
+      go false false x k j = and_true _ _ (lt-ltb q i h) j
 
-      go : (a b : Bool) → steps_from q (places_in rest.listed) ≡ true → steps_from x.place (places_in rest.listed) ≡ true
-          → steps_from q (places_in (cond a (no_more (StoppedAt x.place)) (cond b rest (with_page x rest))).listed) ≡ true
-      go true b y z = refl
-      go false true y z = y
-      go false false y z = and_true (ltb q x.place) _ (and_left (ltb q x.place) (steps_from x.place (places_in xs)) k) z
-
-  strict_requested : (xs : List Listed) → strict (places_in xs) ≡ true → strict (places_in (requested_from w v share xs).listed) ≡ true
+  ascend_from : (i : ℕ) (ps : List ℕ) → strict true (places_in (requested_from w v share i ps).listed) ≡ true
   unfolding requested_from places_in strict
-  strict_requested [] k = refl
-  strict_requested (x ∷ xs) k = go (access_denied w v share x.page) (is_so_marked w share x.page) (ascend_requested x.place xs k)
+  ascend_from i [] = refl
+  ascend_from i (p ∷ ps) = go (access_denied w v share p) (is_so_marked w share p) (requested_from w v share (suc i) ps) (ascend_from (suc i) ps) (above (suc i) i ps (omega arith))
     where
-      rest : Requested
-      rest = requested_from w v share xs
-
-      go : (a b : Bool) → steps_from x.place (places_in rest.listed) ≡ true → strict (places_in (cond a (no_more (StoppedAt x.place)) (cond b rest (with_page x rest))).listed) ≡ true
-      go true b y = refl
-      go false true y = strict_from x.place (places_in rest.listed) y
-      go false false y = y
-
-strict_first : (all : List ℕ) (i : ℕ) (ps : List ℕ) → strict (places_in (first_from all i ps)) ≡ true
-unfolding first_from places_in strict
-strict_first all i [] = refl
-strict_first all i (p ∷ ps) = go (is_first all i p) (strict_first all (suc i) ps) (above all (suc i) i ps (omega arith))
-  where
-    go : (b : Bool) → strict (places_in (first_from all (suc i) ps)) ≡ true → steps_from i (places_in (first_from all (suc i) ps)) ≡ true
-        → strict (places_in (cond b (record { page = p; place = i } ∷ first_from all (suc i) ps) (first_from all (suc i) ps))) ≡ true
-    go true k j = j
-    go false k j = k
-
-placed : (all : List ℕ) (xs : List Listed) → Every (Held all) xs → strict (places_in xs) ≡ true → Placed all xs
-placed all xs k up =
-    record { inside = λ j h. (every_at (Held all) xs k j h).inside; holds = λ j h. (every_at (Held all) xs k j h).holds; first = λ j h. (every_at (Held all) xs k j h).first; ascend = up }
+      go : (a b : Bool) (x : Requested) → strict true (places_in x.listed) ≡ true → steps_from true i (places_in x.listed) ≡ true
+          → strict true (places_in (cond a (no_more (StoppedAt i)) (cond b x (with_page p i x))).listed) ≡ true
+      go true b x k j = refl
+      go false true x k j = k
+      go false false x k j = j
 
 pub places_hold : PlacesHold
 places_hold w v share l =
-    let all = pages_of l in
-    placed all (requested_of w v share l).listed (every_requested w v share (Held all) (first_places all) (held_from all [] 0 all refl refl)) (strict_requested w v share (first_places all) (strict_first all 0 all))
-
--- ---- each page that a list names has one first place
-
-pub picked : (all : List ℕ) (i : ℕ) (ps : List ℕ) → pages_in (first_from all i ps) ≡ pick (λ j p. is_first all j p && true) i ps
-unfolding first_from pages_in pick
-picked all i [] = refl
-picked all i (p ∷ ps) = go (is_first all i p) (picked all (suc i) ps)
-  where
-    rest : List ℕ
-    rest = pick (λ j p. is_first all j p && true) (suc i) ps
-
-    go : (b : Bool) → pages_in (first_from all (suc i) ps) ≡ rest
-        → pages_in (cond b (record { page = p; place = i } ∷ first_from all (suc i) ps) (first_from all (suc i) ps)) ≡ cond (b && true) (p ∷ rest) rest
-    go true k = ap (λ (l : List ℕ). p ∷ l) k
-    go false k = k
-
-pub first_places_lem : FirstPlaces
-first_places_lem all =
-    record {
-      placed = placed all (first_places all) (held_from all [] 0 all refl refl) (strict_first all 0 all);
-      each = λ q. ap (λ (l : List ℕ). among l q) here ∙ among_asked (λ p. true) all (length all) q ∙ and_all (among (take (length all) all) q) ∙ ap (λ (l : List ℕ). among l q) whole;
-      once = ap repeats here ∙ asked_once (λ p. true) all (length all);
-    }
-  where
-    whole : take (length all) all ≡ all
-    whole = take_all (length all) all (omega arith)
-
-    here : pages_in (first_places all) ≡ pick (λ j p. is_first all j p && true) 0 (take (length all) all)
-    here = picked all 0 all ∙ ap (pick (λ j p. is_first all j p && true) 0) (sym whole)
-
-    and_all : (b : Bool) → (b && true) ≡ b
-    and_all true = refl
-    and_all false = refl
+    let k = held_from w v share [] 0 (pages_of l) refl in
+    record { inside = k.inside; holds = k.holds; ascend = ascend_from w v share 0 (pages_of l) }

@@ -2,7 +2,7 @@
 use mathlib.Core.Path.{refl}
 use Rattle.bitmap.specs.Pages.{word, written_from}
 use Rattle.layout.specs.Layout.{entries_of, ram_byte}
-use Rattle.page_list.specs.Pages.{number_of, number_at, numbers_from, among}
+use Rattle.page_list.specs.Pages.{number_of, number_at, numbers_from, among, repeats}
 use Rattle.page_list.specs.Runs.{runs_of}
 use Rattle.overlay_table.specs.Overlays as overlays
 use Rattle.lock_table.specs.Locks as locks
@@ -12,13 +12,13 @@ use Rattle.protector_state.specs.Reply.{asked_of, flat_of}
 use Rattle.protector.specs.Calls.{carried_out, visibility_taken, visibility_of}
 use Rattle.call_refusals.specs.Refusals.{ready, first_refusal, visibility_refusal}
 use Rattle.visibility_claims.specs.Whole.{one, in_turn, per_run, whole_share, returned, modified, whole_return}
-use Rattle.visibility_claims.specs.Requested.{denial, first_from, requested_from, pages_in, places_in}
+use Rattle.visibility_claims.specs.Requested.{denial, requested_from, pages_in, places_in}
 use Rattle.visibility_claims.specs.Table.{Stops, Bars, Visibility}
 use Rattle.visibility_claims.proofs.Examples.{replies}
 use Rattle.visibility_claims.proofs.Long.{lists}
 
 stops : Stops
-unfolding word written_from entries_of ram_byte number_of number_at numbers_from among runs_of overlays.place_from denial first_from requested_from pages_in places_in one in_turn per_run whole_share returned modified whole_return
+unfolding word written_from entries_of ram_byte number_of number_at numbers_from among repeats runs_of overlays.place_from denial requested_from pages_in places_in one in_turn per_run whole_share returned modified whole_return
 stops =
     record {
       read_only_before = refl;
@@ -36,7 +36,7 @@ stops =
     }
 
 bars : Bars
-unfolding word written_from entries_of ram_byte number_of number_at numbers_from among runs_of overlays.place_from overlays.flat overlays.table_of locks.ends locks.joined locks.table_of phase_of first_phases start_of asked_of flat_of carried_out first_refusal ready visibility_refusal visibility_taken visibility_of denial first_from requested_from pages_in one in_turn per_run whole_share
+unfolding word written_from entries_of ram_byte number_of number_at numbers_from among repeats runs_of overlays.place_from overlays.flat overlays.table_of locks.ends locks.joined locks.table_of phase_of first_phases start_of asked_of flat_of carried_out first_refusal ready visibility_refusal visibility_taken visibility_of denial requested_from pages_in one in_turn per_run whole_share
 bars =
     record {
       overlaid_shared = refl;
@@ -54,7 +54,7 @@ bars =
     }
 
 pub visibility : Visibility
-unfolding word written_from entries_of ram_byte number_of number_at numbers_from among runs_of overlays.place_from phase_of first_phases first_refusal ready visibility_refusal visibility_of denial first_from requested_from pages_in places_in one in_turn per_run whole_share returned modified whole_return
+unfolding word written_from entries_of ram_byte number_of number_at numbers_from among repeats runs_of overlays.place_from phase_of first_phases first_refusal ready visibility_refusal visibility_of denial requested_from pages_in places_in one in_turn per_run whole_share returned modified whole_return
 visibility =
     record {
       p2_asked = refl;

@@ -6,7 +6,7 @@ use Rattle.laws.specs.Refusal.{unless, when}
 use Rattle.permissions.specs.declared.GuestVtl.{GuestVtl}
 use Rattle.permissions.specs.declared.IsolationType.{IsolationType}
 use Rattle.permissions.specs.Flags.{fit_vtl, vtl_of, fit_bool, bool_of}
-use Rattle.page_list.specs.Pages.{pages_of, is_long, is_ragged}
+use Rattle.page_list.specs.Pages.{pages_of, is_long, repeats, is_ragged}
 use Rattle.visibility_steps.specs.declared.Operation as declared
 use Rattle.visibility_steps.specs.declared.Operation.TheVariants as crossed
 use Rattle.protector_state.specs.declared.Reply.{Reply}
@@ -26,8 +26,9 @@ unfoldable pub input_refusal : Buffers → ℕ → ℕ → List ℕ → ℕ
 input_refusal buffers vtl visibility list =
     ready buffers.state (fits buffers)
     (when (is_long list) refusal.long_list
+    (when (repeats (pages_of list)) refusal.repeated_page
     (unless (fit_vtl vtl && (fit_bool visibility && not (is_ragged list))) refusal.unfit_number
-    0))
+    0)))
 
 -- none of its pages refused: to shared or to private, of those that it asks for
 abbrev pub whole_on : Buffers → GuestVtl → Bool → Requested → List BackendAnswer → Whole

@@ -2,7 +2,6 @@ pub mod Whole
 pub mod Requested
 pub mod Runs
 pub mod Calls
-pub mod Repeats
 pub mod Refusals
 pub mod Ends
 pub mod Marks

@@ -1,5 +1,5 @@
 -- Which pages of its list a visibility change is for, and which of them refuse it: document 01, "The request under way", "Overlays and locks", "From the
--- state" 10, 11 and 15; document 02, (iii). Written from the list as sent; proofs/Requested proves that the protector's own definitions give the same.
+-- state" 10, 11 and 15. Written from the list as sent; proofs/Requested proves that the protector's own definitions give the same.
 use Rattle.std.specs.Prelude.{Bool, true, false, cond, not, ◌&&◌, List, [], ◌∷◌, ◌++◌, ◌≡◌, ℕ, suc, ◌<◌, length, get_or, take, drop}
 use Rattle.abi.specs.Lengths.{places_start}
 use Rattle.abi.specs.Refusals as refusal
@@ -7,13 +7,12 @@ use Rattle.bitmap.specs.Pages.{bit_at}
 use Rattle.layout.specs.Layout.{is_ram}
 use Rattle.permissions.specs.declared.GuestVtl.{GuestVtl}
 use Rattle.permissions.specs.declared.GuestVtl.TheVariants.{Vtl0, Vtl1}
-use Rattle.page_list.specs.Pages.{pages_of, among, is_first, repeats, strict}
+use Rattle.page_list.specs.Pages.{pages_of, strict}
 use Rattle.overlay_table.specs.Overlays.{is_overlay}
 use Rattle.lock_table.specs.Locks.{held_in}
 use Rattle.request_pages.specs.Request.{over}
 use Rattle.protector_state.specs.State.{settings_of, entries_in}
 use Rattle.call_refusals.specs.Buffers.{Buffers, overlays_of, locks_of}
-use Rattle.protector.specs.Calls.{stop_of}
 use Rattle.visibility_claims.specs.Whole.{Status, Ok, StoppedAt}
 
 -- ---- before anything is changed each page is looked at, in list order: 7 where it is no RAM, 10 where it is locked, 11 where an overlay is to be shared. Overlays
@@ -35,30 +34,7 @@ denial buffers vtl share (gpn ∷ rest) =
     (cond (share && is_overlay_page buffers vtl gpn) refusal.overlay
     (denial buffers vtl share rest)))
 
--- ---- each page at its first place (02, (iii))
-
--- a page with its place in the list as sent
-pub record Listed : Type 0 where
-  pub page : ℕ
-  pub place : ℕ
-
-unfoldable pub pages_in : List Listed → List ℕ
-pages_in [] = []
-pages_in (first ∷ rest) = first.page ∷ pages_in rest
-
-unfoldable pub places_in : List Listed → List ℕ
-places_in [] = []
-places_in (first ∷ rest) = first.place ∷ places_in rest
-
--- the first places of a list, from place i on
-unfoldable pub first_from : List ℕ → ℕ → List ℕ → List Listed
-first_from list i [] = []
-first_from list i (gpn ∷ rest) = cond (is_first list i gpn) (record { page = gpn; place = i } ∷ first_from list (suc i) rest) (first_from list (suc i) rest)
-
-abbrev pub first_places : List ℕ → List Listed
-first_places list = first_from list 0 list
-
--- ---- then the first places are gone through
+-- ---- then the list is gone through from its first page on
 
 -- 15: VTL0 shares, protections are enabled, and the page isn't both readable and writable
 abbrev pub access_denied : Buffers → GuestVtl → Bool → ℕ → Bool
@@ -72,6 +48,11 @@ abbrev pub is_so_marked : Buffers → Bool → ℕ → Bool
 is_so_marked buffers true gpn = bit_at 8 buffers.maps.shared gpn
 is_so_marked buffers false gpn = not (bit_at 8 buffers.maps.shared gpn)
 
+-- a page asked for, with its place in the list as sent
+pub record Listed : Type 0 where
+  pub page : ℕ
+  pub place : ℕ
+
 -- the pages asked for, in list order, and how the call ends once they are done: Ok, or 15 at the place where the list stopped
 pub record Requested : Type 0 where
   pub listed : List Listed
@@ -80,46 +61,38 @@ pub record Requested : Type 0 where
 abbrev pub no_more : Status → Requested
 no_more end = record { listed = []; end = end }
 
-abbrev pub with_page : Listed → Requested → Requested
-with_page first rest = record { listed = first ∷ rest.listed; end = rest.end }
+abbrev pub with_page : ℕ → ℕ → Requested → Requested
+with_page gpn i rest = record { listed = record { page = gpn; place = i } ∷ rest.listed; end = rest.end }
 
--- a page stops the list, or drops out, or is asked for
-unfoldable pub requested_from : Buffers → GuestVtl → Bool → List Listed → Requested
-requested_from buffers vtl share [] = no_more Ok
-requested_from buffers vtl share (first ∷ rest) =
-    cond (access_denied buffers vtl share first.page) (no_more (StoppedAt first.place))
-    (cond (is_so_marked buffers share first.page) (requested_from buffers vtl share rest)
-    (with_page first (requested_from buffers vtl share rest)))
+-- from place i on: a page stops the list, or drops out, or is asked for
+unfoldable pub requested_from : Buffers → GuestVtl → Bool → ℕ → List ℕ → Requested
+requested_from buffers vtl share i [] = no_more Ok
+requested_from buffers vtl share i (gpn ∷ rest) =
+    cond (access_denied buffers vtl share gpn) (no_more (StoppedAt i))
+    (cond (is_so_marked buffers share gpn) (requested_from buffers vtl share (suc i) rest)
+    (with_page gpn i (requested_from buffers vtl share (suc i) rest)))
 
 abbrev pub requested_of : Buffers → GuestVtl → Bool → List ℕ → Requested
-requested_of buffers vtl share list = requested_from buffers vtl share (first_places (pages_of list))
+requested_of buffers vtl share list = requested_from buffers vtl share 0 (pages_of list)
+
+unfoldable pub pages_in : List Listed → List ℕ
+pages_in [] = []
+pages_in (first ∷ rest) = first.page ∷ pages_in rest
+
+unfoldable pub places_in : List Listed → List ℕ
+places_in [] = []
+places_in (first ∷ rest) = first.place ∷ places_in rest
 
 -- the lent run `pages` while the call is under way: the pages asked for from word 0 on, their places from word 512 on, every other word as it was
 abbrev pub stored_in : List Listed → List ℕ → List ℕ
 stored_in listed pages = over (pages_in listed) (take places_start pages) ++ over (places_in listed) (drop places_start pages)
 
--- ---- THE CLAIMS on places: each holds its page in the list as sent, no place before has that page, and they ascend
+-- ---- THE CLAIM on places: each holds its page in the list as sent, and they ascend
 
 pub record Placed (pages : List ℕ) (listed : List Listed) : Type 0 where
   pub inside : (j : ℕ) → j < length listed → get_or (places_in listed) j 0 < length pages
   pub holds : (j : ℕ) → j < length listed → get_or pages (get_or (places_in listed) j 0) 0 ≡ get_or (pages_in listed) j 0
-  pub first : (j : ℕ) → j < length listed → among (take (get_or (places_in listed) j 0) pages) (get_or (pages_in listed) j 0) ≡ false
-  pub ascend : strict (places_in listed) ≡ true
+  pub ascend : strict true (places_in listed) ≡ true
 
 abbrev pub PlacesHold : Type 0
 PlacesHold = (buffers : Buffers) (vtl : GuestVtl) (share : Bool) (list : List ℕ) → Placed (pages_of list) (requested_of buffers vtl share list).listed
-
--- what is asked for is every page before the stop that isn't so marked already
-abbrev pub AsksAll : Type 0
-AsksAll =
-    (buffers : Buffers) (vtl : GuestVtl) (share : Bool) (list : List ℕ) (gpn : ℕ)
-    → among (pages_in (requested_of buffers vtl share list).listed) gpn ≡ (among (take (stop_of buffers vtl share list) (pages_of list)) gpn && not (is_so_marked buffers share gpn))
-
--- of a list each page that it names has one first place
-pub record NamedOnce (pages : List ℕ) : Type 0 where
-  pub placed : Placed pages (first_places pages)
-  pub each : (gpn : ℕ) → among (pages_in (first_places pages)) gpn ≡ among pages gpn
-  pub once : repeats (pages_in (first_places pages)) ≡ false
-
-abbrev pub FirstPlaces : Type 0
-FirstPlaces = (pages : List ℕ) → NamedOnce pages

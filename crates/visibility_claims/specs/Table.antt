@@ -135,15 +135,11 @@ guarded =
     (overlays.table_of (overlays.entry 4 15 15 1 0 ∷ []) ++ (overlays.table_of (overlays.entry 7 15 15 1 0 ∷ [])
     ++ (locks.table_of ((4 ∷ 6 ∷ 20 ∷ []) ∷ []) ++ locks.table_of ((8 ∷ []) ∷ []))))
 
--- ---- long lists: the bytes of pages below 65,536, n pages from p on; and a protector on SNP with 512 pages of RAM
+-- ---- long lists: the pages from p on, n of them, below page 65,536; and a protector on SNP with 512 pages of RAM
 
-unfoldable pub bytes_of : List ℕ → List ℕ
-bytes_of [] = []
-bytes_of (gpn ∷ rest) = gpn % 256 ∷ gpn / 256 ∷ 0 ∷ 0 ∷ 0 ∷ 0 ∷ 0 ∷ 0 ∷ bytes_of rest
-
-unfoldable pub up_from : ℕ → ℕ → List ℕ
-up_from gpn zero = []
-up_from gpn (suc n) = gpn ∷ up_from (suc gpn) n
+unfoldable pub bytes_from : ℕ → ℕ → List ℕ
+bytes_from gpn zero = []
+bytes_from gpn (suc n) = gpn % 256 ∷ gpn / 256 ∷ 0 ∷ 0 ∷ 0 ∷ 0 ∷ 0 ∷ 0 ∷ bytes_from (suc gpn) n
 
 abbrev pub broad : Buffers
 broad =
@@ -187,11 +183,8 @@ pub record Bars : Type 0 where
 
 -- how long a list may be (5), by 01's own numbers
 pub record Lists : Type 0 where
-  pub taken_512 : visibility_refusal broad.state (fits broad) broad.tables 0 1 (bytes_of (up_from 0 512)) ≡ 0
-  pub refused_513 : visibility_refusal broad.state (fits broad) broad.tables 0 1 (bytes_of (up_from 0 513)) ≡ refusal.long_list
-  -- repeats count: one page
-  pub repeated_512 : visibility_refusal broad.state (fits broad) broad.tables 0 1 (bytes_of (replicate 512 1)) ≡ 0
-  pub repeated_513 : visibility_refusal broad.state (fits broad) broad.tables 0 1 (bytes_of (replicate 513 1)) ≡ refusal.long_list
+  pub taken_512 : visibility_refusal broad.state (fits broad) broad.tables 0 1 (bytes_from 0 512) ≡ 0
+  pub refused_513 : visibility_refusal broad.state (fits broad) broad.tables 0 1 (bytes_from 0 513) ≡ refusal.long_list
 
 pub record Visibility : Type 0 where
   pub p2_asked : P2.asked

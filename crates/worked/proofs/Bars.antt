@@ -6,7 +6,7 @@ use Rattle.layout.specs.Layout.{entries_of, ram_byte}
 use Rattle.permissions.specs.Rmpadjust.{operand_of}
 use Rattle.access.specs.Query.{access_permission, lower_vtl_permissions}
 use Rattle.fault.specs.Fault.{fault_of, fault_refusal, page_fault}
-use Rattle.page_list.specs.Pages.{number_of, number_at, numbers_from, among}
+use Rattle.page_list.specs.Pages.{number_of, number_at, numbers_from, among, repeats}
 use Rattle.page_list.specs.Runs.{neighbours, run_at}
 use Rattle.request_pages.specs.Request.{pick, pick_places, table_of, stop_at, run_end, put}
 use Rattle.overlay_table.specs.Overlays.{place_from}
@@ -33,7 +33,7 @@ use Rattle.visibility_claims.specs.Calls.{follow}
 use Rattle.worked.specs.Bars.{Bars, Locks, Queries, Turns}
 
 pub bars : Bars
-unfolding word written_from closed closed_to swapped entries_of ram_byte operand_of number_of number_at numbers_from among neighbours run_at pick
+unfolding word written_from closed closed_to swapped entries_of ram_byte operand_of number_of number_at numbers_from among repeats neighbours run_at pick
     pick_places table_of stop_at run_end put place_from lists_from same kept equal_from moved without span next_of any_of renewed_from
     operation_of ask end halt keep share_run default_run return_run after_flush after_wait after_modify after_accept failed_modify done_of failed_of cleared
     start_of protect changes.ask wait finish changes.halt changes.keep protect_pages protect_ram changes.done_of changes.failed_of start_new start_old
@@ -118,7 +118,7 @@ queries =
 
 pub turns : Turns
 unfolding word written_from closed closed_to swapped entries_of ram_byte operand_of access_permission lower_vtl_permissions fault_of fault_refusal
-    page_fault number_of number_at numbers_from among neighbours run_at pick pick_places table_of stop_at run_end put place_from lists_from same kept equal_from moved without span next_of any_of renewed_from operation_of ask end halt keep share_run default_run return_run after_flush
+    page_fault number_of number_at numbers_from among repeats neighbours run_at pick pick_places table_of stop_at run_end put place_from lists_from same kept equal_from moved without span next_of any_of renewed_from operation_of ask end halt keep share_run default_run return_run after_flush
     after_wait after_modify after_accept failed_modify done_of failed_of cleared start_of protect changes.ask wait finish changes.halt changes.keep
     protect_pages protect_ram changes.done_of changes.failed_of start_new start_old first_phases phase_of asked_of flat_of stage_of applied entered carried_out
     carried_change first_refusal ready visibility_refusal visibility_taken visibility_of answer_refusal after_done after_failed answer_done answer_failed

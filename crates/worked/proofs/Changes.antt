@@ -4,7 +4,7 @@ use Rattle.bitmap.specs.Pages.{word, written_from}
 use Rattle.words.specs.Words.{closed, closed_to}
 use Rattle.layout.specs.Layout.{entries_of, ram_byte}
 use Rattle.permissions.specs.Rmpadjust.{operand_of}
-use Rattle.page_list.specs.Pages.{number_of, number_at, numbers_from, among}
+use Rattle.page_list.specs.Pages.{number_of, number_at, numbers_from, among, repeats}
 use Rattle.page_list.specs.Runs.{neighbours, run_at}
 use Rattle.request_pages.specs.Request.{pick, pick_places, table_of, stop_at, run_end, put}
 use Rattle.overlay_table.specs.Overlays.{place_from}
@@ -54,7 +54,7 @@ protections =
     }
 
 pub default_changes : DefaultChanges
-unfolding word written_from closed closed_to entries_of ram_byte operand_of number_of number_at numbers_from among neighbours run_at pick pick_places
+unfolding word written_from closed closed_to entries_of ram_byte operand_of number_of number_at numbers_from among repeats neighbours run_at pick pick_places
     table_of stop_at run_end put place_from span next_of any_of renewed_from operation_of ask end halt keep share_run default_run return_run
     after_flush after_wait after_modify after_accept failed_modify done_of failed_of cleared start_of protect changes.ask wait finish changes.halt
     changes.keep protect_pages protect_ram changes.done_of changes.failed_of start_new start_old first_phases phase_of asked_of flat_of stage_of applied entered

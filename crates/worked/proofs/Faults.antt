@@ -5,7 +5,7 @@ use Rattle.layout.specs.Layout.{entries_of, ram_byte}
 use Rattle.permissions.specs.Rmpadjust.{operand_of}
 use Rattle.access.specs.Query.{access_permission, lower_vtl_permissions}
 use Rattle.fault.specs.Fault.{fault_of, fault_refusal, page_fault}
-use Rattle.page_list.specs.Pages.{number_of, number_at, numbers_from, among}
+use Rattle.page_list.specs.Pages.{number_of, number_at, numbers_from, among, repeats}
 use Rattle.page_list.specs.Runs.{runs_of, neighbours, run_at}
 use Rattle.request_pages.specs.Request.{pick, pick_places, table_of, stop_at, run_end, put}
 use Rattle.overlay_table.specs.Overlays.{place_from}
@@ -17,16 +17,16 @@ use Rattle.protector.specs.Calls.{carried_out, visibility_taken, visibility_of, 
 use Rattle.call_refusals.specs.Refusals.{ready, first_refusal, visibility_refusal, answer_refusal}
 use Rattle.queries.specs.Queries.{fault_in, lower_in, access_in}
 use Rattle.visibility_claims.specs.Whole.{one, in_turn, per_run, whole_share}
-use Rattle.visibility_claims.specs.Requested.{denial, first_from, requested_from, pages_in}
+use Rattle.visibility_claims.specs.Requested.{denial, requested_from, pages_in}
 use Rattle.visibility_claims.specs.Calls.{follow}
 use Rattle.worked.specs.Faults.{Faults, Permissions}
 
 pub faults : Faults
-unfolding word written_from entries_of ram_byte operand_of fault_of fault_refusal page_fault number_of number_at numbers_from among runs_of
+unfolding word written_from entries_of ram_byte operand_of fault_of fault_refusal page_fault number_of number_at numbers_from among repeats runs_of
     neighbours run_at pick pick_places table_of stop_at run_end put place_from operation_of ask end halt keep share_run default_run return_run
     after_flush after_wait after_modify after_accept failed_modify done_of failed_of cleared start_of first_phases phase_of asked_of flat_of applied carried_out
     first_refusal ready visibility_refusal visibility_taken visibility_of answer_refusal answer_done answer_failed fault_in
-    denial first_from requested_from pages_in one in_turn per_run whole_share follow
+    denial requested_from pages_in one in_turn per_run whole_share follow
 faults =
     record {
       read_flag = refl;

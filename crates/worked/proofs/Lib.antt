@@ -5,7 +5,6 @@ pub mod Shares
 pub mod Changes
 pub mod Overlays
 pub mod Past
-pub mod Repeats
 pub mod Bars
 pub mod Registrar
 pub mod Limits

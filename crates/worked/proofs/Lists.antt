@@ -1,14 +1,13 @@
 -- The rows of `Lists`, computed. Assumes nothing.
-use mathlib.Core.Path.{◌≡◌, refl, ap, ◌∙◌}
+use mathlib.Core.Path.{◌≡◌, refl, ap, ap₂, ◌∙◌}
 use mathlib.Core.Bool.{Bool, true}
-use Prim.Native.Nat.{ℕ}
-use mathlib.Core.List.{List}
-use lib.ListN.{replicate}
+use Prim.Native.Nat.{ℕ, zero, suc, ◌/◌, ◌%◌}
+use mathlib.Core.List.{List, ◌∷◌}
 use Rattle.bitmap.specs.Pages.{word, written_from}
 use Rattle.words.specs.Words.{closed, closed_to, swapped}
 use Rattle.layout.specs.Layout.{entries_of, ram_byte}
 use Rattle.permissions.specs.Rmpadjust.{operand_of}
-use Rattle.page_list.specs.Pages.{number_of, number_at, numbers_from, among}
+use Rattle.page_list.specs.Pages.{number_of, number_at, numbers_from, among, repeats}
 use Rattle.page_list.specs.Runs.{neighbours, run_at}
 use Rattle.request_pages.specs.Request.{pick, pick_places, table_of, stop_at, run_end, put}
 use Rattle.overlay_table.specs.Overlays.{place_from}
@@ -31,19 +30,24 @@ use Rattle.protection_entries.specs.Calls.{protection_refusal, protection_taken,
 use Rattle.lock_entries.specs.Calls.{lock_refusal, lock_of, unlock_of}
 use Rattle.queries.specs.Queries.{query_refusal, visibilities, filled_by, query_of}
 use Rattle.visibility_claims.specs.Calls.{follow}
-use Rattle.visibility_claims.specs.Table.{bytes_of, up_from, broad}
+use Rattle.visibility_claims.specs.Table.{bytes_from, broad}
 use Rattle.visibility_claims.proofs.Long as long
 use Rattle.worked.specs.Crossing.{waits}
-use Rattle.worked.specs.Lists.{wide, Lists}
+use Rattle.worked.specs.Lists.{wide, listed, Lists}
 
 -- 512 pages: no computation of all of them, but the law of `visibility_claims`
+
+listed_is : (n p : ℕ) → listed p n ≡ bytes_from p n
+unfolding listed bytes_from
+listed_is zero p = refl
+listed_is (suc n) p = ap (λ (l : List ℕ). p % 256 ∷ p / 256 ∷ 0 ∷ 0 ∷ 0 ∷ 0 ∷ 0 ∷ 0 ∷ l) (listed_is n (suc p))
 
 wide_fits : fits wide ≡ fits broad
 unfolding entries_of
 wide_fits = refl
 
-accepted : (l : List ℕ) → visibility_refusal broad.state (fits broad) broad.tables 0 1 l ≡ 0 → visibility_refusal wide.state (fits wide) wide.tables 0 1 l ≡ 0
-accepted l e = ap (λ (b : Bool). visibility_refusal wide.state b wide.tables 0 1 l) wide_fits ∙ e
+accepted : visibility_refusal wide.state (fits wide) wide.tables 0 1 (listed 0 512) ≡ 0
+accepted = ap₂ (λ (b : Bool) (l : List ℕ). visibility_refusal wide.state b wide.tables 0 1 l) wide_fits (listed_is 512 0) ∙ (long.lists).taken_512
 
 begun : (l : List ℕ) → (visibility_taken wide Vtl0 true l).reply ≡ waits
 unfolding visibility_taken start_of carried_out flat_of asked_of
@@ -54,19 +58,17 @@ unfolding visibility_of
 taken l e = ap (λ (n : ℕ). (decided wide n (visibility_taken wide Vtl0 true l)).reply) e ∙ begun l
 
 pub lists : Lists
-unfolding word written_from closed closed_to swapped entries_of ram_byte operand_of number_of number_at numbers_from among neighbours run_at pick
+unfolding word written_from closed closed_to swapped entries_of ram_byte operand_of number_of number_at numbers_from among repeats neighbours run_at pick
     pick_places table_of stop_at run_end put place_from lists_from same kept equal_from moved without span next_of any_of renewed_from
     operation_of ask end halt keep share_run default_run return_run after_flush after_wait after_modify after_accept failed_modify done_of failed_of cleared
     start_of protect changes.ask wait finish changes.halt changes.keep protect_pages protect_ram changes.done_of changes.failed_of start_new start_old
     first_phases phase_of asked_of flat_of stage_of applied entered carried_out carried_change first_refusal ready visibility_refusal visibility_taken visibility_of
     answer_refusal after_done after_failed answer_done answer_failed protection_refusal protection_taken protection_of default_refusal default_started
-    default_taken default_of lock_refusal lock_of unlock_of query_refusal visibilities filled_by query_of follow bytes_of up_from
+    default_taken default_of lock_refusal lock_of unlock_of query_refusal visibilities filled_by query_of follow listed
 lists =
     record {
-      taken_512 = taken (bytes_of (up_from 0 512)) (accepted (bytes_of (up_from 0 512)) (long.lists).taken_512);
+      taken_512 = taken (listed 0 512) accepted;
       refused_513 = refl;
-      again_512 = taken (bytes_of (replicate 512 1)) (accepted (bytes_of (replicate 512 1)) (long.lists).repeated_512);
-      again_513 = refl;
       share_4097 = refl;
       share_4103 = refl;
       protect_4097 = refl;
@@ -79,8 +81,10 @@ lists =
       unlock_4097 = refl;
       query_4097 = refl;
       query_4103 = refl;
+      repeat_over = refl;
       byte_over = refl;
       seven_over = refl;
+      repeat_apart = refl;
       protect_repeat = refl;
       protect_over = refl;
       query_repeat = refl;

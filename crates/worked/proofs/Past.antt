@@ -5,7 +5,7 @@ use Rattle.layout.specs.Layout.{entries_of, ram_byte}
 use Rattle.permissions.specs.Rmpadjust.{operand_of}
 use Rattle.access.specs.Query.{access_permission, lower_vtl_permissions}
 use Rattle.fault.specs.Fault.{fault_of, fault_refusal, page_fault}
-use Rattle.page_list.specs.Pages.{number_of, number_at, numbers_from, among}
+use Rattle.page_list.specs.Pages.{number_of, number_at, numbers_from, among, repeats}
 use Rattle.page_list.specs.Runs.{neighbours, run_at}
 use Rattle.request_pages.specs.Request.{pick, pick_places, table_of, stop_at, run_end, put}
 use Rattle.overlay_table.specs.Overlays.{place_from}
@@ -27,7 +27,7 @@ use Rattle.queries.specs.Queries.{query_refusal, visibilities, filled_by, query_
 use Rattle.worked.specs.Past.{PastFaults, PastPermissions, PastLists}
 
 pub past_faults : PastFaults
-unfolding word written_from entries_of ram_byte fault_of fault_refusal page_fault number_of number_at numbers_from among neighbours run_at pick pick_places
+unfolding word written_from entries_of ram_byte fault_of fault_refusal page_fault number_of number_at numbers_from among repeats neighbours run_at pick pick_places
     table_of stop_at run_end put place_from lists_from operation_of ask keep cleared start_of first_phases phase_of asked_of flat_of applied carried_out first_refusal ready
     visibility_refusal visibility_taken visibility_of fault_in
 past_faults =
@@ -83,7 +83,7 @@ past_permissions =
     }
 
 pub past_lists : PastLists
-unfolding word written_from entries_of ram_byte operand_of number_of number_at numbers_from among neighbours run_at pick pick_places table_of stop_at run_end put
+unfolding word written_from entries_of ram_byte operand_of number_of number_at numbers_from among repeats neighbours run_at pick pick_places table_of stop_at run_end put
     place_from lists_from any_of operation_of ask keep cleared start_of protect changes.ask changes.keep wait protect_pages start_new first_phases phase_of asked_of flat_of stage_of applied entered
     carried_out carried_change first_refusal ready visibility_refusal visibility_taken visibility_of protection_refusal protection_taken protection_of call_refusal within guest_refusal
     dma_refusal page_refusal register_refusal current_of register_taken register_of query_refusal visibilities filled_by query_of

@@ -4,7 +4,7 @@ use Rattle.bitmap.specs.Pages.{word, written_from}
 use Rattle.words.specs.Words.{closed, closed_to}
 use Rattle.layout.specs.Layout.{entries_of, ram_byte}
 use Rattle.permissions.specs.Rmpadjust.{operand_of}
-use Rattle.page_list.specs.Pages.{number_of, number_at, numbers_from, among}
+use Rattle.page_list.specs.Pages.{number_of, number_at, numbers_from, among, repeats}
 use Rattle.page_list.specs.Runs.{neighbours, run_at}
 use Rattle.request_pages.specs.Request.{pick, pick_places, table_of, stop_at, run_end, put}
 use Rattle.overlay_table.specs.Overlays.{place_from}
@@ -25,7 +25,7 @@ use Rattle.visibility_claims.specs.Calls.{follow}
 use Rattle.worked.specs.Shares.{Operations, Moves, Stops, Calls, Failures}
 
 pub operations : Operations
-unfolding word written_from entries_of ram_byte operand_of number_of number_at numbers_from among neighbours run_at pick pick_places table_of stop_at
+unfolding word written_from entries_of ram_byte operand_of number_of number_at numbers_from among repeats neighbours run_at pick pick_places table_of stop_at
     run_end put place_from operation_of ask end halt keep share_run default_run return_run after_flush after_wait after_modify after_accept
     failed_modify done_of failed_of cleared start_of first_phases phase_of asked_of flat_of applied carried_out first_refusal ready visibility_refusal visibility_taken
     visibility_of answer_refusal answer_done answer_failed follow
@@ -49,7 +49,7 @@ operations =
     }
 
 pub moves : Moves
-unfolding word written_from entries_of ram_byte operand_of number_of number_at numbers_from among neighbours run_at pick pick_places table_of stop_at
+unfolding word written_from entries_of ram_byte operand_of number_of number_at numbers_from among repeats neighbours run_at pick pick_places table_of stop_at
     run_end put place_from operation_of ask end halt keep share_run default_run return_run after_flush after_wait after_modify after_accept
     failed_modify done_of failed_of cleared start_of first_phases phase_of asked_of flat_of applied carried_out first_refusal ready visibility_refusal visibility_taken
     visibility_of answer_refusal answer_done answer_failed follow
@@ -72,7 +72,7 @@ moves =
     }
 
 pub stops : Stops
-unfolding word written_from closed closed_to entries_of ram_byte operand_of number_of number_at numbers_from among neighbours run_at pick pick_places
+unfolding word written_from closed closed_to entries_of ram_byte operand_of number_of number_at numbers_from among repeats neighbours run_at pick pick_places
     table_of stop_at run_end put place_from span next_of any_of renewed_from operation_of ask end halt keep share_run default_run return_run
     after_flush after_wait after_modify after_accept failed_modify done_of failed_of cleared start_of protect changes.ask wait finish changes.halt
     changes.keep protect_pages protect_ram changes.done_of changes.failed_of start_new start_old first_phases phase_of asked_of flat_of stage_of applied entered
@@ -100,7 +100,7 @@ stops =
     }
 
 pub calls : Calls
-unfolding word written_from entries_of ram_byte operand_of number_of number_at numbers_from among neighbours run_at pick pick_places table_of stop_at
+unfolding word written_from entries_of ram_byte operand_of number_of number_at numbers_from among repeats neighbours run_at pick pick_places table_of stop_at
     run_end put place_from operation_of ask end halt keep share_run default_run return_run after_flush after_wait after_modify after_accept
     failed_modify done_of failed_of cleared start_of first_phases phase_of asked_of flat_of applied carried_out first_refusal ready visibility_refusal visibility_taken
     visibility_of answer_refusal answer_done answer_failed follow
@@ -120,7 +120,7 @@ calls =
     }
 
 pub failures : Failures
-unfolding word written_from entries_of ram_byte operand_of number_of number_at numbers_from among neighbours run_at pick pick_places table_of stop_at
+unfolding word written_from entries_of ram_byte operand_of number_of number_at numbers_from among repeats neighbours run_at pick pick_places table_of stop_at
     run_end put place_from operation_of ask end halt keep share_run default_run return_run after_flush after_wait after_modify after_accept
     failed_modify done_of failed_of cleared start_of first_phases phase_of asked_of flat_of applied carried_out first_refusal ready visibility_refusal visibility_taken
     visibility_of answer_refusal answer_done answer_failed follow

@@ -12,7 +12,6 @@ use Rattle.worked.proofs.Shares.{operations, moves, stops, calls, failures}
 use Rattle.worked.proofs.Changes.{protections, default_changes}
 use Rattle.worked.proofs.Overlays.{new_overlays, known_overlays}
 use Rattle.worked.proofs.Past.{past_faults, past_permissions, past_lists}
-use Rattle.worked.proofs.Repeats.{repeats_shared, repeats_stopped, repeats_returned, repeats_refused}
 use Rattle.worked.proofs.Bars.{bars, locks, queries, turns}
 use Rattle.worked.proofs.Limits.{overlay_limit, first_overlays, last_overlays, lock_limits, page_limits}
 use Rattle.worked.proofs.Registrar.{registrar_builds, registers, all_aligned}
@@ -41,10 +40,6 @@ worked =
       moves = moves;
       stops = stops;
       failures = failures;
-      repeats_shared = repeats_shared;
-      repeats_stopped = repeats_stopped;
-      repeats_returned = repeats_returned;
-      repeats_refused = repeats_refused;
       protections = protections;
       default_changes = default_changes;
       new_overlays = new_overlays;

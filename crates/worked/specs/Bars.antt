@@ -191,7 +191,7 @@ shorter w = buffers w.maps (replicate 127 0) w.pages w.tables
 pub record Turns : Type 0 where
   pub busy_19 : refusals busy ≡ replicate 12 19
   pub halted_20 : refusals halted ≡ replicate 12 20
-  pub idle_input : refusals fresh ≡ 8 ∷ 8 ∷ 8 ∷ 8 ∷ 8 ∷ 8 ∷ 8 ∷ 8 ∷ 0 ∷ 0 ∷ 0 ∷ 8 ∷ []
+  pub idle_input : refusals fresh ≡ 6 ∷ 8 ∷ 8 ∷ 8 ∷ 8 ∷ 8 ∷ 8 ∷ 8 ∷ 0 ∷ 0 ∷ 0 ∷ 8 ∷ []
   pub busy_passes : passes busy ≡ replicate 6 0
   pub halted_passes : passes halted ≡ replicate 6 0
   pub busy_keeps : visibility_of busy 0 1 (page 4 []) ≡ keeps busy (refused 19 0)

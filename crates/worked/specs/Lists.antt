@@ -1,5 +1,5 @@
--- Page lists as they cross, computed through the calls that take them: document 01, the opening, "From the input" 5 and 8, "Worked", its last line; document 02, (iii).
-use Rattle.std.specs.Prelude.{List, [], ◌∷◌, ◌≡◌, ℕ, replicate}
+-- Page lists as they cross, computed through the calls that take them: document 01, the opening, "From the input" 5, 6 and 8, "Worked", its last line.
+use Rattle.std.specs.Prelude.{List, [], ◌∷◌, ◌≡◌, ℕ, zero, suc, ◌/◌, ◌%◌, replicate}
 use Rattle.mapping.specs.Maps.{maps}
 use Rattle.protector_state.specs.declared.Reply.{Reply}
 use Rattle.protector_state.specs.State.{built_state}
@@ -8,7 +8,7 @@ use Rattle.protector.specs.Calls.{visibility_of}
 use Rattle.protection_entries.specs.Calls.{protection_of}
 use Rattle.lock_entries.specs.Calls.{lock_of, unlock_of}
 use Rattle.queries.specs.Queries.{query, query_of}
-use Rattle.visibility_claims.specs.Table.{page, dones, fresh, bytes_of, up_from}
+use Rattle.visibility_claims.specs.Table.{page, dones, fresh}
 use Rattle.worked.specs.Crossing.{ok, refused, keeps, waits, flushes_all, protects, invalidates, shares, flushes, tlb_waits, replies, named, rest, no_tables}
 
 -- 512 pages of RAM on SNP, tracked
@@ -17,6 +17,11 @@ all512 = replicate 64 0xff
 
 abbrev pub wide : Buffers
 wide = rest (maps all512 (replicate 64 0) all512 all512 all512 all512) (built_state (0 ∷ 2097152 ∷ 0 ∷ []) 2 1 0) no_tables
+
+-- k pages from p on, below 65,536
+unfoldable pub listed : ℕ → ℕ → List ℕ
+listed p zero = []
+listed p (suc k) = p % 256 ∷ p / 256 ∷ 0 ∷ 0 ∷ 0 ∷ 0 ∷ 0 ∷ 0 ∷ listed (suc p) k
 
 -- page 0 again and again, in this many bytes
 abbrev pub zeros : ℕ → List ℕ
@@ -39,12 +44,9 @@ ask l = (query_of fresh.state fresh.maps.shared l []).reply
 
 pub record Lists : Type 0 where
   -- different pages, all RAM: 512 of them are taken, 513 are refused before any is looked at
-  pub taken_512 : (visibility_of wide 0 1 (bytes_of (up_from 0 512))).reply ≡ waits
-  pub refused_513 : visibility_of wide 0 1 (bytes_of (up_from 0 513)) ≡ keeps wide (refused 5 0)
-  -- page 1 again and again: repeats count here
-  pub again_512 : (visibility_of wide 0 1 (bytes_of (replicate 512 1))).reply ≡ waits
-  pub again_513 : visibility_of wide 0 1 (bytes_of (replicate 513 1)) ≡ keeps wide (refused 5 0)
-  -- in bytes: 5 comes before 8, in every call that takes a list
+  pub taken_512 : (visibility_of wide 0 1 (listed 0 512)).reply ≡ waits
+  pub refused_513 : visibility_of wide 0 1 (listed 0 513) ≡ keeps wide (refused 5 0)
+  -- in bytes: 5 comes before 6 and before 8, in every call that takes a list
   pub share_4097 : share (zeros 4097) ≡ refused 5 0
   pub share_4103 : share (zeros 4103) ≡ refused 5 0
   pub protect_4097 : protect (zeros 4097) ≡ refused 5 0
@@ -57,9 +59,11 @@ pub record Lists : Type 0 where
   pub unlock_4097 : unlock (zeros 4097) ≡ refused 5 0
   pub query_4097 : ask (zeros 4097) ≡ refused 5 0
   pub query_4103 : ask (zeros 4103) ≡ refused 5 0
-  -- bytes over after the last page; protections and queries keep their repeats
+  -- a repeat among the whole numbers comes before a byte over; only visibility changes have 6
+  pub repeat_over : share (page 3 (page 3 (1 ∷ []))) ≡ refused 6 0
   pub byte_over : share (page 3 (page 4 (3 ∷ []))) ≡ refused 8 0
   pub seven_over : share (page 3 (page 4 (3 ∷ 0 ∷ 0 ∷ 0 ∷ 0 ∷ 0 ∷ 0 ∷ []))) ≡ refused 8 0
+  pub repeat_apart : share (page 3 (page 16 (page 3 []))) ≡ refused 6 0
   pub protect_repeat : replies (protection_of fresh 0 1 (page 3 (page 4 (page 3 [])))) (dones 5)
       ≡ protects 0 1 258 3 2 ∷ protects 0 1 258 3 1 ∷ waits ∷ flushes 0 ∷ tlb_waits 0 ∷ ok 5 ∷ []
   pub protect_over : protect (page 3 (page 3 (1 ∷ []))) ≡ refused 8 0

@@ -51,7 +51,7 @@ pub record PastFaults : Type 0 where
   pub unfailed_shared : faults tracks all_shared 1 2 1 0 ≡ replicate 4 (value 0 1)
   pub unfailed_untracked : faults tracks_not untracked 0 0 1 0 ≡ replicate 4 (value 0 1)
   pub unfailed_untracked_shared : faults tracks_not untracked 1 1 0 0 ≡ replicate 4 (value 0 1)
-  -- numbers that name nothing, and maps of another length
+  -- numbers that name nothing
   pub mapping_2 : faults tracks split 2 0 0 1 ≡ replicate 4 (value 8 0)
   pub length : faults tracks_not split 0 0 0 1 ≡ replicate 4 (value 4 0)
 

@@ -16,7 +16,6 @@ use Rattle.worked.specs.Shares.{Operations, Moves, Stops, Calls, Failures}
 use Rattle.worked.specs.Changes.{Protections, DefaultChanges}
 use Rattle.worked.specs.Overlays.{NewOverlays, KnownOverlays}
 use Rattle.worked.specs.Past.{PastFaults, PastPermissions, PastLists}
-use Rattle.worked.specs.Repeats.{RepeatsShared, RepeatsStopped, RepeatsReturned, RepeatsRefused}
 use Rattle.worked.specs.Bars.{Bars, Locks, Queries, Turns}
 use Rattle.worked.specs.Limits.{OverlayLimit, FirstOverlays, LastOverlays, LockLimits, PageLimits}
 use Rattle.worked.specs.Registrar.{RegistrarBuilds, Registers, AllAligned}
@@ -53,11 +52,6 @@ pub record Worked : Type 0 where
   pub moves : Moves
   pub stops : Stops
   pub failures : Failures
-  -- lists that name a page again
-  pub repeats_shared : RepeatsShared
-  pub repeats_stopped : RepeatsStopped
-  pub repeats_returned : RepeatsReturned
-  pub repeats_refused : RepeatsRefused
   pub protections : Protections
   pub default_changes : DefaultChanges
   pub new_overlays : NewOverlays

@@ -1,7 +1,6 @@
 //! What was met, and how often.
 
 use crate::protector::place;
-use crate::protector::repeats;
 use std::collections::BTreeMap;
 use std::fmt;
 
@@ -10,7 +9,7 @@ pub const NUMBERS: [(&str, &[u64]); 23] = [
     ("build", &[1, 2, 3, 4, 8]),
     (
         "change_host_visibility",
-        &[4, 5, 7, 8, 10, 11, 15, 16, 19, 20],
+        &[4, 5, 6, 7, 8, 10, 11, 15, 16, 19, 20],
     ),
     ("change_vtl_protections", &[4, 5, 7, 8, 10, 11, 12, 19, 20]),
     ("change_default_vtl_protections", &[4, 8, 10, 19, 20]),
@@ -167,7 +166,7 @@ impl Coverage {
         *self.met.entry(what).or_default() += 1;
     }
 
-    pub fn meet_all(&mut self, what: impl IntoIterator<Item = String>) {
+    pub fn meet_any(&mut self, what: Option<String>) {
         what.into_iter().for_each(|what| self.meet(what));
     }
 
@@ -218,8 +217,7 @@ impl Coverage {
             let runs = RUNS.iter();
             runs.map(move |run| format!("{call}: a run of {run}"))
         });
-        let places = places.chain(runs).chain(place::must_be_met());
-        let met = places.chain(repeats::must_be_met());
+        let met = places.chain(runs).chain(place::must_be_met());
         missing.extend(met.filter(|what| !self.met.contains_key(what)));
         missing
     }

@@ -13,7 +13,7 @@ use protocol::serve;
 use protocol::show;
 
 /// The requests of document 02 that have landed, ascending.
-const REQUESTS: [&str; 3] = ["iii", "iv", "vi"];
+const REQUESTS: [&str; 2] = ["iv", "vi"];
 
 /// A conversation: at most one protector and one registrar.
 #[derive(Default)]

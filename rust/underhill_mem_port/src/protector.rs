@@ -130,8 +130,7 @@ pub enum Operation<'a> {
     Invalidate(PageRun),
     /// Release pages on TDX.
     Release(PageRun),
-    /// Ask the hypervisor to change the pages' visibility, in that order. There may be none; no page
-    /// stands twice.
+    /// Ask the hypervisor to change the pages' visibility, in that order. There may be none.
     Modify {
         /// What it is to be.
         to: Visibility,
@@ -477,10 +476,9 @@ impl HardwareIsolatedMemoryProtector {
 
     /// Makes pages shared or private, as a VTL asks. Gives the number of operations asked.
     ///
-    /// The list has at most 512 places. A page that stands in it again counts at its first place
-    /// alone; the index of an error is a place in the list as it is given, repeats counted. Pages
-    /// that are so already drop out; where VTL1's protections are enabled, a share by VTL0 stops at
-    /// the first page that it may not read and write.
+    /// The list has at most 512 pages, none twice. Pages that are so already drop out; where VTL1's
+    /// protections are enabled, a share by VTL0 stops at the first page that it may not read and
+    /// write.
     pub fn change_host_visibility(
         &mut self,
         vtl: GuestVtl,

@@ -43,8 +43,10 @@ refusals! {
     UnfitIsolation = 3, "unfit isolation type";
     /// 4: a lent buffer has the wrong length.
     WrongLength = 4, "lent buffer of wrong length";
-    /// 5: a list of over 512 pages, repeats counted.
+    /// 5: a list of over 512 pages.
     LongList = 5, "list over 512 pages";
+    /// 6: a page stands twice in a list whose visibility is to change.
+    RepeatedPage = 6, "a page stands twice in the list";
     /// 7: a page isn't RAM.
     NotRam = 7, "page not in guest RAM";
     /// 8: a number that stands for one of a few cases is none of them.

@@ -223,8 +223,7 @@ fn refusals_change_nothing() {
     let long: Vec<u64> = (0..100_000).collect();
     for (list, refusal) in [
         (&[3, 16][..], Refusal::NotRam),
-        (&[3, 3, 16], Refusal::NotRam),
-        (&[3; 513], Refusal::LongList),
+        (&[3, 3], Refusal::RepeatedPage),
         (&[1 << 52], Refusal::NotRam),
         (&long, Refusal::LongList),
     ] {
@@ -234,41 +233,6 @@ fn refusals_change_nothing() {
         assert!(backend.kinds.is_empty());
         assert_eq!(protector.private(), [0xFF, 0xFF, 0, 0, 0xFF]);
     }
-}
-
-#[test]
-fn a_page_that_stands_again_counts_at_its_first_place() {
-    let mut protector = built(IsolationType::Snp, false);
-    let mut backend = Notes::default();
-    let mut share =
-        |list: &[u64]| protector.change_host_visibility(Vtl0, Shared, list, &mut backend);
-    assert_eq!(share(&[3, 4, 3, 5]), Ok(6));
-    assert_eq!(share(&[9, 9, 10, 9]), Ok(6));
-    assert_eq!(share(&[8; 512]), Ok(6));
-    let runs = backend.protects.iter().map(|protect| protect.pages);
-    let [one, two, three] = [(3, 3), (9, 2), (8, 1)].map(|(first, count)| PageRun { first, count });
-    assert_eq!(runs.collect::<Vec<_>>(), [one, one, two, two, three, three]);
-    let mut backend = failing("Modify", 1);
-    let returned = protector.change_host_visibility(Vtl0, Private, &[9, 9, 10], &mut backend);
-    let error = ChangeError::Failed {
-        code: 5,
-        index: 2,
-        count: 6,
-    };
-    assert_eq!(returned, Err(error));
-    assert_eq!(protector.private()[..2], [0xC7, 0xFA]);
-    assert_eq!(protector.shared()[..2], [0x38, 0x05]);
-}
-
-#[test]
-fn a_page_that_stands_again_is_protected_again() {
-    let mut protector = built(IsolationType::Snp, true);
-    let mut backend = Notes::default();
-    let changed = protector.change_vtl_protections(Vtl0, &[3, 4, 3], Flags::READABLE, &mut backend);
-    assert_eq!(changed, Ok(5));
-    let runs = backend.protects.iter().map(|protect| protect.pages);
-    let awaited = [(3, 2), (3, 1)].map(|(first, count)| PageRun { first, count });
-    assert_eq!(runs.collect::<Vec<_>>(), awaited);
 }
 
 #[test]

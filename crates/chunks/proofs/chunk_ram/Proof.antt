@@ -10,7 +10,7 @@ ram-before-requires : tie.Need-ram-before-requires
 ram-before-requires c κs = search rules
 
 returns : tie.Need-returns
-returns c = c.ram-before.ensures _ c.before.end-from.ensures
+returns c = c.ram-before.ensures _ c.before.end_from_lem.ensures
 
 pub chunk-ram-spec : {M : Type 1} → statement M
 chunk-ram-spec = tie.close (tie.spec end-from-requires ram-before-requires returns)

@@ -5,7 +5,7 @@ use mathlib.Core.Path.{◌≡◌, refl, sym, ◌∙◌}
 use Prim.Native.Nat.{◌-◌}
 use Rattle.page_list.specs.Pages.{among}
 use Rattle.page_list.specs.Runs.{part}
-use Rattle.page_list.proofs.RunLaws as laws
+use Rattle.lock_table.proofs.Laws as laws
 use Rattle.lock_table.proofs.is_among.Statement.{statement}
 use Rattle.lock_table.proofs.is_among.Tie as tie
 

@@ -12,7 +12,7 @@ marks-fit-requires : tie.Need-marks-fit-requires
 marks-fit-requires c κs = search rules
 
 returns : tie.Need-returns
-returns c = and_ends _ _ (sym c.before.marks-fit.ensures ∙ not-true c.before.marks-fit.result c.if1.true)
+returns c = and_ends _ _ (sym c.before.marks_fit_lem.ensures ∙ not-true c.before.marks_fit_lem.result c.if1.true)
 
 permission-len-requires : tie.Need-permission-len-requires
 permission-len-requires c κs = search rules
@@ -23,7 +23,7 @@ permissions-fit-requires c κs = search rules
 returns-2 : tie.Need-returns-2
 returns-2 c =
     let a = c.before.before.before.before.args in
-    and_goes _ _ _ (sym c.before.before.before.marks-fit.ensures ∙ not-false c.before.before.before.marks-fit.result c.before.before.if1.false)
+    and_goes _ _ _ (sym c.before.before.before.marks_fit_lem.ensures ∙ not-false c.before.before.before.marks_fit_lem.result c.before.before.if1.false)
     (c.permissions-fit.ensures ∙ ap (λ (n : ℕ). permissions_fit n a.lengths) c.before.permission-len.ensures)
 
 pub maps-fit-spec : {M : Type 1} → statement M

@@ -2,18 +2,19 @@
 use borrow.Author.Rules.{rules}
 use native.Mathlib.Omega.{arith}
 use mathlib.Core.Path.{◌≡◌, sym, ap, ◌∙◌}
+use mathlib.Core.Bool.{true}
 use mathlib.Core.List.{List}
 use Prim.Native.Nat.{ℕ, ◌-◌, ◌≤◌}
 use lib.ListN.{length, take}
 use lib.Seq.{take_all}
 use Rattle.page_list.specs.Pages.{pages_of}
-use Rattle.request_pages.specs.Request.{table_of, every_place}
+use Rattle.request_pages.specs.Request.{table_of}
 use Rattle.request_pages.proofs.Table as laws
 use Rattle.request_pages.proofs.store_all.Statement.{statement}
 use Rattle.request_pages.proofs.store_all.Tie as tie
 
 abbrev invariant-loop : tie.invariant-loop
-invariant-loop t₀ list n i₀ t i = (i ≤ n) × (t ≡ table_of every_place (take i (pages_of list)) t₀)
+invariant-loop t₀ list n i₀ t i = (i ≤ n) × (t ≡ table_of (λ p. true) (take i (pages_of list)) t₀)
 
 abbrev decreases-loop : tie.decreases-loop
 decreases-loop t₀ list n i₀ t i = n - i
@@ -59,7 +60,7 @@ returns c =
     let s = c.before.before.before.before.before in
     let h = c.before.loop in
     let ps = pages_of s.args.list.now in
-    h.invariant.1 ∙ ap (λ (qs : List ℕ). table_of every_place qs s.args.pages.now) (take_all h.i ps (omega (arith, c.before.before.page-count.ensures)))
+    h.invariant.1 ∙ ap (λ (qs : List ℕ). table_of (λ p. true) qs s.args.pages.now) (take_all h.i ps (omega (arith, c.before.before.page-count.ensures)))
 
 pub store-all-spec : {M : Type 1} → statement M
 store-all-spec =

@@ -221,6 +221,14 @@ impl Change {
         line
     }
 
+    /// With its whole pages by their numbers: the original reads no raw bytes.
+    pub(super) fn by_numbers(&self) -> Self {
+        match self.list() {
+            Some(list) => self.with_list(List::Pages(numbers(&list.bytes()))),
+            None => self.clone(),
+        }
+    }
+
     pub(super) fn call(&self) -> Call {
         let list = self.list().map_or(Vec::new(), List::bytes);
         match *self {

@@ -18,8 +18,6 @@ use super::predict::TABLES;
 use super::predict::World;
 use super::predict::layout_refusal;
 use super::predict::numbers;
-use super::repeats;
-use super::repeats::Repeats;
 use crate::case::Entry;
 use crate::coverage::Coverage;
 use crate::coverage::WRITERS;
@@ -313,11 +311,8 @@ impl Run<'_> {
         if let What::Query(query) = &act.what {
             return self.query(place, query, &lent, given);
         }
-        let repeats = self.repeats_of(act);
         let awaited = self.await_line(act, &lent);
         self.count(act, &awaited, &lent);
-        let met = repeats.map_or(Vec::new(), |repeats| repeats.met(&awaited.last));
-        self.coverage.meet_all(met);
         let same = match awaited.kind {
             Kind::Bad => given.starts_with("bad "),
             _ => given == awaited.line,
@@ -332,19 +327,6 @@ impl Run<'_> {
             self.expect(place, "step 0", "ok | ops=0")?;
         }
         self.compare_maps(place)
-    }
-
-    /// A visibility change with repeats that is to be made.
-    fn repeats_of(&self, act: &Act) -> Option<Repeats> {
-        let (What::Call { change, .. } | What::Start(change)) = &act.what else {
-            return None;
-        };
-        match change {
-            Change::Visibility {
-                visibility, list, ..
-            } => Repeats::of(self.world.as_ref()?, *visibility, &list.bytes()),
-            _ => None,
-        }
     }
 
     fn expect(&mut self, place: usize, line: &str, awaited: &str) -> Same {
@@ -441,13 +423,13 @@ impl Run<'_> {
         let result = query_result(query, &awaited);
         let predicted = format!("{result} | ops=0");
         self.coverage.meet_query(name, query, &awaited, lent);
-        self.coverage.meet_all(place::met(world, query, &awaited));
+        self.coverage.meet_any(place::met(world, query, &awaited));
         let asked = self.asks_original(world, query, &awaited);
         match asked {
             true => {
                 self.coverage.with_original += 1;
                 let past = place::met_with_original(world, query, name, &awaited);
-                self.coverage.meet_all(past);
+                self.coverage.meet_any(past);
             }
             false => self.coverage.predicted_alone += 1,
         }
@@ -496,9 +478,8 @@ impl Run<'_> {
         }
     }
 
-    /// Where the call has ended and the original can be asked, a visibility change with repeats
-    /// without them: what the port gave for all of it, as the original writes it, and what the
-    /// original gives.
+    /// Where the call is in document 01's domain and has ended: what the port gave for all of it,
+    /// as the original writes it, and what the original gives.
     fn original_of(
         &mut self,
         act: &Act,
@@ -555,7 +536,12 @@ impl Run<'_> {
         if !self.lives || strange {
             return None;
         }
-        let answer = self.original_answer(act, &ended);
+        let line = match change {
+            Some(change) if is_default => change.line(),
+            Some(change) => change.by_numbers().line_failing(&ended.failures),
+            None => act.line(),
+        };
+        let answer = without_more(&self.ask_original(&line));
         self.lives &= !answer.starts_with("panic");
         self.coverage.with_original += 1;
         self.coverage.predicted_alone -= 1;
@@ -568,21 +554,6 @@ impl Run<'_> {
             true => Some((by_pages(&from_port), by_pages(&answer))),
             false => Some((from_port, answer)),
         }
-    }
-
-    /// What the original gives, as an answer to the call as it was put to the port.
-    fn original_answer(&mut self, act: &Act, ended: &Ended) -> String {
-        let Some(change) = &ended.change else {
-            return without_more(&self.ask_original(&act.line()));
-        };
-        let line = match change {
-            Change::Default { .. } => change.line(),
-            _ => repeats::for_original(change).line_failing(&ended.failures),
-        };
-        let answer = without_more(&self.ask_original(&line));
-        let met = repeats::with_original(label(change), change);
-        self.coverage.meet_all(met);
-        repeats::from_original(change, answer)
     }
 
     /// The call that an act ended, and what the port gave for all of it.
@@ -688,7 +659,7 @@ impl Run<'_> {
                 let number = awaited.last.number;
                 let world = self.world.as_ref();
                 let past = world.and_then(|world| place::met_overlay(world, change, number));
-                self.coverage.meet_all(past);
+                self.coverage.meet_any(past);
             }
             What::Build(build) if awaited.kind == Kind::Ended && is_across(&build.ram) => {
                 self.coverage.meet("build: RAM across 128 MiB".to_string());
@@ -773,7 +744,7 @@ impl Coverage {
             }
             self.meet_edge(name, &pages);
             let spans = match WRITERS.contains(&name) {
-                true => spans(&repeats::counted(change)),
+                true => spans(&pages),
                 false => Vec::new(),
             };
             for (first, last) in spans {

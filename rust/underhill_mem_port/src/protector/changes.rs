@@ -27,8 +27,7 @@ pub struct Overlay {
 
 /// The calls that ask for operations. Each gives the number of operations asked.
 impl HardwareIsolatedMemoryProtector {
-    /// Changes what a VTL may do with pages of the list, at most 512 of them. One that stands in it
-    /// again is protected again.
+    /// Changes what a VTL may do with pages of the list, at most 512 of them.
     ///
     /// Refused where a page isn't RAM, is locked or an overlay of that VTL, or is shared. A Protect
     /// that fails halts the protector.

@@ -173,8 +173,7 @@ pub fn build(ram: &[u64], isolation: u64, tracked: u64, release: u64, lent: Lent
     )
 }
 
-/// `visibility` is 0 for private, 1 for shared; `list` has eight bytes a page, the lowest first. A
-/// page that stands in it again counts at its first place alone.
+/// `visibility` is 0 for private, 1 for shared; `list` has eight bytes a page, the lowest first.
 /// The tables are read only.
 pub fn change_host_visibility(lent: Lent<'_>, vtl: u64, visibility: u64, list: &[u8]) -> Reply {
     call!(

@@ -1,6 +1,5 @@
 //! The rows of visibility changes: pages are shared and returned, list after list.
 
-use crate::row::Kind;
 use crate::row::Row;
 use crate::subjects::Held;
 use crate::subjects::hold;
@@ -11,14 +10,6 @@ use underhill_mem_port::IsolationType;
 /// One entry of RAM, 4 GiB, permissions tracked.
 const END: u64 = 1 << 32;
 
-/// How the pages of a list follow each other.
-enum Order {
-    Ascending,
-    Descending,
-    /// Neither; of a number of pages that is a power of two.
-    Mixed,
-}
-
 /// Lists of one shape.
 struct Shape {
     name: &'static str,
@@ -27,7 +18,9 @@ struct Shape {
     step: u64,
     /// From the end of a list to the start of the next: where 8, runs begin with a byte of the maps.
     apart: u64,
-    order: Order,
+    /// From one page of the list to the next in the order of pages, modulo their number: 1 where
+    /// they ascend.
+    turn: u64,
     /// How many lists, one after the other, are shared and then returned in a round: so few that
     /// seldom another process comes between.
     lists: u32,
@@ -40,7 +33,7 @@ const SHAPES: [Shape; 7] = [
         pages: 1,
         step: 1,
         apart: 3,
-        order: Order::Ascending,
+        turn: 1,
         lists: 200,
         rounds: 401,
     },
@@ -49,7 +42,7 @@ const SHAPES: [Shape; 7] = [
         pages: 16,
         step: 1,
         apart: 3,
-        order: Order::Ascending,
+        turn: 1,
         lists: 100,
         rounds: 301,
     },
@@ -58,7 +51,7 @@ const SHAPES: [Shape; 7] = [
         pages: 16,
         step: 1,
         apart: 8,
-        order: Order::Ascending,
+        turn: 1,
         lists: 100,
         rounds: 301,
     },
@@ -67,7 +60,7 @@ const SHAPES: [Shape; 7] = [
         pages: 16,
         step: 2,
         apart: 3,
-        order: Order::Ascending,
+        turn: 1,
         lists: 40,
         rounds: 201,
     },
@@ -76,7 +69,7 @@ const SHAPES: [Shape; 7] = [
         pages: 512,
         step: 1,
         apart: 3,
-        order: Order::Ascending,
+        turn: 1,
         lists: 10,
         rounds: 201,
     },
@@ -85,7 +78,7 @@ const SHAPES: [Shape; 7] = [
         pages: 512,
         step: 1,
         apart: 8,
-        order: Order::Ascending,
+        turn: 1,
         lists: 10,
         rounds: 201,
     },
@@ -94,71 +87,41 @@ const SHAPES: [Shape; 7] = [
         pages: 512,
         step: 2,
         apart: 3,
-        order: Order::Ascending,
+        turn: 1,
         lists: 2,
         rounds: 101,
     },
 ];
 
-const DESCENDING: Shape = Shape {
-    name: "512 pages, descending",
+/// Neither ascending nor descending, and no page twice: 201 is odd.
+const NO_ORDER: Shape = Shape {
+    name: "512 pages, in no order",
     pages: 512,
     step: 1,
     apart: 3,
-    order: Order::Descending,
+    turn: 201,
     lists: 2,
     rounds: 101,
 };
 
-const NO_ORDER: Shape = Shape {
-    name: "512 pages, in no order",
-    order: Order::Mixed,
-    ..DESCENDING
-};
-
-const EACH_TWICE: Shape = Shape {
-    name: "512 places, 256 pages each twice in turn",
-    pages: 256,
-    order: Order::Ascending,
-    ..DESCENDING
-};
-
-const ALL_TWICE: Shape = Shape {
-    name: "512 places, 256 pages in no order and again",
-    pages: 256,
-    order: Order::Mixed,
-    ..DESCENDING
-};
-
-/// What the port gets of a list. The original gets the list, which has no repeats.
-type Sent = fn(&[u64]) -> Vec<u64>;
-
-/// Nothing held, on each isolation; lists that descend, have no order or repeats, on SNP.
+/// Nothing held, on each isolation; a list in no order on SNP.
 pub fn plain() -> Vec<Row> {
     let isolations = [
         (IsolationType::Snp, "SNP"),
         (IsolationType::Tdx, "TDX"),
         (IsolationType::Cca, "CCA"),
     ];
-    let plain = |shape, isolation, name, sent| {
-        row(shape, isolation, Held::NOTHING, sent, |what| {
+    let plain = |shape, isolation, name| {
+        row(shape, isolation, Held::NOTHING, |what| {
             format!("{name}, {what}")
         })
     };
     let rows = isolations.iter().flat_map(|&(isolation, name)| {
         let rows = SHAPES.iter();
-        rows.map(move |shape| plain(shape, isolation, name, <[u64]>::to_vec))
+        rows.map(move |shape| plain(shape, isolation, name))
     });
-    let others: [(&Shape, Sent); 4] = [
-        (&DESCENDING, <[u64]>::to_vec),
-        (&NO_ORDER, <[u64]>::to_vec),
-        (&EACH_TWICE, |list| {
-            list.iter().flat_map(|&page| [page, page]).collect()
-        }),
-        (&ALL_TWICE, |list| [list, list].concat()),
-    ];
-    let others = others.map(|(shape, sent)| plain(shape, IsolationType::Snp, "SNP", sent));
-    rows.chain(others).collect()
+    let no_order = plain(&NO_ORDER, IsolationType::Snp, "SNP");
+    rows.chain([no_order]).collect()
 }
 
 /// Overlays and locked pages, on SNP.
@@ -172,7 +135,7 @@ pub fn held() -> Vec<Row> {
             list: 500,
         };
         let name = move |what: String| format!("{what}; {overlays} overlays, {locked} locked");
-        rows.map(move |shape| row(shape, IsolationType::Snp, held, <[u64]>::to_vec, name))
+        rows.map(move |shape| row(shape, IsolationType::Snp, held, name))
     });
     rows.collect()
 }
@@ -181,7 +144,6 @@ fn row(
     shape: &'static Shape,
     isolation: IsolationType,
     held: Held,
-    sent: Sent,
     name: impl Fn(String) -> String,
 ) -> Row {
     let parts = ["share", "return"];
@@ -194,10 +156,7 @@ fn row(
         make: Box::new(move |kind| {
             let mut subject = subject(kind, isolation, END);
             assert!(hold(&mut *subject, END, held));
-            let mut lists = lists(shape);
-            if kind == Kind::Port {
-                lists.iter_mut().for_each(|list| *list = sent(list));
-            }
+            let lists = lists(shape);
             Box::new(move |part| {
                 let mut lists = lists.iter();
                 lists.all(|pages| black_box(subject.change(part == 0, black_box(pages))))
@@ -209,13 +168,7 @@ fn row(
 /// Lists of pages that lie apart.
 fn lists(shape: &Shape) -> Vec<Vec<u64>> {
     let span = shape.pages * shape.step + shape.apart;
-    let place = |p: u64| match shape.order {
-        Order::Ascending => p,
-        Order::Descending => shape.pages - 1 - p,
-        // 201 is odd.
-        Order::Mixed => p * 201 % shape.pages,
-    };
-    let page = |p: u64| place(p) * shape.step;
+    let page = |p: u64| p * shape.turn % shape.pages * shape.step;
     let list = |i: u64| (0..shape.pages).map(move |p| i * span + page(p));
     (0..shape.lists.into()).map(|i| list(i).collect()).collect()
 }
