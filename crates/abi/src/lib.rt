@@ -1,4 +1,6 @@
 // The numbers that cross, and the lengths and places of what is lent. Contracts and definitions have them from specs/.
+#![tactic(auto)]
+
 pub mod action;
 pub mod code;
 pub mod isolation;

@@ -1,4 +1,6 @@
 // What a permission query gives: the permissions of a page as the maps have them, or as a VTL has them.
+#![tactic(auto)]
+
 ghost use Rattle.std.specs.Prelude.{not, ◌&&◌, ◌≡◌};
 ghost use Rattle.layout.specs.Layout.{entries_of, is_ram};
 ghost use Rattle.mapping.specs.Maps.{perms, maps};
@@ -9,7 +11,7 @@ use mapping::MapLengths;
 use permissions::{GuestVtl, HvMapGpaFlags};
 
 // What a permission query gives, or the number that refuses it.
-#[derive(Drop)]
+#[derive(Clone, Copy)]
 pub enum PermissionsAnswer {
     Flags(HvMapGpaFlags),
     Refused(u64),

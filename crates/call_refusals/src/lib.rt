@@ -1,4 +1,6 @@
 // What refuses a call of the protector: the lengths of what is lent, what is under way, the pages of a list; what refuses an answer and a build.
+#![tactic(auto)]
+
 ghost use Rattle.std.specs.Prelude.{◌≡◌, true, length};
 ghost use Rattle.layout.specs.Layout.{entries_of, map_len};
 ghost use Rattle.page_list.specs.Pages.{pages_of};
@@ -13,7 +15,7 @@ use permissions::GuestVtl;
 use visibility_steps::Phase;
 
 // The lengths of what is lent beside the state block.
-#[derive(Drop)]
+#[derive(Clone, Copy)]
 pub struct Lengths {
     pub maps: MapLengths,
     pub pages: u64,

@@ -1,5 +1,7 @@
 // What each answer leads a protection change, a default change and an overlay call to: the operation asked for next, what
 // is written, and the end. Nothing here writes a map or a table of overlays.
+#![tactic(auto)]
+
 ghost use Rattle.std.specs.Prelude.{◌≡◌, ◌+◌, ◌^◌, ◌<◌, ◌&&◌, ◌==◌};
 ghost use Rattle.visibility_steps.specs.declared.Answer.TheVariants.{Failed};
 ghost use Rattle.visibility_steps.specs.Steps.{is_vtl0};
@@ -11,7 +13,7 @@ use permissions::{GuestVtl, HvMapGpaFlags};
 use visibility_steps::{Answer, Operation};
 
 // Nothing under way, or the operation outstanding.
-#[derive(Drop)]
+#[derive(Clone, Copy)]
 pub enum Stage {
     Idle,
     Halted,
@@ -27,7 +29,7 @@ pub enum Stage {
 // The change under way: `flags` for `vtl`, `flush` the VTL whose TLB is flushed. Of a protection change the first `n` pages
 // of the table are in use, the run at place `at` is under way; of a default change `at` is the page after the piece under
 // way; of an overlay call it is the page, with the permissions it had and its source. Flags are bits.
-#[derive(Drop)]
+#[derive(Clone, Copy)]
 pub struct Change {
     pub vtl: GuestVtl,
     pub flush: GuestVtl,
@@ -40,7 +42,7 @@ pub struct Change {
 }
 
 // What becomes of the overlay entry of the change's page.
-#[derive(Drop)]
+#[derive(Clone, Copy)]
 pub enum Entry {
     Keep,
     Add,
@@ -48,7 +50,7 @@ pub enum Entry {
 }
 
 // `written`: the pages whose permissions become the change's flags.
-#[derive(Drop)]
+#[derive(Clone, Copy)]
 pub struct ChangeStep {
     pub stage: Stage,
     pub change: Change,

@@ -1,4 +1,6 @@
 // A step of a protection change, a default change or an overlay call carried out: what it writes, and what crosses.
+#![tactic(auto)]
+
 ghost use Rattle.std.specs.Prelude.{◌≡◌, ◌+◌, ◌<◌, ◌≤◌, ◌^◌, length};
 ghost use Rattle.layout.specs.Layout.{entries_of};
 ghost use Rattle.permissions.specs.Flags.{flags_of};
@@ -108,7 +110,7 @@ pub fn write_step(
     step: ChangeStep,
 ) -> Reply
     requires { (length state.old ≡ state_len) × (step.written.first + step.written.count ≤ 2 ^ 64) }
-    ensures user_after { perms read.new write.new kernel.new user.new ≡ permitted_run step.written (flags_of step.change.flags) (perms read.old write.old kernel.old user.old) }
+    ensures permissions_after { perms read.new write.new kernel.new user.new ≡ permitted_run step.written (flags_of step.change.flags) (perms read.old write.old kernel.old user.old) }
     ensures state_after { state.new ≡ with_change step.stage step.change state.old }
     ensures value { result ≡ flat_of isolation step.answer }
 {
@@ -134,7 +136,7 @@ pub fn apply_step(
     step: ChangeStep,
 ) -> Reply
     requires { (length state.old ≡ state_len) × (length tables.old ≡ tables_len) × (step.written.first + step.written.count ≤ 2 ^ 64) }
-    ensures user_after { perms read.new write.new kernel.new user.new ≡ permitted_run step.written (flags_of step.change.flags) (perms read.old write.old kernel.old user.old) }
+    ensures permissions_after { perms read.new write.new kernel.new user.new ≡ permitted_run step.written (flags_of step.change.flags) (perms read.old write.old kernel.old user.old) }
     ensures state_after { state.new ≡ with_change step.stage step.change state.old }
     ensures tables_after { tables.new ≡ entered step.entry step.change tables.old }
     ensures value { result ≡ flat_of isolation step.answer }
@@ -244,7 +246,7 @@ pub fn answer_done(
     tables: &mut [u64],
 ) -> Reply
     requires { (length state.old ≡ state_len) × (length tables.old ≡ tables_len) }
-    ensures user_after { perms read.new write.new kernel.new user.new
+    ensures permissions_after { perms read.new write.new kernel.new user.new
         ≡ permitted_run (after_done private.now state.old pages.now tables.old).written (flags_of (after_done private.now state.old pages.now tables.old).change.flags) (perms read.old write.old kernel.old user.old) }
     ensures state_after { state.new ≡ with_change (after_done private.now state.old pages.now tables.old).stage (after_done private.now state.old pages.now tables.old).change state.old }
     ensures tables_after { tables.new ≡ entered (after_done private.now state.old pages.now tables.old).entry (after_done private.now state.old pages.now tables.old).change tables.old }
@@ -269,7 +271,7 @@ pub fn answer_failed(
     tables: &mut [u64],
 ) -> Reply
     requires { (length state.old ≡ state_len) × (length tables.old ≡ tables_len) }
-    ensures user_after { perms read.new write.new kernel.new user.new ≡ permitted_run (after_failed state.old).written (flags_of (after_failed state.old).change.flags) (perms read.old write.old kernel.old user.old) }
+    ensures permissions_after { perms read.new write.new kernel.new user.new ≡ permitted_run (after_failed state.old).written (flags_of (after_failed state.old).change.flags) (perms read.old write.old kernel.old user.old) }
     ensures state_after { state.new ≡ with_change (after_failed state.old).stage (after_failed state.old).change state.old }
     ensures tables_after { tables.new ≡ entered (after_failed state.old).entry (after_failed state.old).change tables.old }
     ensures value { result ≡ flat_of (settings_of state.old).isolation (after_failed state.old).answer }

@@ -1,4 +1,6 @@
 // Chunks of guest memory: their number, the RAM in them, and bitmaps of them taken by whole words.
+#![tactic(auto)]
+
 ghost use Rattle.std.specs.Prelude.{◌≡◌, ℕ, ◌+◌, ◌-◌, ◌*◌, ◌/◌, ◌<◌, ◌≤◌, ◌^◌, min, max, true, cond, ◌&&◌, eqb, ltb, get_or};
 ghost use Rattle.abi.specs.Lengths.{page_size, word_bits};
 ghost use Rattle.laws.specs.Bools.{digit};

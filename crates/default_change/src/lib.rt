@@ -1,4 +1,6 @@
 // What a default change looks at: its pieces, which are runs of private RAM pages split at the overlay pages inside them.
+#![tactic(auto)]
+
 ghost use Rattle.std.specs.Prelude.{◌≡◌, true, false, cond, ◌+◌, ◌-◌, ◌/◌, ◌<◌, ◌≤◌, ◌^◌, ltb, length, get_or};
 ghost use Rattle.bitmap.specs.Pages.{bit_at};
 ghost use Rattle.layout.specs.Layout.{entries_of};

@@ -1,4 +1,6 @@
 // A page fault on a mapping of the guest's memory.
+#![tactic(auto)]
+
 ghost use Rattle.std.specs.Prelude.{◌≡◌};
 ghost use Rattle.bitmap.specs.Pages.{bit_at};
 ghost use Rattle.layout.specs.Layout.{entries_of};
@@ -8,14 +10,14 @@ ghost use Rattle.fault.specs.Fault.{mapping_of, view_of, access_map, fault_of, f
 use abi::{PAGE_SIZE, action, memory_type, read_type, refusal};
 use mapping::MapLengths;
 
-#[derive(Drop)]
+#[derive(Clone, Copy)]
 pub enum GuestValidMemoryType {
     Shared,
     Encrypted,
 }
 
 // What a fault gives, or the number that refuses it.
-#[derive(Drop)]
+#[derive(Clone, Copy)]
 pub enum PageFaultAction {
     Retry,
     NotMapped,

@@ -1,1 +1,2 @@
 // No code: the definitions and laws of specs/ that every crate cites.
+#![tactic(auto)]

@@ -1,4 +1,6 @@
 // The RAM layout as it crosses: three words an entry, its start, its end and its node.
+#![tactic(auto)]
+
 ghost use Rattle.std.specs.Prelude.{◌≡◌, length};
 ghost use Rattle.abi.specs.Refusals as refusal;
 ghost use Rattle.laws.specs.Ranges.{between};
@@ -7,13 +9,13 @@ ghost use Rattle.layout.specs.Layout.{entries_of, entry_at, is_ram, place_of, fo
 
 use abi::{PAGE_SIZE, RAM_ALIGNMENT, RAM_ENTRY_WORDS, limit, refusal};
 
-#[derive(Drop)]
+#[derive(Clone, Copy)]
 pub struct MemoryRange {
     pub start: u64,
     pub end: u64,
 }
 
-#[derive(Drop)]
+#[derive(Clone, Copy)]
 pub struct MemoryRangeWithNode {
     pub start: u64,
     pub end: u64,
@@ -21,7 +23,7 @@ pub struct MemoryRangeWithNode {
 }
 
 // A span of touching entries, and the place of the entry after it.
-#[derive(Drop)]
+#[derive(Clone, Copy)]
 pub struct Span {
     pub start: u64,
     pub end: u64,

@@ -1,4 +1,6 @@
 // The protector's entries that lock and unlock lists of pages. Each takes any lengths, any numbers, any bytes and words.
+#![tactic(auto)]
+
 ghost use Rattle.std.specs.Prelude.{◌≡◌, length};
 ghost use Rattle.page_list.specs.Pages.{pages_of};
 ghost use Rattle.lock_table.specs.Locks.{lock_code, lock_words, unlock_code, unlock_words};

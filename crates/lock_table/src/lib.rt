@@ -1,4 +1,6 @@
 // The locked page lists of one VTL in a lent run of words: how many, then how many pages the first k of them have together, then the pages of all.
+#![tactic(auto)]
+
 ghost use Rattle.std.specs.Prelude.{◌≡◌, ◌&&◌, ◌+◌, ◌-◌, ◌≤◌, ◌<◌, min, max, ltb, leb, get_or};
 ghost use Rattle.std.proofs.lemmas.List.Edits.{sets};
 ghost use Rattle.abi.specs.Limits as limit;

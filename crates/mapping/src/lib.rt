@@ -1,5 +1,7 @@
 // GuestMemoryMapping over lent maps: the private and shared marks and the permission maps (empty where permissions are not
 // tracked), as built from the layout, as updated, and as they stand.
+#![tactic(auto)]
+
 ghost use Rattle.std.specs.Prelude.{true, ◌≡◌, ◌+◌, ◌≤◌, length, replicate};
 ghost use Rattle.laws.specs.Ranges.{between};
 ghost use Rattle.bitmap.specs.Pages.{written};
@@ -9,7 +11,7 @@ ghost use Rattle.mapping.specs.Maps.{perms, maps, fresh, built, permission_len, 
 use permissions::HvMapGpaFlags;
 
 // The lengths of the six maps in bytes.
-#[derive(Drop)]
+#[derive(Clone, Copy)]
 pub struct MapLengths {
     pub private: u64,
     pub shared: u64,

@@ -1,4 +1,6 @@
 // Choices and reads of words that several crates make.
+#![tactic(auto)]
+
 ghost use Rattle.std.specs.Prelude.{◌≡◌, ◌-◌, min, max, get_or};
 
 pub fn min(a: u64, b: u64) -> u64

@@ -1,4 +1,6 @@
 // The calls on overlay pages: register, unregister, and whether a page is one. Every entry takes any lengths, any numbers, any bytes and words.
+#![tactic(auto)]
+
 ghost use Rattle.std.specs.Prelude.{◌≡◌, length};
 ghost use Rattle.mapping.specs.Maps.{maps};
 ghost use Rattle.overlay_table.specs.Overlays.{entry_at, count_words};

@@ -1,4 +1,6 @@
 // The tests of the calls on overlay pages, and the flags that a page has.
+#![tactic(auto)]
+
 ghost use Rattle.std.specs.Prelude.{◌≡◌, eqb, length};
 ghost use Rattle.layout.specs.Layout.{entries_of};
 ghost use Rattle.mapping.specs.Maps.{perms};
@@ -14,7 +16,7 @@ use overlay_table::OverlayPage;
 use permissions::{GuestVtl, HvMapGpaFlags};
 
 // What the tests of a call find: the number that refuses it, 0 where none does; then where the page's entry stands, 0 where it has none.
-#[derive(Drop)]
+#[derive(Clone, Copy)]
 pub struct Looked {
     pub refusal: u64,
     pub place: u64,

@@ -1,4 +1,6 @@
 // The overlay pages of one VTL in a lent run of words: how many, then five words for each in order of registration.
+#![tactic(auto)]
+
 ghost use Rattle.std.specs.Prelude.{◌≡◌, ◌+◌, ◌*◌, ◌≤◌, ◌<◌, length, take};
 ghost use Rattle.abi.specs.Overlay as overlay;
 ghost use Rattle.overlay_table.specs.Search.{is_of, find_from, key_in, loaded, place_for};
@@ -13,7 +15,7 @@ const TABLE_WORDS: usize = table::OVERLAYS1 - table::OVERLAYS0;
 const LOADED: u64 = 4;
 
 // Permissions are flag bits. gpn_source: 0 guest memory, 1 Dma.
-#[derive(Drop)]
+#[derive(Clone, Copy)]
 pub struct OverlayPage {
     pub gpn: u64,
     pub previous_permissions: u64,
@@ -23,14 +25,14 @@ pub struct OverlayPage {
 }
 
 // Where a page stands among entries.
-#[derive(Drop)]
+#[derive(Clone, Copy)]
 pub enum Found {
     At(usize),
     Nothing,
 }
 
 // What tells entries apart: what a search reads of an entry, and what it looks for.
-#[derive(Drop)]
+#[derive(Clone, Copy)]
 pub struct OverlayKey {
     pub gpn: u64,
 }

@@ -1,11 +1,13 @@
 // Page lists as they cross, 8-byte little-endian numbers, and runs of ascending neighbours in a table of pages.
+#![tactic(auto)]
+
 ghost use Rattle.std.specs.Prelude.{◌≡◌, true, false, ◌+◌, ◌*◌, eqb, length, get_or, drop};
 ghost use Rattle.page_list.specs.Pages.{number_of, pages_of, is_long, among, repeats, is_ragged, steps, strict};
 ghost use Rattle.page_list.specs.Runs.{run_at};
 
 use abi::limit;
 
-#[derive(Drop)]
+#[derive(Clone, Copy)]
 pub struct PageRun {
     pub first: u64,
     pub count: u64,

@@ -1,4 +1,6 @@
 // VTLs, isolation types, permission flags, the defaults, and the RMPADJUST operands of SNP.
+#![tactic(auto)]
+
 ghost use Rattle.std.specs.Prelude.{◌≡◌, ◌≤◌};
 ghost use Rattle.laws.specs.Bools.{digit};
 ghost use Rattle.permissions.specs.Flags.{fit_vtl, vtl_of, vtl_number, is_vtl0, fit_isolation, isolation_of, fit_flags, flags_of, bits_of, no_flags, all_flags};
@@ -8,21 +10,21 @@ ghost use Rattle.permissions.specs.HvError.{code_of};
 
 use abi::{FLAGS_END, code, isolation, refusal};
 
-#[derive(Drop)]
+#[derive(Clone, Copy)]
 pub enum GuestVtl {
     Vtl0,
     Vtl1,
 }
 
 // The isolation types of the domain.
-#[derive(Drop)]
+#[derive(Clone, Copy)]
 pub enum IsolationType {
     Snp,
     Tdx,
     Cca,
 }
 
-#[derive(Drop)]
+#[derive(Clone, Copy)]
 pub struct HvMapGpaFlags {
     pub readable: bool,
     pub writable: bool,
@@ -31,14 +33,14 @@ pub struct HvMapGpaFlags {
 }
 
 // Flags that may not be given.
-#[derive(Drop)]
+#[derive(Clone, Copy)]
 pub enum OptionFlags {
     Some(HvMapGpaFlags),
     None,
 }
 
 // The permissions that a page gets as it returns to private.
-#[derive(Drop)]
+#[derive(Clone, Copy)]
 pub struct DefaultVtlPermissions {
     pub vtl0: HvMapGpaFlags,
     pub vtl1: OptionFlags,

@@ -20,7 +20,7 @@ pub const ANSWERS: u64 = 8192;
 pub const CODES: u64 = 65536;
 
 // The runs of docs/ABI.md, the last reply, and the digest of what the call under way asked for.
-#[derive(Drop)]
+#[derive(Clone, Copy)]
 pub struct Buffers {
     pub private: [u8; MAP_BYTES],
     pub shared: [u8; MAP_BYTES],
@@ -36,7 +36,7 @@ pub struct Buffers {
 }
 
 // A kind and its arguments; the operation that fails (0: none), its code and the pages processed; how many runs follow.
-#[derive(Drop)]
+#[derive(Clone, Copy)]
 pub struct Call {
     pub kind: u64,
     pub a: u64,

@@ -1,4 +1,6 @@
 // Recorded calls put to the entries, by buffers that are handed on by value.
+#![tactic(auto)]
+
 pub mod answers;
 pub mod buffers;
 pub mod calls;

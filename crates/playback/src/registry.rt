@@ -13,7 +13,7 @@ use registrar_state::Reply;
 // Layouts end at chunk 512.
 pub const BITMAP_WORDS: usize = 8;
 
-#[derive(Drop)]
+#[derive(Clone, Copy)]
 pub struct Registry {
     pub state: [u64; REGISTRAR_WORDS],
     pub registered: [u64; BITMAP_WORDS],

@@ -1,4 +1,6 @@
 // The entries that change the protections of pages, and the default of a VTL.
+#![tactic(auto)]
+
 ghost use Rattle.std.specs.Prelude.{◌≡◌, ◌+◌, ◌<◌, ◌≤◌, ◌^◌, length};
 ghost use Rattle.abi.specs.Flags.{flags_end};
 ghost use Rattle.permissions.specs.Flags.{flags_of};
@@ -128,7 +130,7 @@ fn apply_step(
     step: ChangeStep,
 ) -> Reply
     requires { (length state.old ≡ state_len) × (step.written.first + step.written.count ≤ 2 ^ 64) }
-    ensures user_after { perms read.new write.new kernel.new user.new ≡ permitted_run step.written (flags_of step.change.flags) (perms read.old write.old kernel.old user.old) }
+    ensures permissions_after { perms read.new write.new kernel.new user.new ≡ permitted_run step.written (flags_of step.change.flags) (perms read.old write.old kernel.old user.old) }
     ensures state_after { state.new ≡ with_change step.stage step.change state.old }
     ensures value { result ≡ flat_of (settings_of state.old).isolation step.answer }
 {

@@ -1,4 +1,6 @@
 // What a visibility change writes at each step.
+#![tactic(auto)]
+
 ghost use Rattle.std.specs.Prelude.{◌≡◌, true, ◌≤◌, length};
 ghost use Rattle.mapping.specs.Maps.{maps, perms};
 ghost use Rattle.request_pages.specs.Request.{put};
@@ -107,7 +109,7 @@ pub fn apply_step(
     step: Step,
 ) -> Reply
     requires { length state.old ≡ state_len }
-    ensures user_after { maps private.new shared.new read.new write.new kernel.new user.new ≡ applied pages.now step.writes (maps private.old shared.old read.old write.old kernel.old user.old) }
+    ensures maps_after { maps private.new shared.new read.new write.new kernel.new user.new ≡ applied pages.now step.writes (maps private.old shared.old read.old write.old kernel.old user.old) }
     ensures state_after { state.new ≡ with_request step.phase step.request state.old }
     ensures value { result ≡ flat_of settings.isolation step.answer }
 {
@@ -174,7 +176,7 @@ fn apply_done(
     next: Next,
 ) -> Reply
     requires { (length state.old ≡ state_len) × (request.n ≤ length pages.now) }
-    ensures user_after { maps private.new shared.new read.new write.new kernel.new user.new
+    ensures maps_after { maps private.new shared.new read.new write.new kernel.new user.new
         ≡ applied pages.now (next_step (settings_of state.old) request pages.now next).writes (maps private.old shared.old read.old write.old kernel.old user.old) }
     ensures state_after { state.new ≡ with_request (next_step (settings_of state.old) request pages.now next).phase (next_step (settings_of state.old) request pages.now next).request state.old }
     ensures value { result ≡ flat_of (settings_of state.old).isolation (next_step (settings_of state.old) request pages.now next).answer }
@@ -209,7 +211,7 @@ pub fn answer_done(
     pages: &[u64],
 ) -> Reply
     requires { (length state.old ≡ state_len) × (length pages.now ≡ pages_len) }
-    ensures user_after { maps private.new shared.new read.new write.new kernel.new user.new ≡ applied pages.now (done_in state.old pages.now).writes (maps private.old shared.old read.old write.old kernel.old user.old) }
+    ensures maps_after { maps private.new shared.new read.new write.new kernel.new user.new ≡ applied pages.now (done_in state.old pages.now).writes (maps private.old shared.old read.old write.old kernel.old user.old) }
     ensures state_after { state.new ≡ with_request (done_in state.old pages.now).phase (done_in state.old pages.now).request state.old }
     ensures value { result ≡ flat_of (settings_of state.old).isolation (done_in state.old pages.now).answer }
 {
@@ -239,7 +241,7 @@ pub fn begin(
     stopped: bool,
 ) -> Reply
     requires { length state.old ≡ state_len }
-    ensures user_after { maps private.new shared.new read.new write.new kernel.new user.new ≡ applied pages.now (start_of (settings_of state.old) vtl share count stop stopped).writes (maps private.old shared.old read.old write.old kernel.old user.old) }
+    ensures maps_after { maps private.new shared.new read.new write.new kernel.new user.new ≡ applied pages.now (start_of (settings_of state.old) vtl share count stop stopped).writes (maps private.old shared.old read.old write.old kernel.old user.old) }
     ensures state_after { state.new ≡ with_request (start_of (settings_of state.old) vtl share count stop stopped).phase (start_of (settings_of state.old) vtl share count stop stopped).request state.old }
     ensures value { result ≡ flat_of (settings_of state.old).isolation (start_of (settings_of state.old) vtl share count stop stopped).answer }
 {

@@ -1,4 +1,6 @@
 // The state block of the protector, and what crosses for an answer.
+#![tactic(auto)]
+
 ghost use Rattle.std.specs.Prelude.{◌≡◌, ◌≤◌, cond, length};
 ghost use Rattle.abi.specs.Refusals as refusal;
 ghost use Rattle.abi.specs.Lengths.{ram_len};
@@ -19,7 +21,7 @@ use visibility_steps::{Answer, Operation, Phase, Request, Settings, Turn};
 // What crosses: 01's number (0 where none), code, index and count of a call, and the operation asked for (0 where none):
 // 1 Wait, 2 FlushAll, 3 Protect, 4 Invalidate, 5 Release, 6 Modify, 7 Accept, 8 Zero, 9 Flush, 10 TlbWait.
 #[repr(C)]
-#[derive(Drop)]
+#[derive(Clone, Copy)]
 pub struct Reply {
     pub number: u64,
     pub code: u64,
@@ -36,7 +38,7 @@ pub struct Reply {
 
 // 01's number (0 where none), and the value: an action, flags, or the code of a refusal.
 #[repr(C)]
-#[derive(Drop)]
+#[derive(Clone, Copy)]
 pub struct Value {
     pub number: u64,
     pub value: u64,

@@ -1,4 +1,6 @@
 // What answers query_host_visibility, and what crosses for a fault or a permission query.
+#![tactic(auto)]
+
 ghost use Rattle.std.specs.Prelude.{◌≡◌};
 ghost use Rattle.laws.specs.Bools.{digit};
 ghost use Rattle.bitmap.specs.Pages.{bit_at};

@@ -8,7 +8,7 @@ use crate::decode;
 pub const RAM_WORDS: usize = 96;
 
 // How many bytes of a list are filled, and the place after the runs read.
-#[derive(Drop)]
+#[derive(Clone, Copy)]
 pub struct Filled {
     pub len: usize,
     pub next: usize,

@@ -1,4 +1,6 @@
 // The registrar: which chunks of guest memory the kernel has been told of. It asks one operation at a time.
+#![tactic(auto)]
+
 ghost use Rattle.std.specs.Prelude.{◌≡◌, ℕ, ◌+◌, ◌*◌, ◌%◌, ◌^◌, ◌<◌, ◌≤◌, min, List, length, if◌then◌else◌, ◌≢◌, nat_eq, nat_lt, slice_index};
 ghost use Rattle.abi.specs.Kinds as kind;
 ghost use Rattle.abi.specs.Refusals as refusal;
@@ -86,8 +88,8 @@ fn register_from(
     until: u64,
 ) -> u64
     requires { (length state.old ≡ registrar_len) × (total ≡ chunk_count (granularity_of state.old) (entries_in state.old)) }
-    ensures fact { (let w : Buffers = buffers state.old registered.old failed.now in let p : Plan = register_from (chunk_state_in w) (offset_of w.state) count from until in (state.new ≡ with_request p.request w.state) × (registered.new ≡ marked p.from p.to w.registered) × (result ≡ p.to)) }
-    ensures state_bound { result < min until total → result * granularity_of state.old < 2 ^ 64 }
+    ensures planned { (let w : Buffers = buffers state.old registered.old failed.now in let p : Plan = register_from (chunk_state_in w) (offset_of w.state) count from until in (state.new ≡ with_request p.request w.state) × (registered.new ≡ marked p.from p.to w.registered) × (result ≡ p.to)) }
+    ensures bounded { result < min until total → result * granularity_of state.old < 2 ^ 64 }
 {
     let at = registrar_state::register_stop(state, registered, failed, total, from, until);
     chunks::set_chunks(registered, from, at.chunk);

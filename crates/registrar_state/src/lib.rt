@@ -1,4 +1,6 @@
 // The state block of the registrar: what it holds, what refuses a call, and what a call plans.
+#![tactic(auto)]
+
 ghost use Rattle.std.specs.Prelude.{◌≡◌, ◌*◌, ◌<◌, ◌^◌, min, ◌||◌, ◌&&◌, eqb, leb, length};
 ghost use Rattle.abi.specs.Refusals as refusal;
 ghost use Rattle.abi.specs.Lengths.{registrar_len, word_bits};
@@ -19,7 +21,7 @@ use registrar_steps::{Answer, Plan, Request, Stop, Unaligned};
 // What crosses: 01's number (0 where none), whether a Register of start to before end is asked, the count of a finished
 // call, the address of 23, the fields of 22.
 #[repr(C)]
-#[derive(Drop)]
+#[derive(Clone, Copy)]
 pub struct Reply {
     pub number: u64,
     pub asked: u64,

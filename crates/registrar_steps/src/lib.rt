@@ -1,4 +1,6 @@
 // What the registrar does next. Nothing here writes.
+#![tactic(auto)]
+
 ghost use Rattle.std.specs.Prelude.{◌≡◌, ℕ, ◌+◌, ◌*◌, ◌^◌, ◌<◌, ◌≤◌, min, true, not, ◌&&◌, ◌==◌, nat_lt};
 ghost use Rattle.abi.specs.Lengths.{word_bits};
 ghost use Rattle.bitmap.specs.Pages.{bit_at};
@@ -11,7 +13,7 @@ use layout::MemoryRange;
 
 // The request under way. kind: 0 nothing asked, 1 register, else register_all_aligned. The chunks from `from` to before
 // `to` are under way, of them the bytes from `start` to before `end`.
-#[derive(Drop)]
+#[derive(Clone, Copy)]
 pub struct Request {
     pub kind: u64,
     pub count: u64,
@@ -25,7 +27,7 @@ pub struct Request {
 }
 
 // The fields of UnalignedMemory.
-#[derive(Drop)]
+#[derive(Clone, Copy)]
 pub struct Unaligned {
     pub span: MemoryRange,
     pub edge: MemoryRange,
@@ -35,7 +37,7 @@ pub struct Unaligned {
 }
 
 // What a call gives: a finished one with the count of its operations.
-#[derive(Drop)]
+#[derive(Clone, Copy)]
 pub enum Answer {
     Done(u64),
     Register(MemoryRange),
@@ -46,7 +48,7 @@ pub enum Answer {
 
 // Why `register` stops: at the end, at a chunk with RAM to ask for, at one that failed before. Of one chunk End is that it
 // asks for nothing.
-#[derive(Drop)]
+#[derive(Clone, Copy)]
 pub enum Why {
     End,
     Ram,
@@ -54,7 +56,7 @@ pub enum Why {
 }
 
 // Where `register` stops, with the address of a chunk that failed before, or of the RAM to ask for.
-#[derive(Drop)]
+#[derive(Clone, Copy)]
 pub struct Stop {
     pub why: Why,
     pub chunk: u64,
@@ -63,7 +65,7 @@ pub struct Stop {
 }
 
 // What is next in a span.
-#[derive(Drop)]
+#[derive(Clone, Copy)]
 pub enum Look {
     Nothing,
     Edge(MemoryRange),
@@ -77,7 +79,7 @@ pub enum Look {
 }
 
 // The chunks from `from` to before `to` become registered; then the request under way, and what the call gives.
-#[derive(Drop)]
+#[derive(Clone, Copy)]
 pub struct Plan {
     pub from: u64,
     pub to: u64,

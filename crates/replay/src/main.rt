@@ -1,4 +1,6 @@
 // Recorded answers of the original, held against the proved entries. The input is the file of recorded calls.
+#![tactic(auto)]
+
 mod field;
 mod given;
 mod protector_part;

@@ -11,7 +11,7 @@ use playback::{answers, buffers, calls, left};
 use recording::{decode, kind, lists};
 
 // What is lent to the next call, and the place of its line.
-#[derive(Drop)]
+#[derive(Clone, Copy)]
 struct Step {
     buffers: Buffers,
     next: usize,

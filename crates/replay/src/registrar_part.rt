@@ -9,7 +9,7 @@ use playback::registry;
 use playback::registry::Registry;
 use recording::{decode, lists};
 
-#[derive(Drop)]
+#[derive(Clone, Copy)]
 struct Step {
     registry: Registry,
     next: usize,

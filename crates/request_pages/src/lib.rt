@@ -1,5 +1,7 @@
 // The pages of the request under way, in a table of 1,024 words: pages in the first 512, then their places in the list
 // as sent.
+#![tactic(auto)]
+
 ghost use Rattle.std.specs.Prelude.{◌≡◌, true, cond, ◌&&◌, ◌+◌, ◌<◌, ◌≤◌, length, get_or, set, take};
 ghost use Rattle.abi.specs.Limits as limit;
 ghost use Rattle.abi.specs.Lengths.{pages_len, places_start};

@@ -1,4 +1,6 @@
 // The protector's entries for VTL1's protections: the setter, its getter, and the default of VTL0. Each takes any length and any words.
+#![tactic(auto)]
+
 ghost use Rattle.std.specs.Prelude.{◌≡◌};
 ghost use Rattle.setting_entries.specs.Calls.{enable_refusal, enabled, enable_of, enabled_in, default_in};
 

@@ -1,4 +1,6 @@
 // The protector's entries: build, visibility changes, answers, queries and faults. Every one takes any lengths, any numbers, any bytes and words.
+#![tactic(auto)]
+
 ghost use Rattle.std.specs.Prelude.{◌≡◌};
 ghost use Rattle.mapping.specs.Maps.{maps};
 ghost use Rattle.call_refusals.specs.Buffers.{buffers, outcome};

@@ -1,5 +1,7 @@
 // What each answer leads a visibility change to: the operation asked for next, what is written, and the end. Nothing here
 // touches a map.
+#![tactic(auto)]
+
 ghost use Rattle.std.specs.Prelude.{◌≡◌, ◌&&◌, if◌then◌else◌};
 ghost use Rattle.request_pages.specs.Request.{run_end};
 ghost use Rattle.visibility_steps.specs.Steps.{is_snp, is_cca, releases, no_writes, or_none, operation_on, counted, no_request, finished, halt, keep, share_run, default_run, return_run, after_flush, after_wait, after_modify, after_accept, after_default0, failed_modify, done_of, failed_of, asked, is_vtl0, cleared};
@@ -10,7 +12,7 @@ use page_list::PageRun;
 use permissions::{DefaultVtlPermissions, GuestVtl, HvMapGpaFlags, IsolationType, OptionFlags};
 
 // What a protector is built with, and what calls set.
-#[derive(Drop)]
+#[derive(Clone, Copy)]
 pub struct Settings {
     pub isolation: IsolationType,
     pub tracked: bool,
@@ -20,7 +22,7 @@ pub struct Settings {
 }
 
 // Nothing under way, or the operation outstanding.
-#[derive(Drop)]
+#[derive(Clone, Copy)]
 pub enum Phase {
     Idle,
     Halted,
@@ -38,7 +40,7 @@ pub enum Phase {
 }
 
 // The request under way: its first `n` pages of the table are in use, the run at place `at` is under way.
-#[derive(Drop)]
+#[derive(Clone, Copy)]
 pub struct Request {
     pub share: bool,
     pub vtl: GuestVtl,
@@ -52,7 +54,7 @@ pub struct Request {
 }
 
 // What the paravisor is asked to do.
-#[derive(Drop)]
+#[derive(Clone, Copy)]
 pub enum Operation {
     Wait,
     FlushAll,
@@ -74,7 +76,7 @@ pub enum Operation {
 }
 
 // What a call gives: a finished one with the count of its operations.
-#[derive(Drop)]
+#[derive(Clone, Copy)]
 pub enum Answer {
     Done(u64),
     AccessDenied { index: u64, count: u64 },
@@ -85,14 +87,14 @@ pub enum Answer {
 }
 
 // The places of the table from `from` to before `to`.
-#[derive(Drop)]
+#[derive(Clone, Copy)]
 pub struct Places {
     pub from: u64,
     pub to: u64,
 }
 
 // The marks that become `state`, and the permissions that become `flags`.
-#[derive(Drop)]
+#[derive(Clone, Copy)]
 pub struct Writes {
     pub state: bool,
     pub private: Places,
@@ -101,7 +103,7 @@ pub struct Writes {
     pub flags: HvMapGpaFlags,
 }
 
-#[derive(Drop)]
+#[derive(Clone, Copy)]
 pub struct Step {
     pub phase: Phase,
     pub request: Request,
@@ -110,7 +112,7 @@ pub struct Step {
 }
 
 // The marks that an answer sets: private before a place of the table, shared from a place to before another.
-#[derive(Drop)]
+#[derive(Clone, Copy)]
 pub struct Marks {
     pub private: u64,
     pub from: u64,
@@ -118,7 +120,7 @@ pub struct Marks {
 }
 
 // An operation is asked for, the call ends, or the answer isn't taken.
-#[derive(Drop)]
+#[derive(Clone, Copy)]
 pub enum Turn {
     Ask,
     End,
@@ -126,7 +128,7 @@ pub enum Turn {
 }
 
 // A step as far as it isn't told by the request and its table: the phase asked for, its place in the table, and the marks set.
-#[derive(Drop)]
+#[derive(Clone, Copy)]
 pub struct Next {
     pub turn: Turn,
     pub phase: Phase,

@@ -1,4 +1,6 @@
 // Words of a lent run written and moved. Nothing is written past its end.
+#![tactic(auto)]
+
 ghost use Rattle.std.specs.Prelude.{◌≡◌, ◌+◌, ◌≤◌, min, length, get_or, set, replicate};
 ghost use Rattle.words.specs.Words.{closed, closed_to, swapped, turned};
 

@@ -1,4 +1,6 @@
 // The worked examples of document 01, run and shown: RAM pages 0 to 15 and 32 to 39.
+#![tactic(auto)]
+
 use abi::{REGISTRAR_WORDS, refusal};
 use fault::PageFaultAction;
 use libc::STDOUT_FILENO;

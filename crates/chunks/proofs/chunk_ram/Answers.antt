@@ -1,0 +1,5 @@
+use borrow.Author.Rules.{rules}
+use Rattle.chunks.proofs.chunk_ram.Goals as goal
+
+pub returns : goal.returns
+returns c = c.ram_before.ensures _ c.end_from.ensures

@@ -1,0 +1,43 @@
+use native.Mathlib.Omega.{arith}
+use borrow.Author.Rules.{rules}
+use mathlib.Core.Path.{◌≡◌, refl, sym, ap, ◌∙◌}
+use Prim.Native.Nat.{ℕ, ◌-◌, ◌^◌, min}
+use lib.ListN.{drop}
+use Rattle.layout.specs.Layout.{entries_of, spans}
+use Rattle.chunks.specs.Chunks.{pieces, first_of}
+use Rattle.chunks.proofs.Laws as laws
+use Rattle.chunks.proofs.ram_before.Goals as goal
+
+pub loop-i-init : goal.loop-i-init
+loop-i-init c = λ y e. refl
+
+pub returns-then-start-end : goal.returns-then-start-end
+returns-then-start-end c =
+    λ y e.
+    let a = c.args in
+    let h = c.loop-i in
+    let s = c.span_at-span in
+    sym (laws.pieces_hit (entries_of a.ram.now) a.from y h.i s.result (omega arith) s.ensures c.max-start.result c.min-end.result c.max-start.ensures (laws.end_within y a.stop s.result.end c.min-end.result e s.type_inv.1.1.1.0.1 c.min-end.ensures) c.if-start-end.true) ∙ h.invariant y e
+
+pub loop-i-smaller : goal.loop-i-smaller
+loop-i-smaller c =
+    let a = c.args in
+    let h = c.loop-i in
+    let s = c.span_at-span in
+    let n = c.entry_count-n in
+    laws.span_less (entries_of a.ram.now) h.i n.result s.result (omega arith) n.ensures s.ensures
+
+pub loop-i-preserved : goal.loop-i-preserved
+loop-i-preserved c =
+    λ y e.
+    let a = c.args in
+    let h = c.loop-i in
+    let s = c.span_at-span in
+    ap first_of (sym (laws.pieces_miss (entries_of a.ram.now) a.from y h.i s.result (omega arith) s.ensures c.max-start.result c.min-end.result c.max-start.ensures (laws.end_within y a.stop s.result.end c.min-end.result e s.type_inv.1.1.1.0.1 c.min-end.ensures) c.if-start-end.false)) ∙ h.invariant y e
+
+pub returns : goal.returns
+returns c =
+    λ y e.
+    let a = c.args in
+    let h = c.loop-i in
+    sym (laws.pieces_end (entries_of a.ram.now) a.from y h.i (omega arith)) ∙ h.invariant y e

@@ -1,0 +1,15 @@
+use borrow.Author.Rules.{rules}
+use native.Mathlib.Omega.{arith}
+use mathlib.Core.Path.{◌≡◌, refl, sym, ap, ◌∙◌}
+use Prim.Native.Nat.{ℕ, ◌+◌, ◌-◌}
+use Rattle.page_list.specs.Pages.{pages_of}
+use Rattle.lock_table.specs.Locks.{end_of, equal_from}
+use Rattle.lock_table.proofs.Laws as laws
+use Rattle.lock_table.proofs.find.Given as goal
+
+abbrev pub invariant-loop-k : goal.invariant-loop-k
+invariant-loop-k l =
+    (l.from ≡ 65 + end_of l.table l.k) × (equal_from l.table (l.n - l.k) l.k (pages_of l.list) ≡ equal_from l.table l.n 0 (pages_of l.list))
+
+abbrev pub decreases-loop-k : goal.decreases-loop-k
+decreases-loop-k l = l.n - l.k

@@ -1,0 +1,16 @@
+use borrow.Author.Rules.{rules}
+use native.Mathlib.Omega.{arith}
+use mathlib.Core.Path.{◌≡◌, sym, ap, ◌∙◌}
+use Prim.Native.Nat.{ℕ, ◌+◌, ◌-◌}
+use lib.ListN.{drop}
+use Rattle.page_list.specs.Runs.{part}
+use Rattle.page_list.specs.Pages.{pages_of}
+use Rattle.lock_table.specs.Locks.{same}
+use Rattle.lock_table.proofs.Laws as laws
+use Rattle.lock_table.proofs.is_same.Given as goal
+
+abbrev pub invariant-loop-i : goal.invariant-loop-i
+invariant-loop-i l = same (part l.table l.to (l.from + l.i)) (drop l.i (pages_of l.list)) ≡ same (part l.table l.to l.from) (pages_of l.list)
+
+abbrev pub decreases-loop-i : goal.decreases-loop-i
+decreases-loop-i l = l.n - l.i

@@ -1,0 +1,15 @@
+use borrow.Author.Rules.{rules}
+use native.Mathlib.Omega.{arith}
+use mathlib.Core.Path.{◌≡◌, refl, sym, ◌∙◌}
+use Prim.Native.Nat.{◌-◌}
+use lib.ListN.{length}
+use Rattle.lock_table.specs.Locks.{moved}
+use Rattle.lock_table.proofs.Laws as laws
+use Rattle.lock_table.proofs.move_ends.Given as goal
+
+abbrev pub invariant-loop-k : goal.invariant-loop-k
+invariant-loop-k l =
+    (length l.table ≡ length l.initial.table) × (moved l.table (l.to - l.k) l.k l.less l.more ≡ moved l.initial.table (l.to - l.from) l.from l.less l.more)
+
+abbrev pub decreases-loop-k : goal.decreases-loop-k
+decreases-loop-k l = l.to - l.k

@@ -1,0 +1,16 @@
+use borrow.Author.Rules.{rules}
+use native.Mathlib.Omega.{arith}
+use mathlib.Core.Path.{◌≡◌, refl, sym, ap, ◌∙◌}
+use Prim.Native.Nat.{ℕ, ◌+◌, ◌-◌}
+use lib.ListN.{length, drop}
+use lib.Seq.{sets}
+use Rattle.page_list.specs.Pages.{pages_of}
+use Rattle.lock_table.proofs.Laws as laws
+use Rattle.lock_table.proofs.put_pages.Given as goal
+
+abbrev pub invariant-loop-i : goal.invariant-loop-i
+invariant-loop-i l =
+    (length l.table ≡ length l.initial.table) × (sets l.table (l.place + l.i) (drop l.i (pages_of l.list)) ≡ sets l.initial.table l.place (pages_of l.list))
+
+abbrev pub decreases-loop-i : goal.decreases-loop-i
+decreases-loop-i l = l.n - l.i

@@ -1,0 +1,16 @@
+use borrow.Author.Rules.{rules}
+use native.Mathlib.Omega.{arith}
+use Rattle.lock_table.proofs.Laws as laws
+use Rattle.lock_table.proofs.remove_list.Goals as goal
+
+pub overflow_add-start-2 : goal.overflow_add-start-2
+overflow_add-start-2 c = omega (arith, c.saturating_sub-2.ensures, c.end_of-to.ensures.upper_bound, c.end_of-start.ensures.upper_bound)
+
+pub move_ends-requires : goal.move_ends-requires
+move_ends-requires c = omega (arith, c.saturating_sub-2.ensures, c.end_of-to.ensures.upper_bound, c.end_of-start.ensures.upper_bound)
+
+pub returns : goal.returns
+returns c =
+    let a = c.args in
+    laws.list_removed a.table.now a.c a.i _ _ _ _ _ _ c.end_of-start.ensures.value c.end_of-end.ensures.value c.end_of-last.ensures.value c.end_of-to.ensures.value
+    c.saturating_sub.ensures c.saturating_sub-2.ensures _ _ _ _ _ c.bring_last.ensures c.remove_words.ensures c.move_ends.ensures c.put.ensures c.put-2.ensures

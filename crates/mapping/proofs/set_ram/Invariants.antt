@@ -1,0 +1,19 @@
+-- The invariant: the RAM of the entries from `i` on is still to be set.
+use borrow.Author.Rules.{rules}
+use mathlib.Core.Bool.{true}
+use mathlib.Core.Path.{◌≡◌, refl, sym, ap, ◌∙◌}
+use Prim.Native.Nat.{◌-◌, ◌≤◌}
+use native.Mathlib.Omega.{arith}
+use lib.ListN.{length, drop}
+use Rattle.bitmap.specs.Pages.{written}
+use Rattle.bitmap.proofs.Map.{length_written}
+use Rattle.layout.specs.Layout.{entries_of, is_ram}
+use Rattle.mapping.proofs.Marks.{ram_step, ram_end}
+use Rattle.mapping.proofs.set_ram.Given as goal
+
+abbrev pub invariant-loop-i : goal.invariant-loop-i
+invariant-loop-i l =
+    (l.i ≤ l.n) × (written 8 (is_ram (drop l.i (entries_of l.ram))) true l.map ≡ written 8 (is_ram (entries_of l.ram)) true l.initial.map)
+
+abbrev pub decreases-loop-i : goal.decreases-loop-i
+decreases-loop-i l = l.n - l.i

@@ -1,0 +1,14 @@
+use borrow.Author.Rules.{rules}
+use native.Mathlib.Omega.{arith}
+use mathlib.Core.Path.{◌≡◌, sym, ap, ◌∙◌}
+use Prim.Native.Nat.{ℕ, ◌+◌, ◌*◌, ◌≤◌, ◌<◌}
+use Rattle.overlay_table.specs.Overlays.{place_from, place_of}
+use Rattle.overlay_table.specs.Search.{key_of, place_for}
+use Rattle.overlay_table.proofs.Laws as laws
+use Rattle.overlay_table.proofs.find_entry.Given as goal
+
+abbrev pub invariant-loop-left : goal.invariant-loop-left
+invariant-loop-left l = (0 < l.place) × (l.place + 5 * l.left ≤ 641) × (place_for l.table l.left l.place l.key ≡ place_of l.table l.gpn)
+
+abbrev pub decreases-loop-left : goal.decreases-loop-left
+decreases-loop-left l = l.left

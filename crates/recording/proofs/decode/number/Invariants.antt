@@ -1,0 +1,10 @@
+use Rattle.std.proofs.Common.{◌≡◌, ℕ, ◌+◌, ◌-◌, List, length, drop, refl, ap, ◌∙◌, arith, rules}
+use Rattle.recording.proofs.Laws.{digits_end, digits_stop, digits_next}
+use Rattle.recording.specs.Decode.{digits_from, number_at}
+use Rattle.recording.proofs.decode.number.Given as goal
+
+abbrev pub invariant-loop-i : goal.invariant-loop-i
+invariant-loop-i l = digits_from (drop l.i l.input) l.value l.i ≡ number_at l.input l.at
+
+abbrev pub decreases-loop-i : goal.decreases-loop-i
+decreases-loop-i l = length l.input - l.i

@@ -1,0 +1,10 @@
+use Rattle.std.proofs.Common.{◌≡◌, ℕ, ◌+◌, ◌-◌, List, length, drop, refl, ap, ◌∙◌, arith, rules}
+use Rattle.recording.proofs.Laws.{digest_next, digest_end}
+use Rattle.recording.specs.Digest.{digest_of}
+use Rattle.recording.proofs.digest.words.Given as goal
+
+abbrev pub invariant-loop-i : goal.invariant-loop-i
+invariant-loop-i l = digest_of l.d (drop l.i l.run) ≡ digest_of l.h l.run
+
+abbrev pub decreases-loop-i : goal.decreases-loop-i
+decreases-loop-i l = length l.run - l.i

@@ -1,0 +1,13 @@
+use Rattle.std.proofs.Common.{◌≡◌, ◌-◌, sym, refl, ◌∙◌, arith, rules}
+use borrow.Author.Tests.{not-true, not-false}
+use Rattle.layout.specs.Layout.{entries_of}
+use Rattle.registrar_steps.specs.Steps.{chunk_state, stop_at}
+use Rattle.registrar_steps.proofs.Laws as laws
+use Rattle.registrar_steps.proofs.walk.Given as goal
+
+abbrev pub invariant-loop-c : goal.invariant-loop-c
+invariant-loop-c l =
+    stop_at (chunk_state l.granularity (entries_of l.ram) l.registered l.failed) l.c l.to ≡ stop_at (chunk_state l.granularity (entries_of l.ram) l.registered l.failed) l.from l.to
+
+abbrev pub decreases-loop-c : goal.decreases-loop-c
+decreases-loop-c l = l.to - l.c

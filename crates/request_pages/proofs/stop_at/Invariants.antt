@@ -1,0 +1,17 @@
+use borrow.Author.Rules.{rules}
+use native.Mathlib.Omega.{arith}
+use mathlib.Core.Path.{◌≡◌, sym, ◌∙◌}
+use Prim.Native.Nat.{◌+◌, ◌-◌}
+use lib.ListN.{drop}
+use borrow.Author.Tests.{not-true, not-false}
+use Rattle.page_list.specs.Pages.{pages_of}
+use Rattle.request_pages.specs.Request.{stop_at, is_readable_and_writable}
+use Rattle.request_pages.proofs.Table as laws
+use Rattle.request_pages.proofs.stop_at.Given as goal
+
+abbrev pub invariant-loop-i : goal.invariant-loop-i
+invariant-loop-i l =
+    l.i + stop_at (is_readable_and_writable l.read l.write l.asked) (drop l.i (pages_of l.list)) ≡ stop_at (is_readable_and_writable l.read l.write l.asked) (pages_of l.list)
+
+abbrev pub decreases-loop-i : goal.decreases-loop-i
+decreases-loop-i l = l.n - l.i

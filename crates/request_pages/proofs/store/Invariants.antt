@@ -1,0 +1,17 @@
+use borrow.Author.Rules.{rules}
+use native.Mathlib.Omega.{arith}
+use mathlib.Core.Path.{◌≡◌, refl, sym, ap, ◌∙◌}
+use mathlib.Core.List.{List}
+use Prim.Native.Nat.{ℕ, ◌-◌, ◌≤◌, ◌<◌}
+use lib.ListN.{length, take, length-take}
+use Rattle.page_list.specs.Pages.{pages_of}
+use Rattle.request_pages.specs.Request.{pick, table_of, wanted}
+use Rattle.request_pages.proofs.Table as laws
+use Rattle.request_pages.proofs.store.Given as goal
+
+abbrev pub invariant-loop-i : goal.invariant-loop-i
+invariant-loop-i l =
+    (l.i ≤ l.n) × (l.stored ≡ length (pick (wanted l.shared l.share) (take l.i (pages_of l.list)))) × (l.pages ≡ table_of (wanted l.shared l.share) (take l.i (pages_of l.list)) l.initial.pages)
+
+abbrev pub decreases-loop-i : goal.decreases-loop-i
+decreases-loop-i l = l.n - l.i
