@@ -1,0 +1,10 @@
+use borrow.Author.Rules.{rules}
+use mathlib.Core.Path.{sym, ap}
+use Rattle.call_refusals.specs.Buffers.{overlays_of}
+use Rattle.call_refusals.proofs.overlays_of.Goals as goal
+
+pub returns-in-Vtl0 : goal.returns-in-Vtl0
+returns-in-Vtl0 c = ap (overlays_of c.args.tables.now) (sym c.in-Vtl0.is)
+
+pub returns-in-Vtl1 : goal.returns-in-Vtl1
+returns-in-Vtl1 c = ap (overlays_of c.args.tables.now) (sym c.in-Vtl1.is)

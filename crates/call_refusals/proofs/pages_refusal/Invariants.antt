@@ -1,0 +1,17 @@
+use borrow.Author.Rules.{rules}
+use mathlib.Core.Path.{◌≡◌, refl, sym, ◌∙◌}
+use lib.ListN.{drop}
+use native.Mathlib.Omega.{arith}
+use Prim.Native.Nat.{◌-◌}
+use Rattle.layout.specs.Layout.{entries_of}
+use Rattle.page_list.specs.Pages.{pages_of}
+use Rattle.call_refusals.specs.Refusals.{page_refusal, first_refusal}
+use Rattle.call_refusals.proofs.Laws as laws
+use Rattle.call_refusals.proofs.pages_refusal.Given as goal
+
+abbrev pub invariant-loop-i : goal.invariant-loop-i
+invariant-loop-i l =
+    first_refusal (page_refusal (entries_of l.ram) l.overlays l.locks l.share) (drop l.i (pages_of l.list)) ≡ first_refusal (page_refusal (entries_of l.ram) l.overlays l.locks l.share) (pages_of l.list)
+
+abbrev pub decreases-loop-i : goal.decreases-loop-i
+decreases-loop-i l = l.count - l.i

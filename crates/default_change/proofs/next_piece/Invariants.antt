@@ -1,0 +1,16 @@
+use borrow.Author.Rules.{rules}
+use native.Mathlib.Omega.{arith}
+use mathlib.Core.Path.{◌≡◌, refl, sym, ◌∙◌}
+use Prim.Native.Nat.{◌-◌}
+use lib.ListN.{drop}
+use Rattle.layout.specs.Layout.{entries_of}
+use Rattle.default_change.specs.Pieces.{wanted, next_of}
+use Rattle.default_change.proofs.Next as laws
+use Rattle.default_change.proofs.next_piece.Given as goal
+
+abbrev pub invariant-loop-i : goal.invariant-loop-i
+invariant-loop-i l =
+    next_of (wanted l.private l.overlays) (drop l.i (entries_of l.ram)) l.at ≡ next_of (wanted l.private l.overlays) (entries_of l.ram) l.at
+
+abbrev pub decreases-loop-i : goal.decreases-loop-i
+decreases-loop-i l = l.n - l.i

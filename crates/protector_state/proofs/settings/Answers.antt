@@ -1,0 +1,5 @@
+use borrow.Author.Rules.{rules}
+use Rattle.protector_state.proofs.settings.Goals as goal
+
+pub returns : goal.returns
+returns c = cc

@@ -1,0 +1,7 @@
+use Rattle.std.proofs.Common.{true, ap, rules}
+use Rattle.permissions.specs.declared.HvMapGpaFlags.{HvMapGpaFlags}
+use Rattle.visibility_steps.specs.Steps.{places, writes}
+use Rattle.visibility_steps.proofs.no_writes.Goals as goal
+
+pub returns : goal.returns
+returns c = ap (λ (f : HvMapGpaFlags). writes true (places 0 0) (places 0 0) (places 0 0) f) c.none.ensures
