@@ -9,14 +9,14 @@ use Rattle.history.specs.Answered.{Answered, leaves}
 use Rattle.history.proofs.Is.{is, build_is}
 use Rattle.history.proofs.Refused.{other_lengths_keeps, build_keeps}
 
-pub answered : {w v : Buffers} {a o : Observed} (h : History w a v o) → Answered h
+pub answered : {w : Buffers} {a : Observed} {v : Buffers} {o : Observed} (h : History w a v o) → Answered h
 unfolding Answered
 answered none = tt
 answered (call h c r m) = (answered h, is m)
 answered (call_with_other_lengths {left = u} {lent = x} h c r m s) = (answered h, is m, ap (λ (X : Effect (Result c)). X.buffers) (is m) ∙ other_lengths_keeps c u x s)
 answered (refused_build {left = u} {lent = x} {after = y} h ram i t l r m f) = (answered h, build_is m, build_keeps x y ram i t l r (build_is m) f)
 
-pub composed : {w v : Buffers} {a o : Observed} (h : History w a v o) → v ≡ leaves h
+pub composed : {w : Buffers} {a : Observed} {v : Buffers} {o : Observed} (h : History w a v o) → v ≡ leaves h
 unfolding leaves
 composed none = refl
 composed (call h c r m) = ap (λ (X : Effect (Result c)). X.buffers) (is m) ∙ ap (λ (u : Buffers). (gives c u).buffers) (composed h)

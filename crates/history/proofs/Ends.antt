@@ -48,7 +48,7 @@ answer_sum l k u v false f g h = add (left_in v) (subst (λ (v : Buffers). left_
     add : (a : ℕ) → a + k ≤ l → a + (0 + k) ≤ l
     add a h = omega (arith, h)
 
-sum_falls : {w v : Buffers} {a o : Observed} (h : Trace w a v o) → Falls h → Meanwhile h → left_in v + taken_in h ≤ left_in w
+sum_falls : {w : Buffers} {a : Observed} {v : Buffers} {o : Observed} (h : Trace w a v o) → Falls h → Meanwhile h → left_in v + taken_in h ≤ left_in w
 unfolding Falls Meanwhile taken_in
 sum_falls start f m = omega arith
 sum_falls {w} (answer {left = u} {after = v} h g b) f m = answer_sum (left_in w) (taken_in h) u v b f.1 f.2 (sum_falls h f.0 m)
@@ -59,7 +59,7 @@ unfolding after_all taken_of
 idle_at_none v h = claims.ends v [] h
 
 -- where it still waits it waited at each answer, and each that wasn't refused was taken
-all_taken : {w v : Buffers} {a o : Observed} (h : Trace w a v o) → Falls h → Meanwhile h → is_waiting o ≡ true → heard_in h ≡ taken_in h
+all_taken : {w : Buffers} {a : Observed} {v : Buffers} {o : Observed} (h : Trace w a v o) → Falls h → Meanwhile h → is_waiting o ≡ true → heard_in h ≡ taken_in h
 unfolding Falls Meanwhile taken_in heard_in
 all_taken start f m e = refl
 all_taken (answer {left = u} {after = v} {seen = o} {next = p} h g b) f m e =
@@ -71,7 +71,7 @@ all_taken (answer {left = u} {after = v} {seen = o} {next = p} h g b) f m e =
     or_false false = refl
 all_taken (other h) f m e = all_taken h f.0 m.0 m.1
 
-module _ (es : List MemoryRangeWithNode) {w v : Buffers} {a o : Observed} (k : Stands es w a) (h : History w a v o) (m : Meanwhile (trace_of h)) where
+module _ (es : List MemoryRangeWithNode) {w : Buffers} {a : Observed} {v : Buffers} {o : Observed} (k : Stands es w a) (h : History w a v o) (m : Meanwhile (trace_of h)) where
   still_fewer : is_waiting o ≡ true → taken_in (trace_of h) < left_in w
   still_fewer e = go (left_in v) refl
     where
@@ -107,11 +107,11 @@ record Further (v : Buffers) (o : Observed) (l : List Event) (w : Buffers) (gs :
   alone : events_in calls ≡ l ++ map answered gs
   meanwhile : Meanwhile (trace_of calls)
 
-further : {v w : Buffers} {o p : Observed} (h : History v o w p) → Meanwhile (trace_of h) → (gs : List BackendAnswer) → Further v o (events_in h) w gs
+further : {v : Buffers} {o : Observed} {w : Buffers} {p : Observed} (h : History v o w p) → Meanwhile (trace_of h) → (gs : List BackendAnswer) → Further v o (events_in h) w gs
 unfolding after_all trace_of events_in Meanwhile
 further {p = p} h m [] = record { seen = p; calls = h; alone = sym (append-nil (events_in h)); meanwhile = m }
 further {w = w} h m (g ∷ gs) =
-    let x = further (call h (Answer g) (answer_of g w).reply ((any_call w).made (Answer g))) m gs in
+    let x = further {w = (answer_of g w).buffers} (call h (Answer g) (answer_of g w).reply ((any_call w).made (Answer g))) m gs in
     record { seen = x.seen; calls = x.calls; alone = x.alone ∙ append_assoc (events_in h) (answered g ∷ []) (map answered gs); meanwhile = x.meanwhile }
 
 -- done after each that isn't taken

@@ -23,7 +23,7 @@ use Rattle.queries.specs.Queries as queries
 use Rattle.queries.specs.Queries.{query_of}
 use Rattle.visibility_claims.specs.Whole.{BackendAnswer, Succeeds, Fails}
 use Rattle.history.specs.Call.{Writer, Visibility, Protection, Default, Register, Unregister, Lock, Unlock, Enable, TellEnabled, TellDefault, IsOverlay, Query, Fault, Lower, Access, Reader, Call, Write, Read, Answer, Result, gives_writer, shown, gives}
-use Rattle.history.specs.Made.{Run, Seven, Nine, Made, visibility, done, failed, protection, default, register, unregister, lock, unlock, enable, tell_enabled, tell_default, is_overlay, query, fault, lower, access, Built, build}
+use Rattle.history.specs.Made.{Lent, Lending, writes_all, reads_tables, reads_marks_tables, reads_marks_pages, reads_all, Seven, Nine, Made, visibility, done, failed, protection, default, register, unregister, lock, unlock, enable, tell_enabled, tell_default, is_overlay, query, fault, lower, access, Built, build}
 use Rattle.history.specs.History.{IsRefusal, block, other, lock_block, lock_tables}
 use Rattle.history.specs.Callable.{Callable, AnyOtherLengths}
 use Rattle.history.specs.Answered.{given}
@@ -33,14 +33,15 @@ use Rattle.history.proofs.Spared.{visibility_same, protection_same, default_same
 
 -- ---- buffers as they are lent
 
-abbrev lend : List ℕ → Run
-lend l = record { ref_ptr = (0, 0); now = l }
+abbrev lend : (writes : Bool) → List ℕ → Lent writes
+lend true l = record { ref_ptr = (0, 0); ghost_name = 0; now = l }
+lend false l = record { ref_ptr = (0, 0); now = l }
 
-abbrev seven : {X : Type 0} → Buffers → X → Seven X
-seven w x = (lend w.maps.private, (lend w.maps.shared, (lend w.maps.permissions.read, (lend w.maps.permissions.write, (lend w.maps.permissions.kernel, (lend w.maps.permissions.user, (lend w.state, x)))))))
+abbrev seven : {X : Type 0} (l : Lending) → Buffers → X → Seven l X
+seven l w x = (lend l.marks w.maps.private, (lend l.marks w.maps.shared, (lend l.rest w.maps.permissions.read, (lend l.rest w.maps.permissions.write, (lend l.rest w.maps.permissions.kernel, (lend l.rest w.maps.permissions.user, (lend l.rest w.state, x)))))))
 
-abbrev nine : {X : Type 0} → Buffers → X → Nine X
-nine w x = seven w (lend w.pages, (lend w.tables, x))
+abbrev nine : {X : Type 0} (l : Lending) → Buffers → X → Nine l X
+nine l w x = seven l w (lend l.pages w.pages, (lend l.tables w.tables, x))
 
 abbrev lasting7 : Lfts 7
 lasting7 = ([], ([], ([], ([], ([], ([], ([], tt)))))))
@@ -61,51 +62,51 @@ writer_made : (a : Writer) (w : Buffers) → Made (Write a) w (gives_writer a w)
 writer_made (Visibility vtl share list) w =
     let X : Outcome = visibility_of w vtl share list in
     let e = visibility_same w vtl share list in
-    left_same (Write (Visibility vtl share list)) X.reply w e (visibility lasting10 (nine w (vtl, (share, (lend list, tt)))) X.reply (nine X.buffers (vtl, (share, (lend list, tt)))) (ap (λ (v : Buffers). given v X.reply) e))
+    left_same (Write (Visibility vtl share list)) X.reply w e (visibility lasting10 (nine reads_tables w (vtl, (share, (lend false list, tt)))) X.reply (nine reads_tables X.buffers (vtl, (share, (lend false list, tt)))) (ap (λ (v : Buffers). given v X.reply) e))
 writer_made (Protection vtl flags list) w =
     let X : Outcome = protection_of w vtl flags list in
     let e = protection_same w vtl flags list in
-    left_same (Write (Protection vtl flags list)) X.reply w e (protection lasting10 (nine w (vtl, (flags, (lend list, tt)))) X.reply (nine X.buffers (vtl, (flags, (lend list, tt)))) (ap (λ (v : Buffers). given v X.reply) e))
+    left_same (Write (Protection vtl flags list)) X.reply w e (protection lasting10 (nine reads_marks_tables w (vtl, (flags, (lend false list, tt)))) X.reply (nine reads_marks_tables X.buffers (vtl, (flags, (lend false list, tt)))) (ap (λ (v : Buffers). given v X.reply) e))
 writer_made (Default vtl flags) w =
     let X : Outcome = default_of w vtl flags in
     let e = default_same w vtl flags in
-    left_same (Write (Default vtl flags)) X.reply w e (default lasting9 (nine w (vtl, (flags, tt))) X.reply (nine X.buffers (vtl, (flags, tt))) (ap (λ (v : Buffers). given v X.reply) e))
+    left_same (Write (Default vtl flags)) X.reply w e (default lasting9 (nine reads_marks_pages w (vtl, (flags, tt))) X.reply (nine reads_marks_pages X.buffers (vtl, (flags, tt))) (ap (λ (v : Buffers). given v X.reply) e))
 writer_made (Register vtl page source checked new) w =
     let X : Outcome = register_of w vtl page source checked new in
     let e = register_same w vtl page source checked new in
     left_same (Write (Register vtl page source checked new)) X.reply w e
-    (register lasting9 (nine w (vtl, (page, (source, (checked, (new, tt)))))) X.reply (nine X.buffers (vtl, (page, (source, (checked, (new, tt)))))) (ap (λ (v : Buffers). given v X.reply) e))
+    (register lasting9 (nine reads_marks_pages w (vtl, (page, (source, (checked, (new, tt)))))) X.reply (nine reads_marks_pages X.buffers (vtl, (page, (source, (checked, (new, tt)))))) (ap (λ (v : Buffers). given v X.reply) e))
 writer_made (Unregister vtl page) w =
     let X : Outcome = unregister_of w vtl page in
     let e = unregister_same w vtl page in
-    left_same (Write (Unregister vtl page)) X.reply w e (unregister lasting9 (nine w (vtl, (page, tt))) X.reply (nine X.buffers (vtl, (page, tt))) (ap (λ (v : Buffers). given v X.reply) e))
+    left_same (Write (Unregister vtl page)) X.reply w e (unregister lasting9 (nine reads_marks_pages w (vtl, (page, tt))) X.reply (nine reads_marks_pages X.buffers (vtl, (page, tt))) (ap (λ (v : Buffers). given v X.reply) e))
 writer_made (Lock vtl list) w =
     let k : Kept = lock_of w.state w.tables vtl list in
-    lock w.maps w.pages ([], ([], ([], tt))) (lend w.state, (lend w.tables, (vtl, (lend list, tt)))) k.reply (lend w.state, (lend k.tables, (vtl, (lend list, tt)))) refl
+    lock w.maps w.pages ([], ([], ([], tt))) (lend false w.state, (lend true w.tables, (vtl, (lend false list, tt)))) k.reply (lend false w.state, (lend true k.tables, (vtl, (lend false list, tt)))) refl
 writer_made (Unlock vtl list) w =
     let k : Kept = unlock_of w.state w.tables vtl list in
-    unlock w.maps w.pages ([], ([], ([], tt))) (lend w.state, (lend w.tables, (vtl, (lend list, tt)))) k.reply (lend w.state, (lend k.tables, (vtl, (lend list, tt)))) refl
+    unlock w.maps w.pages ([], ([], ([], tt))) (lend false w.state, (lend true w.tables, (vtl, (lend false list, tt)))) k.reply (lend false w.state, (lend true k.tables, (vtl, (lend false list, tt)))) refl
 writer_made Enable w =
     let k : Enabled = enable_of w.state in
-    enable w.maps w.pages w.tables ([], tt) (lend w.state, tt) k.reply (lend k.state, tt) refl
+    enable w.maps w.pages w.tables ([], tt) (lend true w.state, tt) k.reply (lend true k.state, tt) refl
 
 read_made : (q : Reader) (w : Buffers) → Made (Read q) w w (shown q w)
-read_made TellEnabled w = tell_enabled w.maps w.pages w.tables ([], tt) (lend w.state, tt) (shown TellEnabled w) (lend w.state, tt) refl
-read_made TellDefault w = tell_default w.maps w.pages w.tables ([], tt) (lend w.state, tt) (shown TellDefault w) (lend w.state, tt) refl
+read_made TellEnabled w = tell_enabled w.maps w.pages w.tables ([], tt) (lend false w.state, tt) (shown TellEnabled w) (lend false w.state, tt) refl
+read_made TellDefault w = tell_default w.maps w.pages w.tables ([], tt) (lend false w.state, tt) (shown TellDefault w) (lend false w.state, tt) refl
 read_made (IsOverlay vtl page) w =
-    is_overlay w.maps w.pages ([], ([], tt)) (lend w.state, (lend w.tables, (vtl, (page, tt)))) (shown (IsOverlay vtl page) w) (lend w.state, (lend w.tables, (vtl, (page, tt)))) refl
+    is_overlay w.maps w.pages ([], ([], tt)) (lend false w.state, (lend false w.tables, (vtl, (page, tt)))) (shown (IsOverlay vtl page) w) (lend false w.state, (lend false w.tables, (vtl, (page, tt)))) refl
 read_made (Query list out) w =
     let q : queries.Query = query_of w.state w.maps.shared list out in
-    query w.maps.private w.maps.permissions w.pages w.tables ([], ([], ([], ([], tt)))) (lend w.state, (lend w.maps.shared, (lend list, (lend out, tt)))) q.reply
-    (lend w.state, (lend w.maps.shared, (lend list, (lend q.out, tt)))) refl
+    query w.maps.private w.maps.permissions w.pages w.tables ([], ([], ([], ([], tt)))) (lend false w.state, (lend false w.maps.shared, (lend false list, (lend true out, tt)))) q.reply
+    (lend false w.state, (lend false w.maps.shared, (lend false list, (lend true q.out, tt)))) refl
 read_made (Fault mapping view address writes failure) w =
-    fault w.pages w.tables lasting7 (seven w (mapping, (view, (address, (writes, (failure, tt)))))) (shown (Fault mapping view address writes failure) w) (seven w (mapping, (view, (address, (writes, (failure, tt)))))) refl
-read_made (Lower vtl page) w = lower w.pages w.tables lasting7 (seven w (vtl, (page, tt))) (shown (Lower vtl page) w) (seven w (vtl, (page, tt))) refl
-read_made (Access page) w = access w.pages w.tables lasting7 (seven w (page, tt)) (shown (Access page) w) (seven w (page, tt)) refl
+    fault w.pages w.tables lasting7 (seven reads_all w (mapping, (view, (address, (writes, (failure, tt)))))) (shown (Fault mapping view address writes failure) w) (seven reads_all w (mapping, (view, (address, (writes, (failure, tt)))))) refl
+read_made (Lower vtl page) w = lower w.pages w.tables lasting7 (seven reads_all w (vtl, (page, tt))) (shown (Lower vtl page) w) (seven reads_all w (vtl, (page, tt))) refl
+read_made (Access page) w = access w.pages w.tables lasting7 (seven reads_all w (page, tt)) (shown (Access page) w) (seven reads_all w (page, tt)) refl
 
 answer_made : (g : BackendAnswer) (w : Buffers) → Made (Answer g) w (gives (Answer g) w).buffers (gives (Answer g) w).answer
-answer_made Succeeds w = let X : Outcome = answer_done w in done lasting9 (nine w tt) X.reply (nine X.buffers tt) refl
-answer_made (Fails code n) w = let X : Outcome = answer_failed w code n in failed lasting9 (nine w (code, (n, tt))) X.reply (nine X.buffers (code, (n, tt))) refl
+answer_made Succeeds w = let X : Outcome = answer_done w in done lasting9 (nine writes_all w tt) X.reply (nine writes_all X.buffers tt) refl
+answer_made (Fails code n) w = let X : Outcome = answer_failed w code n in failed lasting9 (nine writes_all w (code, (n, tt))) X.reply (nine writes_all X.buffers (code, (n, tt))) refl
 
 -- a build with a number that names no isolation is refused, by it or by what comes before
 unfit_refused : (w : Buffers) (ram : List ℕ) (isolation tracked release : ℕ) → fit_isolation isolation ≡ false → IsRefusal (build_of w ram isolation tracked release).reply
@@ -130,7 +131,7 @@ any_call w = record { made = made; built = built; refused = λ ram isolation tra
     built : (ram : List ℕ) (isolation tracked release : ℕ) → let X = build_of w ram isolation tracked release in Built ram isolation tracked release w X.buffers X.reply
     built ram isolation tracked release =
         let X : Outcome = build_of w ram isolation tracked release in
-        build lasting10 (lend ram, (isolation, (tracked, (release, nine w tt)))) X.reply (lend ram, (isolation, (tracked, (release, nine X.buffers tt)))) refl
+        build lasting10 (lend false ram, (isolation, (tracked, (release, nine writes_all w tt)))) X.reply (lend false ram, (isolation, (tracked, (release, nine writes_all X.buffers tt)))) refl
 
 -- ---- something of another length, whatever was last left
 

@@ -67,13 +67,13 @@ follow_taken X (g₀ ∷ gs) g t = go (taken_by g₀ X.buffers) t (λ t. follow_
 
 -- ---- each call of a list: a taken answer gives what the definition gives; nothing else moves a request that is under way
 
-unfoldable Goes : {w v : Buffers} {a o : Observed} → Trace w a v o → Type 0
+unfoldable Goes : {w : Buffers} {a : Observed} {v : Buffers} {o : Observed} → Trace w a v o → Type 0
 Goes start = Unit {0}
 Goes (answer {left = u} {after = v} {seen = o} {next = p} h g b) = Goes h × (b ≡ true → (taken_by g u ≡ true) × (given v p.op ≡ answer_of g u)) × (b ≡ false → (v ≡ u) × (p.op ≡ o.op))
 Goes (other {left = u} {after = v} {seen = o} {next = p} h) = Goes h × (is_waiting o ≡ true → (v ≡ u) × (p.op ≡ o.op))
 
 -- so the calls tell what following the answers does
-told_follows : {w v : Buffers} {a o : Observed} (X : Outcome) (h : Trace w a v o) → Goes h → Meanwhile h → given w a.op ≡ X → told_in h ≡ follow X (given_in h)
+told_follows : {w : Buffers} {a : Observed} {v : Buffers} {o : Observed} (X : Outcome) (h : Trace w a v o) → Goes h → Meanwhile h → given w a.op ≡ X → told_in h ≡ follow X (given_in h)
 unfolding Goes Meanwhile given_in asked_in follow
 told_follows X start f m e = ap (λ (X : Outcome). record { asked = asks_in X.reply; last = X }) e
 told_follows X (answer {left = u} {after = v} {seen = o} {next = p} h g b) f m e = go (told_follows X h f.0 m e) b f.1 f.2

@@ -37,7 +37,7 @@ pub record Keeps (K : Buffers → Observed → Type 0) : Type 0 where
   pub step : (c : Call) (w : Buffers) (o : Observed) → K w o → After K c w o
 
 module _ (K : Buffers → Observed → Type 0) (f : Keeps K) where
-  pub history_keeps : {w v : Buffers} {a o : Observed} → History w a v o → K w a → K v o
+  pub history_keeps : {w : Buffers} {a : Observed} {v : Buffers} {o : Observed} → History w a v o → K w a → K v o
   history_keeps none k = k
   history_keeps (call {left = u} {after = v} {seen = o} h c r m) k =
       subst (λ (X : Effect (Result c)). K X.buffers (sees c X.answer X.buffers.pages o)) (sym (is m)) (f.step c u o (history_keeps h k))

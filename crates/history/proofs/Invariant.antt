@@ -87,7 +87,7 @@ module _ (es : List MemoryRangeWithNode) (l : List ℕ) (i t r : ℕ) where
   all_kept = product (product listed_kept (words_kept (SettingsFit i t r) (settings_words i t r) Listed)) (words_kept (Ram l) (ram_words l) Set)
 
   -- every list of calls keeps it
-  pub invariant_kept : {w v : Buffers} {a o : Observed} → History w a v o → Invariant es l i t r w a → Invariant es l i t r v o
+  pub invariant_kept : {w : Buffers} {a : Observed} {v : Buffers} {o : Observed} → History w a v o → Invariant es l i t r w a → Invariant es l i t r v o
   invariant_kept h k =
       let x =
       history_keeps All all_kept h

@@ -1,5 +1,6 @@
 -- A call of an entry is a step of its definition: its contract says what `gives` says. Assumes nothing.
 use mathlib.Core.Path.{◌≡◌, ap}
+use mathlib.Core.Bool.{true}
 use mathlib.Core.List.{List}
 use Prim.Native.Nat.{ℕ}
 use Rattle.protector_state.specs.declared.Reply.{Reply}
@@ -16,9 +17,9 @@ is (protection κs a r e k) = ap replied k
 is (default κs a r e k) = ap replied k
 is (register κs a r e k) = ap replied k
 is (unregister κs a r e k) = ap replied k
-is (lock m p κs a r e k) = ap (kept_in (with_tables m p a)) k
-is (unlock m p κs a r e k) = ap (kept_in (with_tables m p a)) k
-is (enable m p t κs a r e k) = ap (enabled_by (with_state m p t a)) k
+is (lock m p κs a r e k) = ap (kept_in (with_tables true m p a)) k
+is (unlock m p κs a r e k) = ap (kept_in (with_tables true m p a)) k
+is (enable m p t κs a r e k) = ap (enabled_by (with_state true m p t a)) k
 is (tell_enabled m p t κs a r e k) = ap (effect _) k
 is (tell_default m p t κs a r e k) = ap (effect _) k
 is (is_overlay m p κs a r e k) = ap (effect _) k

@@ -51,11 +51,11 @@ unfolding events_in
 build_parts l nothing e ram i t k r m f = tt
 build_parts l (since g d s n h) e ram i t k r m f = further l (events_in g) (events_in h) (Called (Write d)) (BuildRefused ram i t k) e
 
-either_parts : {w x : Buffers} {a p : Observed} (l : List Event) (c : Bool) (b b' : Begun w a x p) → Parts l b → Parts l b' → Parts l (cond c b b')
+either_parts : {w : Buffers} {a : Observed} {x : Buffers} {p : Observed} (l : List Event) (c : Bool) (b b' : Begun w a x p) → Parts l b → Parts l b' → Parts l (cond c b b')
 either_parts l true b b' e f = e
 either_parts l false b b' e f = f
 
-pub begun_parts : {w x : Buffers} {a p : Observed} (h : History w a x p) → Parts (events_in h) (begun_in h)
+pub begun_parts : {w : Buffers} {a : Observed} {x : Buffers} {p : Observed} (h : History w a x p) → Parts (events_in h) (begun_in h)
 unfolding begun_in events_in
 begun_parts none = tt
 begun_parts (call {left = u} {after = v} {seen = o} h (Write d) r m) =

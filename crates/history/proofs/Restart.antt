@@ -66,9 +66,9 @@ stands_marked es w o k n =
     }
 
 -- of every list of calls from any buffers that meet the invariant, whatever was seen before
-claim_from : (es : List MemoryRangeWithNode) (l : List ℕ) (i t r : ℕ) {w v : Buffers} {a o : Observed} → Invariant es l i t r w a → ordered 0 es ≡ true → is_waiting a ≡ false
+claim_from : (es : List MemoryRangeWithNode) (l : List ℕ) (i t r : ℕ) {w : Buffers} {a : Observed} {v : Buffers} {o : Observed} → Invariant es l i t r w a → ordered 0 es ≡ true → is_waiting a ≡ false
     → (h : History w a v o) → ClaimFrom es i t r h
-claim_from es l i t r {w} {v} {a} {o} k order free h =
+claim_from es l i t r {w} {a} {v} {o} k order free h =
     let x : Invariant es l i t r v o = invariant_kept es l i t r h k in
     record {
       unasked = unasked;

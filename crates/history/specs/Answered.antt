@@ -11,14 +11,14 @@ use Rattle.history.specs.History.{History, none, call, call_with_other_lengths, 
 abbrev pub given : Buffers → Reply → Outcome
 given buffers reply = record { buffers = buffers; reply = reply }
 
-unfoldable pub Answered : {first final : Buffers} {before seen : Observed} → History first before final seen → Type 0
+unfoldable pub Answered : {first : Buffers} {before : Observed} {final : Buffers} {seen : Observed} → History first before final seen → Type 0
 Answered none = Unit {0}
 Answered (call {left} {after} h c r m) = Answered h × (effect after r ≡ gives c left)
 Answered (call_with_other_lengths {left} {lent} {after} h c r m s) = Answered h × (effect after r ≡ gives c lent) × (after ≡ lent)
 Answered (refused_build {left} {lent} {after} h ram isolation tracked release r m f) = Answered h × (given after r ≡ build_of lent ram isolation tracked release) × (after ≡ lent)
 
 -- the definitions' steps one after another: what a list of calls from the first buffers leaves
-unfoldable pub leaves : {first final : Buffers} {before seen : Observed} → History first before final seen → Buffers
+unfoldable pub leaves : {first : Buffers} {before : Observed} {final : Buffers} {seen : Observed} → History first before final seen → Buffers
 leaves {first} none = first
 leaves (call h c r m) = (gives c (leaves h)).buffers
 leaves (call_with_other_lengths h c r m s) = leaves h

@@ -19,7 +19,7 @@ use Rattle.history.specs.Requests.{Asked}
 
 -- ---- of a list of calls h from any buffers, of this layout and these settings
 
-pub record ClaimFrom (entries : List MemoryRangeWithNode) (isolation tracked release : ℕ) {first final : Buffers} {before seen : Observed} (h : History first before final seen) : Type 0 where
+pub record ClaimFrom (entries : List MemoryRangeWithNode) (isolation tracked release : ℕ) {first : Buffers} {before : Observed} {final : Buffers} {seen : Observed} (h : History first before final seen) : Type 0 where
   -- no entry asks anything of its arguments
   pub unasked : Unasked
   -- each call gave what its definition gives of what it was lent, and what is lent now is these definitions composed

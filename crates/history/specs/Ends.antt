@@ -17,7 +17,7 @@ pub data Trace (first : Buffers) (before : Observed) : Buffers → Observed → 
   answer : {left after : Buffers} {seen next : Observed} → Trace first before left seen → BackendAnswer → Bool → Trace first before after next
   other : {left after : Buffers} {seen next : Observed} → Trace first before left seen → Trace first before after next
 
-unfoldable pub trace_of : {first final : Buffers} {before seen : Observed} → History first before final seen → Trace first before final seen
+unfoldable pub trace_of : {first : Buffers} {before : Observed} {final : Buffers} {seen : Observed} → History first before final seen → Trace first before final seen
 trace_of none = start
 trace_of (call h (Write writer) r m) = other (trace_of h)
 trace_of (call h (Read reader) r m) = other (trace_of h)
@@ -28,26 +28,26 @@ trace_of (call_with_other_lengths {left} {lent} {after} {seen} h (Answer given) 
 trace_of (refused_build h ram isolation tracked release r m f) = other (trace_of h)
 
 -- how many answers were taken
-unfoldable pub taken_in : {first final : Buffers} {before seen : Observed} → Trace first before final seen → ℕ
+unfoldable pub taken_in : {first : Buffers} {before : Observed} {final : Buffers} {seen : Observed} → Trace first before final seen → ℕ
 taken_in start = 0
 taken_in (answer h given taken) = cond taken 1 0 + taken_in h
 taken_in (other h) = taken_in h
 
 -- how many answers came, but for those that were refused while a request was under way: each that was taken, and each that came while none was under way
-unfoldable pub heard_in : {first final : Buffers} {before seen : Observed} → Trace first before final seen → ℕ
+unfoldable pub heard_in : {first : Buffers} {before : Observed} {final : Buffers} {seen : Observed} → Trace first before final seen → ℕ
 heard_in start = 0
 heard_in (answer {left} {after} {seen} h given taken) = cond (taken || not (is_waiting seen)) 1 0 + heard_in h
 heard_in (other h) = heard_in h
 
 -- a taken answer lowers the number; one that isn't taken changes nothing, nor does any other call while a request is under way; and while none is under way
 -- no answer begins one
-unfoldable pub Falls : {first final : Buffers} {before seen : Observed} → Trace first before final seen → Type 0
+unfoldable pub Falls : {first : Buffers} {before : Observed} {final : Buffers} {seen : Observed} → Trace first before final seen → Type 0
 Falls start = Unit {0}
 Falls (answer {left} {after} {seen} {next} h given taken) = Falls h × (taken ≡ true → left_in after < left_in left) × (taken ≡ false → after ≡ left) × (is_waiting next ≡ true → is_waiting seen ≡ true)
 Falls (other {left} {after} {seen} h) = Falls h × (is_waiting seen ≡ true → after ≡ left)
 
 -- each call but an answer came while a request was under way, so that no other began
-unfoldable pub Meanwhile : {first final : Buffers} {before seen : Observed} → Trace first before final seen → Type 0
+unfoldable pub Meanwhile : {first : Buffers} {before : Observed} {final : Buffers} {seen : Observed} → Trace first before final seen → Type 0
 Meanwhile start = Unit {0}
 Meanwhile (answer h given taken) = Meanwhile h
 Meanwhile (other {left} {after} {seen} h) = Meanwhile h × (is_waiting seen ≡ true)

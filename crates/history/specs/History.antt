@@ -56,7 +56,7 @@ pub data Event : Type 0 where
   Called : Call → Event
   BuildRefused : (ram : List ℕ) (isolation tracked release : ℕ) → Event
 
-unfoldable pub events_in : {first final : Buffers} {before seen : Observed} → History first before final seen → List Event
+unfoldable pub events_in : {first : Buffers} {before : Observed} {final : Buffers} {seen : Observed} → History first before final seen → List Event
 events_in none = []
 events_in (call h c r m) = events_in h ++ (Called c ∷ [])
 events_in (call_with_other_lengths h c r m s) = events_in h ++ (Called c ∷ [])

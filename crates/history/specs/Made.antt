@@ -1,10 +1,10 @@
 -- A call made: the entry's own contract, as the check reads it off the source, holds of its arguments, its result and the buffers as it returns. The call, what
 -- it is lent and what it leaves are read off these arguments here, in one place for each entry.
-use Rattle.std.specs.Prelude.{List, ℕ}
+use Rattle.std.specs.Prelude.{Bool, true, false, List, ℕ}
 use contract.Lifetimes.{Lfts}
 use borrow.Fn.Kinds.{Dens, ended_of}
 use denote.Triple.Clauses.{AtExit}
-use Rattle.std.specs.Borrow.{Bor}
+use Rattle.std.specs.Borrow.{Bor, MutBor}
 use Rattle.mapping.specs.Maps.{Maps, Permissions, maps}
 use Rattle.protector_state.specs.declared.Reply.{Reply}
 use Rattle.call_refusals.specs.Buffers.{Buffers, buffers}
@@ -49,43 +49,72 @@ use Rattle.underhill_mem.proofs.protector_query_access_permission.Kinds as kAcce
 use Rattle.underhill_mem.proofs.protector_build.Reads as rBuild
 use Rattle.underhill_mem.proofs.protector_build.Kinds as kBuild
 
+-- ---- a run as it is lent, for writing or for reading alone; and its words
+
+abbrev pub Lent : (writes : Bool) → Type 0
+Lent true = MutBor (List ℕ)
+Lent false = Bor (List ℕ)
+
+abbrev pub words : (writes : Bool) → Lent writes → List ℕ
+words true run = run.now
+words false run = run.now
+
+-- what an entry writes of what it is lent: the two marks; the four permission maps and the state block; the pages run; the tables
+pub record Lending : Type 0 where
+  pub marks : Bool
+  pub rest : Bool
+  pub pages : Bool
+  pub tables : Bool
+
+abbrev pub writes_all : Lending
+writes_all = record { marks = true; rest = true; pages = true; tables = true }
+
+abbrev pub reads_tables : Lending
+reads_tables = record { marks = true; rest = true; pages = true; tables = false }
+
+abbrev pub reads_marks_tables : Lending
+reads_marks_tables = record { marks = false; rest = true; pages = true; tables = false }
+
+abbrev pub reads_marks_pages : Lending
+reads_marks_pages = record { marks = false; rest = true; pages = false; tables = true }
+
+abbrev pub reads_all : Lending
+reads_all = record { marks = false; rest = false; pages = false; tables = false }
+
 -- ---- the runs at the head of an entry's arguments: the six maps and the state block, then the pages run and the tables; X is what follows
 
-abbrev pub Run : Type 0
-Run = Bor (List ℕ)
+abbrev pub Seven : Lending → Type 0 → Type 0
+Seven l X = Lent l.marks × (Lent l.marks × (Lent l.rest × (Lent l.rest × (Lent l.rest × (Lent l.rest × (Lent l.rest × X))))))
 
-abbrev pub Seven : Type 0 → Type 0
-Seven X = Run × (Run × (Run × (Run × (Run × (Run × (Run × X))))))
+abbrev pub Nine : Lending → Type 0 → Type 0
+Nine l X = Seven l (Lent l.pages × (Lent l.tables × X))
 
-abbrev pub Nine : Type 0 → Type 0
-Nine X = Seven (Run × (Run × X))
+abbrev pub maps_of : (l : Lending) {X : Type 0} → Seven l X → Maps
+maps_of l a = maps (words l.marks a.0) (words l.marks a.1.0) (words l.rest a.1.1.0) (words l.rest a.1.1.1.0) (words l.rest a.1.1.1.1.0) (words l.rest a.1.1.1.1.1.0)
 
-abbrev pub maps_of : {X : Type 0} → Seven X → Maps
-maps_of a = maps a.0.now a.1.0.now a.1.1.0.now a.1.1.1.0.now a.1.1.1.1.0.now a.1.1.1.1.1.0.now
+abbrev pub state_of : (l : Lending) {X : Type 0} → Seven l X → List ℕ
+state_of l a = words l.rest a.1.1.1.1.1.1.0
 
-abbrev pub state_of : {X : Type 0} → Seven X → List ℕ
-state_of a = a.1.1.1.1.1.1.0.now
+abbrev pub past_seven : (l : Lending) {X : Type 0} → Seven l X → X
+past_seven l a = a.1.1.1.1.1.1.1
 
-abbrev pub past_seven : {X : Type 0} → Seven X → X
-past_seven a = a.1.1.1.1.1.1.1
+abbrev pub buffers_of : (l : Lending) {X : Type 0} → Nine l X → Buffers
+buffers_of l a = buffers (maps_of l a) (state_of l a) (words l.pages (past_seven l a).0) (words l.tables (past_seven l a).1.0)
 
-abbrev pub buffers_of : {X : Type 0} → Nine X → Buffers
-buffers_of a = buffers (maps_of a) (state_of a) (past_seven a).0.now (past_seven a).1.0.now
-
-abbrev pub past : {X : Type 0} → Nine X → X
-past a = (past_seven a).1.1
+abbrev pub past : (l : Lending) {X : Type 0} → Nine l X → X
+past l a = (past_seven l a).1.1
 
 -- what is not lent may be anything: beside the seven; beside the state block; beside the state block and the tables; beside the state block and the shared map
-abbrev pub with_seven : {X : Type 0} (pages tables : List ℕ) → Seven X → Buffers
-with_seven pages tables a = buffers (maps_of a) (state_of a) pages tables
+abbrev pub with_seven : {X : Type 0} (pages tables : List ℕ) → Seven reads_all X → Buffers
+with_seven pages tables a = buffers (maps_of reads_all a) (state_of reads_all a) pages tables
 
-abbrev pub with_state : {X : Type 0} (maps : Maps) (pages tables : List ℕ) → Run × X → Buffers
-with_state maps pages tables a = buffers maps a.0.now pages tables
+abbrev pub with_state : (writes : Bool) {X : Type 0} (maps : Maps) (pages tables : List ℕ) → Lent writes × X → Buffers
+with_state writes maps pages tables a = buffers maps (words writes a.0) pages tables
 
-abbrev pub with_tables : {X : Type 0} (maps : Maps) (pages : List ℕ) → Run × (Run × X) → Buffers
-with_tables maps pages a = buffers maps a.0.now pages a.1.0.now
+abbrev pub with_tables : (writes : Bool) {X : Type 0} (maps : Maps) (pages : List ℕ) → Lent false × (Lent writes × X) → Buffers
+with_tables writes maps pages a = buffers maps a.0.now pages (words writes a.1.0)
 
-abbrev pub with_shared : {X : Type 0} (private : List ℕ) (permissions : Permissions) (pages tables : List ℕ) → Run × (Run × X) → Buffers
+abbrev pub with_shared : {X : Type 0} (private : List ℕ) (permissions : Permissions) (pages tables : List ℕ) → Lent false × (Lent false × X) → Buffers
 with_shared private permissions pages tables a = buffers (record { private = private; shared = a.1.0.now; permissions = permissions }) a.0.now pages tables
 
 -- what is lent for reading alone stays: the tables; the marks and the tables; the marks and the pages run
@@ -105,48 +134,48 @@ but_marks_pages before after = buffers (with_marks before.maps after.maps) after
 
 pub data Made : (c : Call) → Buffers → Buffers → Result c → Type 0 where
   visibility : (κs : Lfts 10) (a : Dens κs kVisibility.ps) (r : Reply) (e : AtExit (ended_of 10 kVisibility.ps kVisibility.r) κs) → rVisibility.Learnt κs a r e
-      → Made (Write (Visibility (past a).0 (past a).1.0 (past a).1.1.0.now)) (buffers_of a) (but_tables (buffers_of a) (buffers_of e)) r
+      → Made (Write (Visibility (past reads_tables a).0 (past reads_tables a).1.0 (past reads_tables a).1.1.0.now)) (buffers_of reads_tables a) (but_tables (buffers_of reads_tables a) (buffers_of reads_tables e)) r
   done : (κs : Lfts 9) (a : Dens κs kDone.ps) (r : Reply) (e : AtExit (ended_of 9 kDone.ps kDone.r) κs) → rDone.Learnt κs a r e
-      → Made (Answer Succeeds) (buffers_of a) (buffers_of e) r
+      → Made (Answer Succeeds) (buffers_of writes_all a) (buffers_of writes_all e) r
   failed : (κs : Lfts 9) (a : Dens κs kFailed.ps) (r : Reply) (e : AtExit (ended_of 9 kFailed.ps kFailed.r) κs) → rFailed.Learnt κs a r e
-      → Made (Answer (Fails (past a).0 (past a).1.0)) (buffers_of a) (buffers_of e) r
+      → Made (Answer (Fails (past writes_all a).0 (past writes_all a).1.0)) (buffers_of writes_all a) (buffers_of writes_all e) r
   protection : (κs : Lfts 10) (a : Dens κs kProtection.ps) (r : Reply) (e : AtExit (ended_of 10 kProtection.ps kProtection.r) κs) → rProtection.Learnt κs a r e
-      → Made (Write (Protection (past a).0 (past a).1.0 (past a).1.1.0.now)) (buffers_of a) (but_marks_tables (buffers_of a) (buffers_of e)) r
+      → Made (Write (Protection (past reads_marks_tables a).0 (past reads_marks_tables a).1.0 (past reads_marks_tables a).1.1.0.now)) (buffers_of reads_marks_tables a) (but_marks_tables (buffers_of reads_marks_tables a) (buffers_of reads_marks_tables e)) r
   default : (κs : Lfts 9) (a : Dens κs kDefault.ps) (r : Reply) (e : AtExit (ended_of 9 kDefault.ps kDefault.r) κs) → rDefault.Learnt κs a r e
-      → Made (Write (Default (past a).0 (past a).1.0)) (buffers_of a) (but_marks_pages (buffers_of a) (buffers_of e)) r
+      → Made (Write (Default (past reads_marks_pages a).0 (past reads_marks_pages a).1.0)) (buffers_of reads_marks_pages a) (but_marks_pages (buffers_of reads_marks_pages a) (buffers_of reads_marks_pages e)) r
   register : (κs : Lfts 9) (a : Dens κs kRegister.ps) (r : Reply) (e : AtExit (ended_of 9 kRegister.ps kRegister.r) κs) → rRegister.Learnt κs a r e
-      → Made (Write (Register (past a).0 (past a).1.0 (past a).1.1.0 (past a).1.1.1.0 (past a).1.1.1.1.0)) (buffers_of a) (but_marks_pages (buffers_of a) (buffers_of e)) r
+      → Made (Write (Register (past reads_marks_pages a).0 (past reads_marks_pages a).1.0 (past reads_marks_pages a).1.1.0 (past reads_marks_pages a).1.1.1.0 (past reads_marks_pages a).1.1.1.1.0)) (buffers_of reads_marks_pages a) (but_marks_pages (buffers_of reads_marks_pages a) (buffers_of reads_marks_pages e)) r
   unregister : (κs : Lfts 9) (a : Dens κs kUnregister.ps) (r : Reply) (e : AtExit (ended_of 9 kUnregister.ps kUnregister.r) κs) → rUnregister.Learnt κs a r e
-      → Made (Write (Unregister (past a).0 (past a).1.0)) (buffers_of a) (but_marks_pages (buffers_of a) (buffers_of e)) r
+      → Made (Write (Unregister (past reads_marks_pages a).0 (past reads_marks_pages a).1.0)) (buffers_of reads_marks_pages a) (but_marks_pages (buffers_of reads_marks_pages a) (buffers_of reads_marks_pages e)) r
   -- the calls on locks are lent the state block and the tables alone, and the setter and the getters the state block
   lock : (maps : Maps) (pages : List ℕ) (κs : Lfts 3) (a : Dens κs kLock.ps) (r : Reply) (e : AtExit (ended_of 3 kLock.ps kLock.r) κs) → rLock.Learnt κs a r e
-      → Made (Write (Lock a.1.1.0 a.1.1.1.0.now)) (with_tables maps pages a) (buffers maps a.0.now pages e.1.0.now) r
+      → Made (Write (Lock a.1.1.0 a.1.1.1.0.now)) (with_tables true maps pages a) (buffers maps a.0.now pages e.1.0.now) r
   unlock : (maps : Maps) (pages : List ℕ) (κs : Lfts 3) (a : Dens κs kUnlock.ps) (r : Reply) (e : AtExit (ended_of 3 kUnlock.ps kUnlock.r) κs) → rUnlock.Learnt κs a r e
-      → Made (Write (Unlock a.1.1.0 a.1.1.1.0.now)) (with_tables maps pages a) (buffers maps a.0.now pages e.1.0.now) r
+      → Made (Write (Unlock a.1.1.0 a.1.1.1.0.now)) (with_tables true maps pages a) (buffers maps a.0.now pages e.1.0.now) r
   enable : (maps : Maps) (pages tables : List ℕ) (κs : Lfts 1) (a : Dens κs kEnable.ps) (r : Reply) (e : AtExit (ended_of 1 kEnable.ps kEnable.r) κs) → rEnable.Learnt κs a r e
-      → Made (Write Enable) (with_state maps pages tables a) (with_state maps pages tables e) r
+      → Made (Write Enable) (with_state true maps pages tables a) (with_state true maps pages tables e) r
   tell_enabled : (maps : Maps) (pages tables : List ℕ) (κs : Lfts 1) (a : Dens κs k_tell_enabled.ps) (r : Value) (e : AtExit (ended_of 1 k_tell_enabled.ps k_tell_enabled.r) κs) → r_tell_enabled.Learnt κs a r e
-      → Made (Read TellEnabled) (with_state maps pages tables a) (with_state maps pages tables a) r
+      → Made (Read TellEnabled) (with_state false maps pages tables a) (with_state false maps pages tables a) r
   tell_default : (maps : Maps) (pages tables : List ℕ) (κs : Lfts 1) (a : Dens κs k_tell_default.ps) (r : Value) (e : AtExit (ended_of 1 k_tell_default.ps k_tell_default.r) κs) → r_tell_default.Learnt κs a r e
-      → Made (Read TellDefault) (with_state maps pages tables a) (with_state maps pages tables a) r
+      → Made (Read TellDefault) (with_state false maps pages tables a) (with_state false maps pages tables a) r
   is_overlay : (maps : Maps) (pages : List ℕ) (κs : Lfts 2) (a : Dens κs k_is_overlay.ps) (r : Value) (e : AtExit (ended_of 2 k_is_overlay.ps k_is_overlay.r) κs) → r_is_overlay.Learnt κs a r e
-      → Made (Read (IsOverlay a.1.1.0 a.1.1.1.0)) (with_tables maps pages a) (with_tables maps pages a) r
+      → Made (Read (IsOverlay a.1.1.0 a.1.1.1.0)) (with_tables false maps pages a) (with_tables false maps pages a) r
   -- of the maps a query is lent the shared one, and its output as it is filled is of what it answers
   query : (private : List ℕ) (permissions : Permissions) (pages tables : List ℕ) (κs : Lfts 4) (a : Dens κs kQuery.ps) (r : Reply) (e : AtExit (ended_of 4 kQuery.ps kQuery.r) κs) → rQuery.Learnt κs a r e
       → Made (Read (Query a.1.1.0.now a.1.1.1.0.now)) (with_shared private permissions pages tables a) (with_shared private permissions pages tables a) (queries.query e.1.1.1.0.now r)
   -- faults and the permission queries are lent neither the pages run nor the tables
   fault : (pages tables : List ℕ) (κs : Lfts 7) (a : Dens κs kFault.ps) (r : Value) (e : AtExit (ended_of 7 kFault.ps kFault.r) κs) → rFault.Learnt κs a r e
-      → Made (Read (Fault (past_seven a).0 (past_seven a).1.0 (past_seven a).1.1.0 (past_seven a).1.1.1.0 (past_seven a).1.1.1.1.0)) (with_seven pages tables a) (with_seven pages tables a) r
+      → Made (Read (Fault (past_seven reads_all a).0 (past_seven reads_all a).1.0 (past_seven reads_all a).1.1.0 (past_seven reads_all a).1.1.1.0 (past_seven reads_all a).1.1.1.1.0)) (with_seven pages tables a) (with_seven pages tables a) r
   lower : (pages tables : List ℕ) (κs : Lfts 7) (a : Dens κs kLower.ps) (r : Value) (e : AtExit (ended_of 7 kLower.ps kLower.r) κs) → rLower.Learnt κs a r e
-      → Made (Read (Lower (past_seven a).0 (past_seven a).1.0)) (with_seven pages tables a) (with_seven pages tables a) r
+      → Made (Read (Lower (past_seven reads_all a).0 (past_seven reads_all a).1.0)) (with_seven pages tables a) (with_seven pages tables a) r
   access : (pages tables : List ℕ) (κs : Lfts 7) (a : Dens κs kAccess.ps) (r : Value) (e : AtExit (ended_of 7 kAccess.ps kAccess.r) κs) → rAccess.Learnt κs a r e
-      → Made (Read (Access (past_seven a).0)) (with_seven pages tables a) (with_seven pages tables a) r
+      → Made (Read (Access (past_seven reads_all a).0)) (with_seven pages tables a) (with_seven pages tables a) r
 
 -- ---- a build, of a layout and settings, that was lent u, left v and replied r
 
 pub data Built : (ram : List ℕ) (isolation tracked release : ℕ) → Buffers → Buffers → Reply → Type 0 where
   build : (κs : Lfts 10) (a : Dens κs kBuild.ps) (r : Reply) (e : AtExit (ended_of 10 kBuild.ps kBuild.r) κs) → rBuild.Learnt κs a r e
-      → Built a.0.now a.1.0 a.1.1.0 a.1.1.1.0 (buffers_of a.1.1.1.1) (buffers_of e.1.1.1.1) r
+      → Built a.0.now a.1.0 a.1.1.0 a.1.1.1.0 (buffers_of writes_all a.1.1.1.1) (buffers_of writes_all e.1.1.1.1) r
 
 -- ---- no entry asks anything of its arguments: each has its contract whatever it is lent
 

@@ -20,19 +20,19 @@ use Rattle.history.specs.Answered.{given}
 use Rattle.history.specs.Ends.{Trace, start, answer, other, trace_of}
 
 -- the answers that were taken, in order
-unfoldable pub given_in : {first final : Buffers} {before seen : Observed} → Trace first before final seen → List BackendAnswer
+unfoldable pub given_in : {first : Buffers} {before : Observed} {final : Buffers} {seen : Observed} → Trace first before final seen → List BackendAnswer
 given_in start = []
 given_in (answer h given taken) = given_in h ++ cond taken (given ∷ []) []
 given_in (other h) = given_in h
 
 -- the operations asked for: by the call itself, then by each taken answer
-unfoldable pub asked_in : {first final : Buffers} {before seen : Observed} → Trace first before final seen → List Reply
-asked_in {first} {final} {before} start = asks_in before.op
+unfoldable pub asked_in : {first : Buffers} {before : Observed} {final : Buffers} {seen : Observed} → Trace first before final seen → List Reply
+asked_in {first} {before} start = asks_in before.op
 asked_in (answer {left} {after} {seen} {next} h given taken) = asked_in h ++ cond taken (asks_in next.op) []
 asked_in (other h) = asked_in h
 
-abbrev pub told_in : {first final : Buffers} {before seen : Observed} → Trace first before final seen → Told
-told_in {first} {final} {before} {seen} h = record { asked = asked_in h; last = given final seen.op }
+abbrev pub told_in : {first : Buffers} {before : Observed} {final : Buffers} {seen : Observed} → Trace first before final seen → Told
+told_in {first} {before} {final} {seen} h = record { asked = asked_in h; last = given final seen.op }
 
 -- ---- a call of these buffers, once these answers were taken: the operations that it asked for, in turn, what was given last, and what it leaves, are those of the
 -- whole call as 01 writes it
@@ -51,7 +51,7 @@ WholeOf (Unlock vtl list) buffers answers told = ⊥
 WholeOf Enable buffers answers told = ⊥
 
 -- a call of these buffers that asked for something, and the calls from there on
-abbrev pub IsWhole : Writer → Buffers → {first final : Buffers} {before seen : Observed} → Trace first before final seen → Type 0
+abbrev pub IsWhole : Writer → Buffers → {first : Buffers} {before : Observed} {final : Buffers} {seen : Observed} → Trace first before final seen → Type 0
 IsWhole writer buffers h = WholeOf writer buffers (given_in h) (told_in h)
 
 -- ---- the request of a list of calls that is under way where the list stops, or that ended with no call but answers since: the calls before it, its own, and those
@@ -74,7 +74,7 @@ abbrev pub then_build : {first left lent after : Buffers} {before seen : Observe
 then_build nothing ram isolation tracked release r m f = nothing
 then_build (since g d s n h) ram isolation tracked release r m f = since g d s n (refused_build h ram isolation tracked release r m f)
 
-unfoldable pub begun_in : {first final : Buffers} {before seen : Observed} → History first before final seen → Begun first before final seen
+unfoldable pub begun_in : {first : Buffers} {before : Observed} {final : Buffers} {seen : Observed} → History first before final seen → Begun first before final seen
 begun_in none = nothing
 begun_in (call {left} {after} {seen} h (Write writer) r m) = cond (asks r) (since h writer r m none) (cond (is_waiting seen) (then_call (begun_in h) (Write writer) r m) nothing)
 begun_in (call {left} {after} {seen} h (Read reader) r m) = cond (is_waiting seen) (then_call (begun_in h) (Read reader) r m) nothing
@@ -85,18 +85,18 @@ begun_in (call_with_other_lengths h (Answer given) r m s) = then_call_with_other
 begun_in (refused_build {left} {lent} {after} {seen} h ram isolation tracked release r m f) = cond (is_waiting seen) (then_build (begun_in h) ram isolation tracked release r m f) nothing
 
 -- it is the whole call under the answers taken so far; where there is none, nothing is under way
-abbrev pub AskedAt : {first final : Buffers} {before seen : Observed} → Begun first before final seen → Type 0
-AskedAt {first} {final} {before} {seen} nothing = is_waiting seen ≡ false
+abbrev pub AskedAt : {first : Buffers} {before : Observed} {final : Buffers} {seen : Observed} → Begun first before final seen → Type 0
+AskedAt {first} {before} {final} {seen} nothing = is_waiting seen ≡ false
 AskedAt (since {left} g writer r m h) = IsWhole writer left (trace_of h)
 
 -- wherever the list is stopped
-unfoldable pub Asked : {first final : Buffers} {before seen : Observed} → History first before final seen → Type 0
+unfoldable pub Asked : {first : Buffers} {before : Observed} {final : Buffers} {seen : Observed} → History first before final seen → Type 0
 Asked none = Unit {0}
 Asked (call h c r m) = Asked h × AskedAt (begun_in (call h c r m))
 Asked (call_with_other_lengths h c r m s) = Asked h × AskedAt (begun_in (call_with_other_lengths h c r m s))
 Asked (refused_build h ram isolation tracked release r m f) = Asked h × AskedAt (begun_in (refused_build h ram isolation tracked release r m f))
 
 -- the calls before it, its own and those since are these of the list
-abbrev pub Parts : List Event → {first final : Buffers} {before seen : Observed} → Begun first before final seen → Type 0
+abbrev pub Parts : List Event → {first : Buffers} {before : Observed} {final : Buffers} {seen : Observed} → Begun first before final seen → Type 0
 Parts events nothing = Unit {0}
 Parts events (since g writer r m h) = events ≡ events_in g ++ (Called (Write writer) ∷ events_in h)

@@ -1,0 +1,5 @@
+use borrow.Author.Rules.{rules}
+use Rattle.playback.proofs.answers.fields.Goals as goal
+
+pub returns : goal.returns
+returns c = cc

@@ -1,0 +1,7 @@
+use mathlib.Core.Path.{ap, ◌∙◌}
+use Rattle.playback.specs.Buffers.{valued}
+use borrow.Author.Rules.{rules}
+use Rattle.playback.proofs.calls.is_overlay.Goals as goal
+
+pub returns : goal.returns
+returns c = c.valued.ensures ∙ ap (valued c.args.buffers) c.protector_is_overlay_page.ensures

@@ -1,0 +1,19 @@
+use lib.ListN.{length-replicate, take, replicate}
+use lib.Seq.{length-take-le}
+use native.Mathlib.Omega.{arith}
+use mathlib.Core.Path.{sym, ap, ◌∙◌}
+use Prim.Native.Nat.{ℕ}
+use Rattle.queries.specs.Queries.{query_of}
+use Rattle.playback.specs.Calls.{queried_of}
+use borrow.Author.Rules.{rules}
+use Rattle.playback.proofs.calls.query.Goals as goal
+
+pub slice_bounds-query_in-end : goal.slice_bounds-query_in-end
+slice_bounds-query_in-end c =
+    let k : ℕ = c.min-n.result in let d = length-replicate {A = ℕ} 520 165 in let e = c.min-n.ensures in sym (length-take-le k (replicate 520 165) (omega arith))
+
+pub returns : goal.returns
+returns c =
+    let a = c.args in
+    c.query_in.ensures
+    ∙ ap (λ (k : ℕ). queried_of a.buffers (query_of a.buffers.state a.buffers.shared a.list.now (take k (replicate 520 165)))) c.min-n.ensures
