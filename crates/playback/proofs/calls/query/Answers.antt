@@ -8,10 +8,6 @@ use Rattle.playback.specs.Calls.{queried_of}
 use borrow.Author.Rules.{rules}
 use Rattle.playback.proofs.calls.query.Goals as goal
 
-pub slice_bounds-query_in-end : goal.slice_bounds-query_in-end
-slice_bounds-query_in-end c =
-    let k : ℕ = c.min-n.result in let d = length-replicate {A = ℕ} 520 165 in let e = c.min-n.ensures in sym (length-take-le k (replicate 520 165) (omega arith))
-
 pub returns : goal.returns
 returns c =
     let a = c.args in
