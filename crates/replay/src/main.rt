@@ -7,160 +7,189 @@ mod protector_part;
 mod registrar_part;
 mod tally;
 
-use libc::{STDIN_FILENO, STDOUT_FILENO};
+use crate::tally::Difference;
 use recording::kind;
+use std::io;
+use std::io::Read;
 
-fn say(text: &[u8]) {
-    io::write_all(STDOUT_FILENO, text);
+fn say(rt: &impl Print, text: &str) -> io::Result<()> {
+    print!(rt; "{text}")
 }
 
-fn say_number(n: u64) {
-    io::print_decimal(STDOUT_FILENO, n);
+fn say_number(rt: &impl Print, n: u64) -> io::Result<()> {
+    print!(rt; "{n}")
 }
 
-fn say_name(kind: u64) {
+fn say_name(rt: &impl Print, kind: u64) -> io::Result<()> {
     match kind {
-        kind::BUILD => say(b"protector_build"),
-        kind::CHANGE_HOST_VISIBILITY => say(b"change_host_visibility"),
-        kind::CHANGE_VTL_PROTECTIONS => say(b"change_vtl_protections"),
-        kind::CHANGE_DEFAULT_VTL_PROTECTIONS => say(b"change_default_vtl_protections"),
-        kind::REGISTER_OVERLAY_PAGE => say(b"register_overlay_page"),
-        kind::UNREGISTER_OVERLAY_PAGE => say(b"unregister_overlay_page"),
-        kind::LOCK_GPNS => say(b"lock_gpns"),
-        kind::UNLOCK_GPNS => say(b"unlock_gpns"),
-        kind::SET_VTL1_PROTECTIONS_ENABLED => say(b"set_vtl1_protections_enabled"),
-        kind::VTL1_PROTECTIONS_ENABLED => say(b"vtl1_protections_enabled"),
-        kind::DEFAULT_VTL0_PROTECTIONS => say(b"default_vtl0_protections"),
-        kind::IS_OVERLAY_PAGE => say(b"is_overlay_page"),
-        kind::QUERY_HOST_VISIBILITY => say(b"query_host_visibility"),
-        kind::PAGE_FAULT => say(b"page_fault"),
-        kind::QUERY_LOWER_VTL_PERMISSIONS => say(b"query_lower_vtl_permissions"),
-        kind::QUERY_ACCESS_PERMISSION => say(b"query_access_permission"),
-        kind::REGISTRAR_BUILD => say(b"registrar_build"),
-        kind::REGISTER => say(b"register"),
-        _ => say(b"register_all_aligned"),
+        kind::BUILD => say(rt, "protector_build"),
+        kind::CHANGE_HOST_VISIBILITY => say(rt, "change_host_visibility"),
+        kind::CHANGE_VTL_PROTECTIONS => say(rt, "change_vtl_protections"),
+        kind::CHANGE_DEFAULT_VTL_PROTECTIONS => say(rt, "change_default_vtl_protections"),
+        kind::REGISTER_OVERLAY_PAGE => say(rt, "register_overlay_page"),
+        kind::UNREGISTER_OVERLAY_PAGE => say(rt, "unregister_overlay_page"),
+        kind::LOCK_GPNS => say(rt, "lock_gpns"),
+        kind::UNLOCK_GPNS => say(rt, "unlock_gpns"),
+        kind::SET_VTL1_PROTECTIONS_ENABLED => say(rt, "set_vtl1_protections_enabled"),
+        kind::VTL1_PROTECTIONS_ENABLED => say(rt, "vtl1_protections_enabled"),
+        kind::DEFAULT_VTL0_PROTECTIONS => say(rt, "default_vtl0_protections"),
+        kind::IS_OVERLAY_PAGE => say(rt, "is_overlay_page"),
+        kind::QUERY_HOST_VISIBILITY => say(rt, "query_host_visibility"),
+        kind::PAGE_FAULT => say(rt, "page_fault"),
+        kind::QUERY_LOWER_VTL_PERMISSIONS => say(rt, "query_lower_vtl_permissions"),
+        kind::QUERY_ACCESS_PERMISSION => say(rt, "query_access_permission"),
+        kind::REGISTRAR_BUILD => say(rt, "registrar_build"),
+        kind::REGISTER => say(rt, "register"),
+        _ => say(rt, "register_all_aligned"),
     }
 }
 
-fn say_column(column: u64) {
+fn say_column(rt: &impl Print, column: u64) -> io::Result<()> {
     match column {
-        0 => say(b" SNP "),
-        1 => say(b" TDX "),
-        2 => say(b" CCA "),
-        _ => say(b" registrar "),
+        0 => say(rt, " SNP "),
+        1 => say(rt, " TDX "),
+        2 => say(rt, " CCA "),
+        _ => say(rt, " registrar "),
     }
 }
 
-fn say_cell(tally: &[u64], kind: u64, column: u64) {
+fn say_cell(rt: &impl Print, tally: &[u64], kind: u64, column: u64) -> io::Result<()> {
     let place = kind % tally::KINDS * tally::COLUMNS + column % tally::COLUMNS;
     let calls = numbers::word_at(tally, tally::CALLS + place);
     if calls == 0 {
-        return;
+        return Ok(());
     }
-    say_column(column);
-    say_number(numbers::word_at(tally, tally::SAME + place));
-    say(b" of ");
-    say_number(calls);
+    say_column(rt, column)?;
+    say_number(rt, numbers::word_at(tally, tally::SAME + place))?;
+    say(rt, " of ")?;
+    say_number(rt, calls)
 }
 
-fn say_row(tally: &[u64], kind: u64) {
-    say_name(kind);
-    say(b":");
-    say_cell(tally, kind, 0);
-    say_cell(tally, kind, 1);
-    say_cell(tally, kind, 2);
-    say_cell(tally, kind, tally::REGISTRAR);
-    say(b"\n");
+fn say_row(rt: &impl Print, tally: &[u64], kind: u64) -> io::Result<()> {
+    say_name(rt, kind)?;
+    say(rt, ":")?;
+    say_cell(rt, tally, kind, 0)?;
+    say_cell(rt, tally, kind, 1)?;
+    say_cell(rt, tally, kind, 2)?;
+    say_cell(rt, tally, kind, tally::REGISTRAR)?;
+    say(rt, "\n")
 }
 
-fn say_refusal(tally: &[u64], number: u64) {
+fn say_refusal(rt: &impl Print, tally: &[u64], number: u64) -> io::Result<()> {
     let calls = numbers::word_at(tally, tally::BY_NUMBER + number % tally::NUMBERS);
     if calls == 0 {
-        return;
+        return Ok(());
     }
-    say(b"number ");
-    say_number(number);
-    say(b": ");
-    say_number(calls);
-    say(b"\n");
+    say(rt, "number ")?;
+    say_number(rt, number)?;
+    say(rt, ": ")?;
+    say_number(rt, calls)?;
+    say(rt, "\n")
 }
 
-fn say_end(tally: &[u64]) {
-    say_number(numbers::word_at(tally, tally::ALL));
+fn say_end(rt: &impl Print, tally: &[u64]) -> io::Result<()> {
+    say_number(rt, numbers::word_at(tally, tally::ALL))?;
     let others = numbers::word_at(tally, tally::OTHERS);
     if others == 0 {
-        say(b" calls, all as recorded\n");
-        return;
+        return say(rt, " calls, all as recorded\n");
     }
-    say(b" calls, not as recorded: ");
-    say_number(others);
-    say(b"\n");
+    say(rt, " calls, not as recorded: ")?;
+    say_number(rt, others)?;
+    say(rt, "\n")
 }
 
-fn say_all(tally: &[u64]) {
-    let mut kind: u64 = 0;
-    while kind < kind::END {
-        say_row(tally, kind);
-        kind += 1;
+fn say_all(rt: &impl Print, tally: &[u64]) -> io::Result<()> {
+    for kind in 0..kind::END {
+        say_row(rt, tally, kind)?;
     }
-    let mut number: u64 = 0;
-    while number < tally::NUMBERS {
-        say_refusal(tally, number);
-        number += 1;
+    for number in 0..tally::NUMBERS {
+        say_refusal(rt, tally, number)?;
     }
-    say_end(tally);
+    say_end(rt, tally)
 }
 
-fn say_given(res: u64, code: u64, index: u64, count: u64, asked: u64, left: u64) {
-    say_number(res);
-    say(b" code ");
-    say_number(code);
-    say(b" index ");
-    say_number(index);
-    say(b" count ");
-    say_number(count);
-    say(b" asked ");
-    io::print_hex(STDOUT_FILENO, asked, 16);
-    say(b" left ");
-    io::print_hex(STDOUT_FILENO, left, 16);
-    say(b"\n");
+fn say_given(
+    rt: &impl Print,
+    res: u64,
+    code: u64,
+    index: u64,
+    count: u64,
+    asked: u64,
+    left: u64,
+) -> io::Result<()> {
+    say_number(rt, res)?;
+    say(rt, " code ")?;
+    say_number(rt, code)?;
+    say(rt, " index ")?;
+    say_number(rt, index)?;
+    say(rt, " count ")?;
+    say_number(rt, count)?;
+    say(rt, " asked ")?;
+    print!(rt; "{asked:016x}")?;
+    say(rt, " left ")?;
+    print!(rt; "{left:016x}")?;
+    say(rt, "\n")
 }
 
 // The first call that isn't as recorded.
-fn say_difference(call: u64, f: &[u64; field::ALL], g: &[u64; given::ALL]) {
-    say(b"call ");
-    say_number(call);
-    say(b", ");
-    say_name(f[field::KIND]);
-    say(b"\nrecorded ");
+fn say_difference(rt: &impl Print, difference: &Difference) -> io::Result<()> {
+    let f = difference.line;
+    let g = difference.given;
+    say(rt, "call ")?;
+    say_number(rt, difference.call)?;
+    say(rt, ", ")?;
+    say_name(rt, f[field::KIND])?;
+    say(rt, "\nrecorded ")?;
     say_given(
+        rt,
         f[field::RESULT],
         f[field::CODE],
         f[field::INDEX],
         f[field::COUNT],
         f[field::ASKED],
         f[field::LEFT],
-    );
-    say(b"given    ");
+    )?;
+    say(rt, "given    ")?;
     say_given(
+        rt,
         g[given::RESULT],
         g[given::CODE],
         g[given::INDEX],
         g[given::COUNT],
         g[given::ASKED],
         g[given::LEFT],
-    );
+    )
 }
 
-fn replay(input: &[u8], tally: &mut [u64]) {
-    let next = protector_part::run(input, 0, tally);
-    registrar_part::run(input, next, tally);
-    say_all(tally);
+// Reads until `buffer` is full or the input ends, and says how many bytes it has.
+fn read_full(input: &mut impl Read, buffer: &mut [u8]) -> io::Result<usize> {
+    let mut done = 0;
+    for _ in 0..u64::MAX {
+        if buffer.len() <= done {
+            break;
+        }
+        let n = input.read(&mut buffer[done..])?;
+        if n == 0 {
+            break;
+        }
+        done += n;
+    }
+    Ok(done)
 }
 
-fn main() {
+fn replay(rt: &impl Print, input: &[u8], tally: &mut [u64]) -> io::Result<()> {
+    let mut first: Option<Difference> = None;
+    let next = protector_part::run(input, 0, tally, &mut first);
+    registrar_part::run(input, next, tally, &mut first);
+    if let Some(difference) = first {
+        say_difference(rt, &difference)?;
+    }
+    say_all(rt, tally)
+}
+
+fn main(rt: HostRuntime) -> io::Result<()> {
     let mut input = [0u8; 262144];
     let mut tally = [0u64; 256];
-    let n = io::read_full(STDIN_FILENO, &mut input);
-    replay(recording::lists::part(&input, n), &mut tally);
+    let n = read_full(&mut rt.reader(), &mut input)?;
+    replay(&rt, recording::lists::part(&input, n), &mut tally)
 }

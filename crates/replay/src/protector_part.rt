@@ -4,6 +4,7 @@ ghost use Rattle.recording.specs.Decode.{number_at};
 ghost use Rattle.playback.specs.Buffers.{no_buffers};
 ghost use Rattle.replay.specs.Lines.{fields_at, after_line, put_of, times_before, put_often, compared_to, buffers_after, tally_after, after_lines};
 
+use crate::tally::Difference;
 use crate::{field, given, tally};
 use abi::{limit, place};
 use playback::buffers::{Buffers, Call};
@@ -50,7 +51,12 @@ fn put_often(buffers: Buffers, c: Call, list: &[u8], ram: &[u64]) -> Buffers
     put(v, c, list, ram)
 }
 
-fn compare(buffers: Buffers, f: &[u64; field::ALL], tally: &mut [u64])
+fn compare(
+    buffers: Buffers,
+    f: &[u64; field::ALL],
+    tally: &mut [u64],
+    first: &mut Option<Difference>,
+)
     ensures { tally.new ≡ compared_to buffers f.now tally.old }
 {
     let r = buffers.reply;
@@ -59,10 +65,10 @@ fn compare(buffers: Buffers, f: &[u64; field::ALL], tally: &mut [u64])
     let left = left::left(buffers);
     let g: [u64; given::ALL] = [result, r.code, r.index, r.count, buffers.asked, left];
     let column = state[place::ISOLATION] % tally::COLUMNS + 2;
-    tally::note(tally, f, &g, r.number, column);
+    tally::note(tally, first, f, &g, r.number, column);
 }
 
-fn line(input: &[u8], step: Step, tally: &mut [u64]) -> Step
+fn line(input: &[u8], step: Step, tally: &mut [u64], first: &mut Option<Difference>) -> Step
     ensures { (result.buffers ≡ buffers_after input.now step.buffers step.next) × (result.next ≡ after_line input.now step.next) × (tally.new ≡ compared_to (buffers_after input.now step.buffers step.next) (fields_at input.now step.next) tally.old) }
 {
     let mut f = [0u64; field::ALL];
@@ -78,7 +84,7 @@ fn line(input: &[u8], step: Step, tally: &mut [u64]) -> Step
         lists::part(&list, filled.len),
         lists::words_part(&ram, words),
     );
-    compare(w, &f, tally);
+    compare(w, &f, tally, first);
     Step {
         buffers: w,
         next: filled.next,
@@ -86,7 +92,7 @@ fn line(input: &[u8], step: Step, tally: &mut [u64]) -> Step
 }
 
 // The calls of this part are put and counted: how many lines, then a line for each. The place after them.
-pub fn run(input: &[u8], from: usize, tally: &mut [u64]) -> usize
+pub fn run(input: &[u8], from: usize, tally: &mut [u64], first: &mut Option<Difference>) -> usize
     ensures { (tally.new ≡ tally_after (number_at input.now from).value input.now no_buffers (number_at input.now from).next tally.old) × (result ≡ after_lines (number_at input.now from).value input.now (number_at input.now from).next) }
 {
     let count = decode::number(input, from);
@@ -96,7 +102,7 @@ pub fn run(input: &[u8], from: usize, tally: &mut [u64]) -> usize
     };
     let mut left = count.value;
     while 0 < left {
-        s = line(input, s, tally);
+        s = line(input, s, tally, first);
         left -= 1;
     }
     s.next

@@ -30,6 +30,14 @@ pub const COLUMNS: u64 = 4;
 // The columns are SNP, TDX, CCA and this.
 pub const REGISTRAR: u64 = 3;
 
+// A call that isn't as recorded: its number, the numbers of its line and the six given.
+#[derive(Clone, Copy)]
+pub struct Difference {
+    pub call: u64,
+    pub line: [u64; field::ALL],
+    pub given: [u64; given::ALL],
+}
+
 // In the file: refused with a code.
 const WITH_A_CODE: u64 = 1;
 
@@ -97,16 +105,26 @@ fn bump(tally: &mut [u64], i: u64)
     }
 }
 
-// The first call that differs is shown.
-fn show_first(tally: &[u64], f: &[u64; field::ALL], g: &[u64; given::ALL]) {
+// The first call that isn't as recorded is kept.
+fn keep_first(
+    first: &mut Option<Difference>,
+    tally: &[u64],
+    f: &[u64; field::ALL],
+    g: &[u64; given::ALL],
+) {
     if numbers::word_at(tally, OTHERS) == 1 {
-        crate::say_difference(numbers::word_at(tally, ALL), f, g);
+        *first = Some(Difference {
+            call: numbers::word_at(tally, ALL),
+            line: *f,
+            given: *g,
+        });
     }
 }
 
 // A call is counted, by the numbers of its line and the six given. A column is an isolation, or the registrar.
 pub fn note(
     tally: &mut [u64],
+    first: &mut Option<Difference>,
     f: &[u64; field::ALL],
     g: &[u64; given::ALL],
     number: u64,
@@ -124,5 +142,5 @@ pub fn note(
         return;
     }
     bump(tally, OTHERS);
-    show_first(tally, f, g);
+    keep_first(first, tally, f, g);
 }

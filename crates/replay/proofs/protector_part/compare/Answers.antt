@@ -1,0 +1,10 @@
+use Rattle.std.proofs.Common.{ℕ, ◌+◌, ◌%◌, [], ◌∷◌, get_or, ◌∙◌, ap₂, rules}
+use Rattle.replay.specs.Tally.{noted_of}
+use Rattle.replay.proofs.protector_part.compare.Goals as goal
+
+pub returns : goal.returns
+returns c =
+    let a = c.args in
+    let r = a.buffers.reply in
+    c.note.ensures
+    ∙ ap₂ (λ (x y : ℕ). noted_of a.tally.now a.f.now (x ∷ r.code ∷ r.index ∷ r.count ∷ a.buffers.asked ∷ y ∷ []) r.number (get_or a.buffers.state 16 0 % 4 + 2)) c.result_of-result.ensures c.left-left.ensures
