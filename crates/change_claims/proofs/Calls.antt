@@ -22,9 +22,8 @@ use Rattle.change_steps.specs.declared.ChangeStep.{ChangeStep}
 use Rattle.change_steps.specs.Changes as changes
 use Rattle.protector_state.specs.State.{settings_of, entries_in}
 use Rattle.protector_state.specs.Reply.{flat_of}
-use Rattle.visibility_steps.specs.declared.Phase.TheVariants as phase
 use Rattle.protector_state.specs.declared.Reply.{Reply}
-use Rattle.call_refusals.specs.Buffers.{Buffers, buffers, Outcome, tables_len, overlays_of, fits, status_in}
+use Rattle.call_refusals.specs.Buffers.{Buffers, Outcome, tables_len, overlays_of, fits, status_in}
 use Rattle.protector.specs.Writes.{without_page, entered}
 use Rattle.protector.specs.Calls.{with_permissions, carried_change}
 use Rattle.call_refusals.specs.Refusals.{answer_refusal}

@@ -14,7 +14,6 @@ use Rattle.permissions.specs.declared.HvMapGpaFlags.{HvMapGpaFlags}
 use Rattle.mapping.specs.Maps.{Maps}
 use Rattle.page_list.specs.declared.PageRun.{PageRun}
 use Rattle.page_list.specs.Runs.{run}
-use Rattle.page_list.specs.Runs as runs
 use Rattle.default_change.specs.Pieces.{next_of}
 use Rattle.default_change.specs.Visit.{pieces_from}
 use Rattle.visibility_claims.specs.Whole.{Operation, Protect, BackendAnswer, FailedAt, Whole, stands, in_turn, per_run, protecting}

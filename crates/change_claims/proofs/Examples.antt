@@ -56,7 +56,7 @@ unfolding word written_from entries_of ram_byte number_of number_at numbers_from
     register_taken register_of unregister_refusal unregister_taken unregister_of follow closed closed_to
 worked = record { default_two_lem = refl; repeated = refl; registered = refl; unregistered = refl }
 
--- what the claims ask is met: calls that are taken, in a layout that fits; with `default_ok` and `repeated-ok` of the table they end in Ok
+-- what the claims ask is met: calls that are taken, in a layout that fits; with `default_ok` and `repeated_ok` of the table they end in Ok
 pub record Taken : Type 0 where
   pub layout : FitLayout two
   pub default : TakesDefault two 0 3

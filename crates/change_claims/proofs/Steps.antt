@@ -16,7 +16,6 @@ use Rattle.permissions.specs.Flags.{flags_of}
 use Rattle.layout.specs.declared.MemoryRangeWithNode.{MemoryRangeWithNode}
 use Rattle.mapping.specs.Maps.{Maps, Permissions}
 use Rattle.page_list.specs.declared.PageRun.{PageRun}
-use Rattle.visibility_steps.specs.declared.Answer.TheVariants.{Halted}
 use Rattle.visibility_steps.specs.declared.Settings.{Settings}
 use Rattle.change_steps.specs.declared.Stage.{Stage}
 use Rattle.change_steps.specs.declared.Stage.TheVariants as stage

@@ -16,7 +16,7 @@ use Rattle.permissions.specs.Flags.{vtl_number}
 use Rattle.overlay_table.specs.declared.OverlayPage.{OverlayPage}
 use Rattle.overlay_table.specs.Overlays.{used, words_of, is_overlay, place_of, add_words, remove_words, previous_words}
 use Rattle.default_change.specs.Pieces.{private_ram}
-use Rattle.default_change.specs.Renewed.{renewed_at, renewed_from, renewed}
+use Rattle.default_change.specs.Renewed.{renewed_at, renewed_from}
 use Rattle.call_refusals.specs.Buffers.{tables_len, overlays_of}
 use Rattle.protector.specs.Writes.{with_overlays, without_page}
 

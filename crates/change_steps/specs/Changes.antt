@@ -89,7 +89,7 @@ done_of tracked at.Wait change pages next = ask at.Flush change (Flush change.fl
 done_of tracked at.Flush change pages next = ask at.TlbWait change (TlbWait change.vtl) Keep
 done_of tracked at.TlbWait change pages next = finish (Done change.count)
 
--- Wait, Flush and TlbWait: they follow each other, then the call ends; no map and no entry is written (law `flush-done` of `change_writes`)
+-- Wait, Flush and TlbWait: they follow each other, then the call ends; no map and no entry is written (law `flush_done` of `change_writes`)
 abbrev pub is_flushing : Stage → Bool
 is_flushing at.Idle = false
 is_flushing at.Halted = false

@@ -16,7 +16,7 @@ use Rattle.permissions.specs.declared.IsolationType.TheVariants.{Snp, Tdx, Cca}
 use Rattle.permissions.specs.declared.OptionFlags.{OptionFlags}
 use Rattle.permissions.specs.declared.OptionFlags.TheVariants.{Some, None}
 use Rattle.page_list.specs.Pages.{among}
-use Rattle.page_list.specs.Runs.{part, run_at, run}
+use Rattle.page_list.specs.Runs.{part, run_at}
 use Rattle.page_list.specs.declared.PageRun.{PageRun}
 use Rattle.page_list.proofs.RunLaws.{run_none}
 use Rattle.request_pages.specs.Request.{run_end, put}

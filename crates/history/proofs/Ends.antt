@@ -11,7 +11,7 @@ use Rattle.layout.specs.declared.MemoryRangeWithNode.{MemoryRangeWithNode}
 use Rattle.layout.specs.Layout.{entries_of}
 use Rattle.protector_state.specs.declared.Reply.{Reply}
 use Rattle.protector_state.specs.State.{entries_in}
-use Rattle.call_refusals.specs.Buffers.{Buffers, Outcome, takes}
+use Rattle.call_refusals.specs.Buffers.{Buffers, Outcome}
 use Rattle.protector.specs.Calls.{answer_done}
 use Rattle.visibility_claims.specs.Whole.{BackendAnswer, Succeeds}
 use Rattle.visibility_claims.specs.Calls.{answer_of, taken_by}
@@ -22,7 +22,6 @@ use Rattle.history.specs.Marks.{read_off, Settled}
 use Rattle.history.specs.Call.{Answer, sees}
 use Rattle.history.specs.Made.{Made, Built}
 use Rattle.history.specs.History.{History, none, call, Event, Called, events_in}
-use Rattle.history.specs.Answered.{given}
 use Rattle.history.specs.Ends.{Trace, start, answer, other, trace_of, taken_in, heard_in, Falls, Meanwhile, Answers, Ends, Heard, insisting, Told, RequestEnds}
 use Rattle.history.proofs.Bits.{clash}
 use Rattle.history.proofs.Buffers.{Stands}

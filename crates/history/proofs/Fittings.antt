@@ -17,7 +17,7 @@ use Rattle.request_pages.specs.Request.{wanted}
 use Rattle.request_pages.proofs.Table.{length_table, pages_few}
 use Rattle.protector_state.specs.State.{entries_in}
 use Rattle.protector_state.specs.Changing.{is_changing}
-use Rattle.call_refusals.specs.Buffers.{Buffers, buffers, overlays_of, locks_of, fits}
+use Rattle.call_refusals.specs.Buffers.{Buffers, overlays_of, locks_of, fits}
 use Rattle.protector.specs.Calls.{refused_by, stop_of, table_for, visibility_taken, visibility_of, visibility_done, visibility_failed, change_done, change_failed, answer_done, answer_failed}
 use Rattle.call_refusals.specs.Refusals.{visibility_refusal, answer_refusal}
 use Rattle.protection_entries.specs.Calls.{protection_refusal, all_listed, protection_taken, protection_of, default_refusal, stored, barred, renewed_in, default_started, default_taken, default_of}

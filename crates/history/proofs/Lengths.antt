@@ -10,7 +10,7 @@ use Rattle.words.specs.Words.{swapped}
 use Rattle.words.proofs.Padded.{length_closed}
 use Rattle.bitmap.proofs.Map.{length_written}
 use Rattle.permissions.specs.Flags.{vtl_number, bool_of}
-use Rattle.overlay_table.specs.Overlays.{used, entry, add_words}
+use Rattle.overlay_table.specs.Overlays.{entry, add_words}
 use Rattle.lock_table.specs.Locks as locks
 use Rattle.request_pages.specs.Request.{put}
 use Rattle.visibility_steps.specs.declared.Phase.{Phase}

@@ -17,7 +17,7 @@ use Rattle.change_steps.specs.declared.ChangeStep.{ChangeStep}
 use Rattle.change_steps.specs.declared.Change.{Change}
 use Rattle.change_steps.specs.Changes.{protect, ask, wait, protect_pages, protect_ram, start_new, start_old}
 use Rattle.protector_state.specs.State.{settings_of}
-use Rattle.call_refusals.specs.Buffers.{Buffers, buffers, Outcome, overlays_of, fits, status_in}
+use Rattle.call_refusals.specs.Buffers.{Buffers, Outcome, overlays_of, fits, status_in}
 use Rattle.protector.specs.Calls.{refused_by, carried_change}
 use Rattle.protection_entries.specs.Calls.{default_refusal, stored_default, stored, barred, renewed_tables, renewed_in, default_step, default_started, default_taken, default_of, protection_refusal, all_listed, protection_step, protection_taken, protection_of}
 use Rattle.overlay_refusals.specs.Refusals.{unregister_refusal, register_refusal}

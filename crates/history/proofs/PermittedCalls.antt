@@ -29,7 +29,6 @@ use Rattle.request_pages.proofs.Table.{in_use, length_table, pages_few, pick_eac
 use Rattle.overlay_table.specs.declared.OverlayPage.{OverlayPage}
 use Rattle.overlay_table.specs.Overlays.{is_overlay}
 use Rattle.default_change.specs.Pieces.{wanted, free, next_piece}
-use Rattle.visibility_steps.specs.declared.Phase.TheVariants as at
 use Rattle.visibility_steps.specs.declared.Step.{Step}
 use Rattle.change_steps.specs.declared.Stage.{Stage}
 use Rattle.change_steps.specs.declared.Stage.TheVariants as stage

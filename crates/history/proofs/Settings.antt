@@ -3,7 +3,7 @@ use native.Mathlib.Omega.{arith}
 use mathlib.Core.Path.{◌≡◌, sym, ◌∙◌}
 use mathlib.Core.Bool.{true}
 use mathlib.Core.List.{List}
-use Prim.Native.Nat.{ℕ, ◌-◌, ◌<◌}
+use Prim.Native.Nat.{ℕ, ◌<◌}
 use lib.ListN.{length, get_or, set}
 use lib.Seq.{get_or-drop, get_or-set_same, get_or-set_other}
 use borrow.Author.Tests.{eqb-true}
@@ -16,7 +16,6 @@ use Rattle.change_steps.specs.declared.Change.{Change}
 use Rattle.protector_state.specs.State.{state_len, with_request, settings_of}
 use Rattle.protector_state.specs.Changing.{with_change}
 use Rattle.protection_entries.specs.Calls.{stored_default}
-use Rattle.setting_entries.specs.Calls.{enabled}
 use Rattle.history.specs.Settings.{SettingsFit}
 use Rattle.history.proofs.StateWords.{Words}
 

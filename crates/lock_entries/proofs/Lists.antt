@@ -17,7 +17,7 @@ use Rattle.lock_table.proofs.Unlocked.{none_unlocked, table_unlock, table_unlock
 use Rattle.lock_table.proofs.Fits.{lock_fits, unlock_fits}
 use Rattle.call_refusals.specs.Buffers.{locks_of}
 use Rattle.lock_entries.specs.Calls.{Kept, ended, lock_refusal, with_locks, lock_taken, lock_of, unlock_taken, unlock_of}
-use Rattle.lock_entries.specs.Lists.{Lists, lists, lists_at, with_lists, Holds, Makes}
+use Rattle.lock_entries.specs.Lists.{Lists, lists_at, with_lists, Holds, Makes}
 use Rattle.lock_entries.proofs.Parts.{same_locks, length_with, locks_with, other_locks0, other_locks1, overlays_with}
 
 -- ---- a page is found locked just where one of the lists has it

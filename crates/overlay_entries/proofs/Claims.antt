@@ -17,7 +17,6 @@ use Rattle.protector.specs.Calls.{refused_by, carried_change}
 use Rattle.protector.proofs.Tables.{overlays_written}
 use Rattle.overlay_refusals.specs.Refusals.{unregister_refusal, register_refusal}
 use Rattle.overlay_entries.specs.Calls.{entry_in, recounted, counting, unregister_taken, unregister_of, current_in, register_taken, register_of}
-use Rattle.overlay_refusals.proofs.Laws as laws
 
 -- ---- where the words of the VTL are the table of a list: the calls on the list
 

@@ -10,7 +10,6 @@ use lib.Seq.{drop-cons}
 use lib.ListN.{drop_of_length-le}
 use Rattle.overlay_table.specs.Search.{is_of, none, pick, find_from}
 use Rattle.overlay_table.specs.declared.OverlayKey.{OverlayKey}
-use Rattle.overlay_table.specs.declared.Found.{Found}
 use Rattle.overlay_table.specs.declared.Found.TheVariants.{At, Nothing}
 
 step_is : (ys : List OverlayKey) (key : OverlayKey) (i : ℕ) → i < length ys → find_from (drop_l i ys) key i ≡ pick (is_of (get_or ys i none) key) (At i) (find_from (drop_l (i + 1) ys) key (i + 1))

@@ -7,7 +7,7 @@ use Prim.Native.Nat.{ℕ, ◌≤◌}
 use borrow.Author.Tests.{leb-true}
 use Rattle.laws.specs.Bools.{and_left, and_right, false≢true}
 use Rattle.laws.specs.Refusal.{refused, answered}
-use Rattle.mapping.specs.Maps.{Permissions, Maps, maps}
+use Rattle.mapping.specs.Maps.{Permissions, Maps}
 use Rattle.permissions.specs.declared.HvMapGpaFlags.{HvMapGpaFlags}
 use Rattle.permissions.specs.Flags.{no_flags}
 use Rattle.permissions.specs.HvError.{code_of}

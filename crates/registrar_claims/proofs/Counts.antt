@@ -19,7 +19,7 @@ use Rattle.registrar_steps.specs.declared.Look.{Look}
 use Rattle.registrar_steps.specs.declared.Look.TheVariants.{Nothing, Edge, FailedBefore, Stretch}
 use Rattle.registrar_steps.specs.declared.Plan.{Plan}
 use Rattle.registrar_steps.specs.Steps.{ChunkState, asks, ends, more, ram_from, passes, piece_of, register_from, look_at, found, all_from}
-use Rattle.registrar_state.specs.Buffers.{Buffers, buffers, Outcome, request_of, offset_of, granularity_of, entries_in, chunk_state_in, flat_of, decided, register_refusal, all_refusal, carried_out, register_plan, all_plan, register_of, all_of, answer_refusal, failed_of, rest_of, has_rest, done_plan, after_taken, done_of}
+use Rattle.registrar_state.specs.Buffers.{Buffers, Outcome, request_of, offset_of, granularity_of, entries_in, chunk_state_in, flat_of, decided, register_refusal, all_refusal, carried_out, register_plan, all_plan, register_of, all_of, answer_refusal, failed_of, rest_of, has_rest, done_plan, after_taken, done_of}
 use Rattle.registrar_claims.proofs.Steps.{counted}
 use Rattle.registrar_claims.proofs.Refusals.{register_taken_lem, all_taken, answer_taken}
 use Rattle.registrar_claims.specs.Runs.{not_refused, answer_of, before, asks_for, follow}

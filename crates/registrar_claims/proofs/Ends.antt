@@ -23,7 +23,7 @@ use Rattle.registrar_steps.specs.declared.Request.{Request}
 use Rattle.registrar_steps.specs.declared.Answer.TheVariants.{Done, RegistrationFailed}
 use Rattle.registrar_steps.specs.declared.Look.{Look}
 use Rattle.registrar_steps.specs.declared.Look.TheVariants.{Nothing, Edge, FailedBefore, Stretch}
-use Rattle.registrar_steps.specs.Steps.{ChunkState, idle, asks, ends, more, ram_from, passes, piece_of, register_from, stretch_in, look_at, found, all_from}
+use Rattle.registrar_steps.specs.Steps.{ChunkState, asks, ends, more, ram_from, passes, piece_of, register_from, stretch_in, look_at, found, all_from}
 use Rattle.registrar_state.specs.Buffers.{Buffers, Outcome, request_of, offset_of, granularity_of, entries_in, chunk_state_in, decided, build_refusal, build_of, lengths_fit, call_refusal, chunks_fit, register_refusal, all_refusal, carried_out, register_plan, all_plan, register_of, all_of, answer_refusal, failed_of, rest_of, has_rest, done_plan, after_taken, done_of}
 use Rattle.registrar_claims.specs.Runs.{Call, Build, RegisterRange, RegisterAll, AnswerDone, AnswerFailed, give, is_build, is_taken, under_way, left_of, left, after, taken_in, is_answer, only_answers, answers_in}
 use Rattle.registrar_claims.specs.Ends.{RequestEnds}

@@ -34,11 +34,11 @@ use Rattle.visibility_steps.specs.declared.Request.{Request}
 use Rattle.visibility_steps.specs.declared.Places.{Places}
 use Rattle.visibility_steps.specs.declared.Writes.{Writes}
 use Rattle.visibility_steps.specs.declared.Step.{Step}
-use Rattle.visibility_steps.specs.Steps.{is_snp, is_cca, releases, places, no_writes, set_shared, set_permissions, step, operation_of, ask, end, halt, share_run, default_run, return_run, after_flush, after_wait, after_modify, after_accept, after_default0, failed_modify, done_of, failed_of, asked, cleared, start_of}
+use Rattle.visibility_steps.specs.Steps.{is_snp, is_cca, releases, places, no_writes, set_shared, set_permissions, step, operation_of, ask, end, halt, share_run, default_run, return_run, after_flush, after_wait, after_modify, after_accept, after_default0, failed_modify, done_of, failed_of, cleared, start_of}
 use Rattle.visibility_steps.proofs.Laws as laws
 use Rattle.call_refusals.specs.Buffers.{takes}
 use Rattle.protector.specs.Writes.{applied}
-use Rattle.visibility_claims.specs.Whole.{Operation, Wait, FlushAll, Protect, Invalidate, Release, Modify, Accept, Zero, BackendAnswer, Succeeds, Fails, Status, Ok, StoppedAt, FailedAt, Halts, Whole, stands, fails, one, in_turn, per_run, flushes, unaccepts, accepts, defaults, with_private, with_shared, protecting, writing_none, cleared_by, whole_share, returned, modified, whole_return}
+use Rattle.visibility_claims.specs.Whole.{Operation, Wait, Protect, Invalidate, Modify, Accept, Zero, BackendAnswer, Succeeds, Fails, Status, Ok, StoppedAt, FailedAt, Halts, Whole, stands, fails, one, in_turn, per_run, flushes, unaccepts, accepts, defaults, with_private, with_shared, protecting, writing_none, cleared_by, whole_share, returned, modified, whole_return}
 use Rattle.visibility_claims.specs.Runs.{Last, named, before, run, told, after}
 use Rattle.visibility_claims.proofs.Maps.{sets, set_by, applied_sets, set_none, applied_none, applied_default, applied_share, applied_return, set_shared_lem, set_private_lem}
 

@@ -11,7 +11,7 @@ use Rattle.protector_state.specs.Reply.{value}
 use Rattle.visibility_claims.specs.Table.{page, fresh, P2}
 use Rattle.worked.specs.Crossing.{low, all_ram, clear, untracked, settings}
 
--- pages 3, 4, 5 and 6 have one flag each, 1, 2, 4 and 8: four protection changes leave them so (`Changes`, `split-made`)
+-- pages 3, 4, 5 and 6 have one flag each, 1, 2, 4 and 8: four protection changes leave them so (`Changes`, `split_made`)
 abbrev pub split : Maps
 split = maps all_ram clear (low 0x8f) (low 0x97) (low 0xa7) (low 0xc7)
 

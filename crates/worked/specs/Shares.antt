@@ -96,14 +96,14 @@ pub record Moves : Type 0 where
 
 -- ---- where sharing stops (15)
 
--- page 5 read_only, and write-only
+-- page 5 read-only, and write-only
 abbrev pub read_only : Maps
 read_only = maps all_ram clear all_ram (low 0xdf) (low 0xdf) (low 0xdf)
 
 abbrev pub write_only_lem : Maps
 write_only_lem = maps all_ram clear (low 0xdf) all_ram (low 0xdf) (low 0xdf)
 
--- page 3 is shared already, by VTL1, page 5 is read_only; and shared by VTL0
+-- page 3 is shared already, by VTL1, page 5 is read-only; and shared by VTL0
 abbrev pub mixed : Maps
 mixed = maps (low 0xf7) (only 0x08) all_ram (low 0xdf) (low 0xdf) (low 0xdf)
 
@@ -128,7 +128,7 @@ pub record Stops : Type 0 where
   pub write_only_made : forgotten (after 4 (protection_of fresh 0 2 (page 5 []))) ≡ off write_only_lem
   pub mixed_made : forgotten (after 6 (visibility_of (off read_only) 1 1 (page 3 []))) ≡ off mixed
   pub closed_made : forgotten (after 6 (visibility_of fresh 0 1 (page 3 []))) ≡ off closed
-  -- a read_only page before protections are enabled, and after; VTL1 isn't asked
+  -- a read-only page before protections are enabled, and after; VTL1 isn't asked
   pub read_only_off : last (off read_only) 0 (page 5 []) ≡ ok 6
   pub read_only_on : last (guarded read_only) 0 (page 5 []) ≡ finished 15 6 0 3
   pub read_only_vtl1 : last (guarded read_only) 1 (page 5 []) ≡ ok 6
@@ -141,7 +141,7 @@ pub record Stops : Type 0 where
   pub five_left : (after 6 (visibility_of (guarded mixed) 0 1 five)).maps ≡ maps (low 0x37) (only 0xc8) (low 0x3f) (low 0x1f) (low 0x1f) (low 0x1f)
   pub five_off : last (off mixed) 0 five ≡ ok 12
   pub five_vtl1 : last (guarded mixed) 1 five ≡ ok 12
-  -- the stop is looked for before what drops out: a page that VTL0 shared has no permission left (alone in its list: `P5-second`)
+  -- the stop is looked for before what drops out: a page that VTL0 shared has no permission left (alone in its list: `p5_second`)
   pub closed_on : last (guarded closed) 0 five ≡ finished 15 6 1 6
   pub closed_off : last (off closed) 0 (page 3 []) ≡ ok 3
   -- 7, 10 and 11 of any page come first; a return has no stop

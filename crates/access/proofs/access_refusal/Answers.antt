@@ -1,4 +1,3 @@
-use borrow.Author.Tests.{not-true, not-false}
 use Rattle.access.proofs.access_refusal.Goals as goal
 
 pub returns-then-not-fits : goal.returns-then-not-fits

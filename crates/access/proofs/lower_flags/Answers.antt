@@ -1,6 +1,4 @@
-use borrow.Author.Rules.{rules}
 use mathlib.Core.Path.{◌∙◌}
-use borrow.Author.Tests.{not-true, not-false}
 use Rattle.mapping.specs.Maps.{perms}
 use Rattle.access.proofs.Answers.{lower_untracked}
 use Rattle.access.proofs.lower_flags.Goals as goal

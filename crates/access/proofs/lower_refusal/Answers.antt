@@ -1,6 +1,4 @@
-use borrow.Author.Rules.{rules}
 use mathlib.Core.Path.{sym, ◌∙◌}
-use borrow.Author.Tests.{not-true, not-false}
 use Rattle.access.proofs.lower_refusal.Goals as goal
 
 pub returns-then-not-fits : goal.returns-then-not-fits

@@ -1,4 +1,3 @@
-use borrow.Author.Rules.{rules}
 use Rattle.access.proofs.permissions_value.Goals as goal
 
 pub returns-in-Flags : goal.returns-in-Flags

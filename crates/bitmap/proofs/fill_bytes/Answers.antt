@@ -1,11 +1,11 @@
 use mathlib.Core.Bool.{Bool}
 use mathlib.Core.List.{List}
 use mathlib.Core.Path.{◌≡◌, ap, ◌∙◌}
-use Prim.Native.Nat.{ℕ, ◌≤◌, ◌-◌, max}
+use Prim.Native.Nat.{ℕ}
 use native.Mathlib.Omega.{arith}
 use borrow.Author.Rules.{rules}
 use lib.ListN.{length, set}
-use Rattle.bitmap.specs.Pages.{written, words}
+use Rattle.bitmap.specs.Pages.{written}
 use Rattle.bitmap.proofs.Map.{length_written}
 use Rattle.bitmap.proofs.Steps.{words_none, words_step, words_end}
 use Rattle.bitmap.proofs.fill_bytes.Goals as goal

@@ -1,12 +1,7 @@
 -- The loop's invariant: the bytes from `from` to before `i` are written.
-use mathlib.Core.Path.{◌≡◌, ap, ◌∙◌}
+use mathlib.Core.Path.{◌≡◌}
 use Prim.Native.Nat.{◌≤◌, ◌-◌, max}
-use native.Mathlib.Omega.{arith}
-use borrow.Author.Rules.{rules}
-use lib.ListN.{length, set}
 use Rattle.bitmap.specs.Pages.{written, words}
-use Rattle.bitmap.proofs.Map.{length_written}
-use Rattle.bitmap.proofs.Steps.{words_none, words_step, words_end}
 use Rattle.bitmap.proofs.fill_bytes.Given as goal
 
 abbrev pub invariant-loop-i : goal.invariant-loop-i

@@ -1,5 +1,4 @@
 use mathlib.Core.Path.{sym}
-use borrow.Author.Rules.{rules}
 use Rattle.bitmap.proofs.Map.{page_past}
 use Rattle.bitmap.proofs.get.Goals as goal
 

@@ -1,4 +1,3 @@
-use borrow.Author.Rules.{rules}
 use mathlib.Core.Path.{sym}
 use Rattle.bitmap.proofs.Map.{page_past}
 use Rattle.bitmap.proofs.page_state.Goals as goal

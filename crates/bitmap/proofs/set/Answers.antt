@@ -1,4 +1,3 @@
-use borrow.Author.Rules.{rules}
 use lib.Dec.{lit<}
 use Rattle.bitmap.proofs.Map.{one_past, one_set, one_clear}
 use Rattle.bitmap.proofs.set.Goals as goal

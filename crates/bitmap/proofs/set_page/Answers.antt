@@ -1,4 +1,3 @@
-use borrow.Author.Rules.{rules}
 use lib.Dec.{lit<}
 use Rattle.bitmap.proofs.Map.{one_past, one_put}
 use Rattle.bitmap.proofs.set_page.Goals as goal

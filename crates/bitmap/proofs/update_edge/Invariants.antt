@@ -1,12 +1,7 @@
-use mathlib.Core.Path.{◌≡◌, ap, ◌∙◌}
-use Prim.Native.Nat.{ℕ, ◌+◌, ◌-◌, ◌≤◌}
-use native.Mathlib.Omega.{arith}
-use borrow.Author.Rules.{rules}
-use lib.ListN.{length}
+use mathlib.Core.Path.{◌≡◌}
+use Prim.Native.Nat.{◌+◌, ◌-◌, ◌≤◌}
 use Rattle.laws.specs.Ranges.{between}
 use Rattle.bitmap.specs.Pages.{written}
-use Rattle.bitmap.proofs.Map.{length_written}
-use Rattle.bitmap.proofs.Steps.{run_none, run_next, edge_none, edge_all}
 use Rattle.bitmap.proofs.update_edge.Given as goal
 
 abbrev pub invariant-loop-k : goal.invariant-loop-k

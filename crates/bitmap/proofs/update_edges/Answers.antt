@@ -1,7 +1,6 @@
 use mathlib.Core.Path.{◌≡◌, ap, ◌∙◌}
 use Prim.Native.Nat.{ℕ, ◌+◌, ◌*◌, ◌/◌}
 use native.Mathlib.Omega.{arith}
-use borrow.Author.Rules.{rules}
 use Rattle.bitmap.specs.Pages.{written, edges}
 use Rattle.bitmap.proofs.Steps.{edges_written}
 use Rattle.bitmap.proofs.update_edges.Goals as goal

@@ -1,4 +1,3 @@
-use borrow.Author.Rules.{rules}
 use Prim.Native.Nat.{◌+◌}
 use Rattle.bitmap.proofs.Steps.{filled_written}
 use Rattle.bitmap.proofs.update_filled.Goals as goal

@@ -1,5 +1,4 @@
 use Prim.Native.Nat.{◌+◌}
-use borrow.Author.Rules.{rules}
 use lib.Dec.{lit<}
 use Rattle.bitmap.proofs.Steps.{edges_then_filled}
 use Rattle.bitmap.proofs.update_run.Goals as goal

@@ -1,6 +1,5 @@
-use borrow.Author.Rules.{rules}
 use mathlib.Core.Path.{refl, sym, ◌∙◌}
-use borrow.Author.Tests.{eq-eqb, ne_eqb, not-true, not-false}
+use borrow.Author.Tests.{eq-eqb, ne_eqb}
 use Rattle.laws.specs.Refusal.{refuses, passes, when_refuses, when_passes}
 use Rattle.call_refusals.specs.Refusals.{answer_refusal}
 use Rattle.call_refusals.proofs.answer_refusal.Goals as goal

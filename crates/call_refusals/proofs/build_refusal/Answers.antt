@@ -1,7 +1,6 @@
-use borrow.Author.Rules.{rules}
 use mathlib.Core.Path.{refl, sym, ◌∙◌}
 use native.Mathlib.Omega.{arith}
-use borrow.Author.Tests.{lt-ltb, le-ltb, not-true, not-false}
+use borrow.Author.Tests.{lt-ltb, le-ltb}
 use Rattle.laws.specs.Refusal.{refuses, passes, first_refuses, first_passes}
 use Rattle.call_refusals.specs.Refusals.{build_refusal}
 use Rattle.call_refusals.proofs.build_refusal.Goals as goal

@@ -1,4 +1,3 @@
-use borrow.Author.Rules.{rules}
 use mathlib.Core.Path.{refl, sym, ◌∙◌}
 use Rattle.call_refusals.proofs.Laws.{state_refuses, state_long, state_unfit, state_passes}
 use Rattle.call_refusals.proofs.lent_refusal.Goals as goal

@@ -1,4 +1,3 @@
-use borrow.Author.Rules.{rules}
 use mathlib.Core.Path.{refl, ◌∙◌}
 use Rattle.call_refusals.proofs.Laws as laws
 use Rattle.call_refusals.proofs.listed_refusal.Goals as goal

@@ -1,4 +1,3 @@
-use borrow.Author.Rules.{rules}
 use mathlib.Core.Path.{sym, ap}
 use Rattle.call_refusals.specs.Buffers.{locks_of}
 use Rattle.call_refusals.proofs.locks_of.Goals as goal

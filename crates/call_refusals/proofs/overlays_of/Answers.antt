@@ -1,4 +1,3 @@
-use borrow.Author.Rules.{rules}
 use mathlib.Core.Path.{sym, ap}
 use Rattle.call_refusals.specs.Buffers.{overlays_of}
 use Rattle.call_refusals.proofs.overlays_of.Goals as goal

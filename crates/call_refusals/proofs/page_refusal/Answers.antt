@@ -1,6 +1,4 @@
-use borrow.Author.Rules.{rules}
 use mathlib.Core.Path.{refl, sym, ◌∙◌}
-use borrow.Author.Tests.{not-true, not-false}
 use Rattle.laws.specs.Bools.{and_ends, and_goes}
 use Rattle.laws.specs.Refusal.{refuses, passes, when_refuses, when_passes}
 use Rattle.call_refusals.proofs.page_refusal.Goals as goal

@@ -1,11 +1,8 @@
-use borrow.Author.Rules.{rules}
-use mathlib.Core.Path.{◌≡◌, refl, sym, ◌∙◌}
-use lib.ListN.{drop}
+use mathlib.Core.Path.{refl, sym, ◌∙◌}
 use native.Mathlib.Omega.{arith}
-use Prim.Native.Nat.{◌-◌}
 use Rattle.layout.specs.Layout.{entries_of}
 use Rattle.page_list.specs.Pages.{pages_of}
-use Rattle.call_refusals.specs.Refusals.{page_refusal, first_refusal}
+use Rattle.call_refusals.specs.Refusals.{page_refusal}
 use Rattle.call_refusals.proofs.Laws as laws
 use Rattle.call_refusals.proofs.pages_refusal.Goals as goal
 

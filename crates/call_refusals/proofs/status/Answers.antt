@@ -1,4 +1,3 @@
-use borrow.Author.Rules.{rules}
 use mathlib.Core.Path.{refl, ap, ◌∙◌}
 use Rattle.laws.specs.Bools.{chose, chose_not}
 use Rattle.call_refusals.specs.Buffers.{status_of}

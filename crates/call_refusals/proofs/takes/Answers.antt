@@ -1,7 +1,5 @@
-use borrow.Author.Rules.{rules}
 use mathlib.Core.Bool.{not}
 use mathlib.Core.Path.{sym, ap, ap₂, ◌∙◌}
-use borrow.Author.Tests.{not-false}
 use Rattle.laws.specs.Bools.{chose, chose_not}
 use Rattle.call_refusals.specs.Buffers.{takes, takes_at}
 use Rattle.call_refusals.proofs.Taken.{busy_takes}

@@ -1,4 +1,3 @@
-use Rattle.std.proofs.Common.{rules}
 use Rattle.change_steps.proofs.Laws as laws
 use Rattle.change_steps.proofs.finish.Goals as goal
 

@@ -1,5 +1,4 @@
-use Rattle.std.proofs.Common.{eqb, sym, ◌∙◌, rules}
-use borrow.Author.Tests.{not-true, not-false}
+use Rattle.std.proofs.Common.{eqb, sym, ◌∙◌}
 use Rattle.visibility_steps.specs.Steps.{is_vtl0}
 use Rattle.change_steps.proofs.Laws as laws
 use Rattle.change_steps.proofs.is_tracked.Goals as goal

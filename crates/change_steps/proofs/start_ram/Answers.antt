@@ -1,4 +1,4 @@
-use Rattle.std.proofs.Common.{ap, ◌∙◌, rules}
+use Rattle.std.proofs.Common.{ap, ◌∙◌}
 use Rattle.change_steps.specs.declared.Change.{Change}
 use Rattle.change_steps.specs.Changes.{protect_ram}
 use Rattle.change_steps.proofs.start_ram.Goals as goal

@@ -1,4 +1,3 @@
-use Rattle.std.proofs.Common.{rules}
 use Rattle.change_steps.specs.Changes.{wait}
 use Rattle.change_steps.proofs.wait.Goals as goal
 

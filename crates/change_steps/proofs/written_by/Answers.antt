@@ -1,4 +1,4 @@
-use Rattle.std.proofs.Common.{sym, ◌∙◌, rules}
+use Rattle.std.proofs.Common.{sym, ◌∙◌}
 use Rattle.change_steps.proofs.Laws as laws
 use Rattle.change_steps.proofs.written_by.Goals as goal
 

@@ -1,4 +1,3 @@
-use borrow.Author.Rules.{rules}
 use Rattle.overlay_table.specs.Overlays.{entry, add_words}
 use Rattle.change_writes.proofs.Laws as laws
 use Rattle.change_writes.proofs.add.Goals as goal

@@ -1,5 +1,4 @@
 use Rattle.laws.proofs.Parts.{two_parts}
-use borrow.Author.Rules.{rules}
 use Rattle.change_writes.proofs.Laws as laws
 use Rattle.change_writes.proofs.after_failed.Goals as goal
 

@@ -1,5 +1,4 @@
 use Rattle.laws.proofs.Parts.{four_parts}
-use borrow.Author.Rules.{rules}
 use mathlib.Core.Path.{sym, ap, ◌∙◌}
 use Rattle.mapping.specs.Maps.{perms}
 use Rattle.change_steps.specs.Changes.{is_flushing}

@@ -1,5 +1,4 @@
 use Rattle.laws.proofs.Parts.{four_parts}
-use borrow.Author.Rules.{rules}
 use Rattle.mapping.specs.Maps.{perms}
 use Rattle.change_writes.proofs.Laws as laws
 use Rattle.change_writes.proofs.answer_failed.Goals as goal

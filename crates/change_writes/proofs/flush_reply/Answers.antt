@@ -1,4 +1,3 @@
-use borrow.Author.Rules.{rules}
 use mathlib.Core.Path.{sym, ap, ◌∙◌}
 use Rattle.change_steps.specs.declared.Stage.{Stage}
 use Rattle.change_writes.specs.Flush.{flush_reply}

@@ -1,4 +1,3 @@
-use borrow.Author.Rules.{rules}
 use Rattle.change_writes.proofs.Laws as laws
 use Rattle.change_writes.proofs.remove_in.Goals as goal
 

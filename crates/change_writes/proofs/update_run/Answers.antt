@@ -1,4 +1,3 @@
-use borrow.Author.Rules.{rules}
 use native.Mathlib.Omega.{arith}
 use Rattle.mapping.specs.Maps.{perms}
 use Rattle.change_writes.proofs.Laws as laws

@@ -1,5 +1,4 @@
 use native.Mathlib.Omega.{arith}
-use borrow.Author.Rules.{rules}
 use mathlib.Core.Path.{sym, ◌∙◌}
 use Rattle.chunks.specs.Chunks.{alike}
 use Rattle.chunks.proofs.Scan as scan

@@ -1,4 +1,3 @@
-use borrow.Author.Rules.{rules}
 use Rattle.chunks.proofs.alike_past.Goals as goal
 
 pub returns-else-set : goal.returns-else-set

@@ -1,5 +1,4 @@
 use native.Mathlib.Omega.{arith}
-use borrow.Author.Rules.{rules}
 use Rattle.chunks.proofs.Laws as laws
 use Rattle.chunks.proofs.chunk_end.Goals as goal
 

@@ -1,4 +1,3 @@
-use borrow.Author.Rules.{rules}
 use Rattle.chunks.proofs.chunk_ram.Goals as goal
 
 pub returns : goal.returns

@@ -1,4 +1,3 @@
-use borrow.Author.Rules.{rules}
 use native.Mathlib.Omega.{arith}
 use Rattle.chunks.proofs.Laws as laws
 use Rattle.chunks.proofs.div_ceil.Goals as goal

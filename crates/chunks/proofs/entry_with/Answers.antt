@@ -1,10 +1,6 @@
 use native.Mathlib.Omega.{arith}
-use borrow.Author.Rules.{rules}
-use mathlib.Core.Path.{◌≡◌, refl, sym, ◌∙◌}
-use Prim.Native.Nat.{◌-◌}
-use lib.ListN.{drop}
+use mathlib.Core.Path.{refl, sym, ◌∙◌}
 use Rattle.layout.specs.Layout.{entries_of}
-use Rattle.chunks.specs.Chunks.{entry_with}
 use Rattle.chunks.proofs.Laws as laws
 use Rattle.chunks.proofs.entry_with.Goals as goal
 

@@ -1,11 +1,8 @@
-use native.Mathlib.Omega.{arith}
-use borrow.Author.Rules.{rules}
-use mathlib.Core.Path.{◌≡◌, refl, sym, ◌∙◌}
+use mathlib.Core.Path.{◌≡◌}
 use Prim.Native.Nat.{◌-◌}
 use lib.ListN.{drop}
 use Rattle.layout.specs.Layout.{entries_of}
 use Rattle.chunks.specs.Chunks.{entry_with}
-use Rattle.chunks.proofs.Laws as laws
 use Rattle.chunks.proofs.entry_with.Given as goal
 
 abbrev pub invariant-loop-i : goal.invariant-loop-i

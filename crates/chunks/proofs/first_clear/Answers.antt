@@ -1,10 +1,7 @@
 use native.Mathlib.Omega.{arith}
-use borrow.Author.Rules.{rules}
-use mathlib.Core.Path.{◌≡◌, refl, sym, ◌∙◌}
-use Prim.Native.Nat.{◌-◌}
+use mathlib.Core.Path.{refl, sym, ◌∙◌}
 use Rattle.abi.specs.Lengths.{word_bits}
 use Rattle.bitmap.specs.Pages.{bit_at}
-use Rattle.chunks.specs.Chunks.{first_not}
 use Rattle.chunks.proofs.Scan as scan
 use Rattle.chunks.proofs.first_clear.Goals as goal
 

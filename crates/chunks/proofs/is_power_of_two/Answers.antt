@@ -1,9 +1,5 @@
 use native.Mathlib.Omega.{arith}
-use borrow.Author.Rules.{rules}
-use mathlib.Core.Path.{◌≡◌, refl, sym, ◌∙◌}
-use Prim.Native.Nat.{◌-◌}
-use Rattle.abi.specs.Lengths.{word_bits}
-use Rattle.chunks.specs.Chunks.{power_from}
+use mathlib.Core.Path.{refl, sym, ◌∙◌}
 use Rattle.chunks.proofs.Laws as laws
 use Rattle.chunks.proofs.is_power_of_two.Goals as goal
 

@@ -1,10 +1,7 @@
-use native.Mathlib.Omega.{arith}
-use borrow.Author.Rules.{rules}
-use mathlib.Core.Path.{◌≡◌, refl, sym, ◌∙◌}
+use mathlib.Core.Path.{◌≡◌}
 use Prim.Native.Nat.{◌-◌}
 use Rattle.abi.specs.Lengths.{word_bits}
 use Rattle.chunks.specs.Chunks.{power_from}
-use Rattle.chunks.proofs.Laws as laws
 use Rattle.chunks.proofs.is_power_of_two.Given as goal
 
 abbrev pub invariant-loop-k : goal.invariant-loop-k

@@ -1,10 +1,7 @@
 use native.Mathlib.Omega.{arith}
-use borrow.Author.Rules.{rules}
-use mathlib.Core.Path.{◌≡◌, refl, sym, ap, ◌∙◌}
-use Prim.Native.Nat.{ℕ, ◌-◌, ◌^◌, min}
-use lib.ListN.{drop}
-use Rattle.layout.specs.Layout.{entries_of, spans}
-use Rattle.chunks.specs.Chunks.{pieces, first_of}
+use mathlib.Core.Path.{refl, sym, ap, ◌∙◌}
+use Rattle.layout.specs.Layout.{entries_of}
+use Rattle.chunks.specs.Chunks.{first_of}
 use Rattle.chunks.proofs.Laws as laws
 use Rattle.chunks.proofs.ram_before.Goals as goal
 

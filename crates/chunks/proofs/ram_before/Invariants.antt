@@ -1,11 +1,8 @@
-use native.Mathlib.Omega.{arith}
-use borrow.Author.Rules.{rules}
-use mathlib.Core.Path.{◌≡◌, refl, sym, ap, ◌∙◌}
+use mathlib.Core.Path.{◌≡◌}
 use Prim.Native.Nat.{ℕ, ◌-◌, ◌^◌, min}
 use lib.ListN.{drop}
 use Rattle.layout.specs.Layout.{entries_of, spans}
 use Rattle.chunks.specs.Chunks.{pieces, first_of}
-use Rattle.chunks.proofs.Laws as laws
 use Rattle.chunks.proofs.ram_before.Given as goal
 
 abbrev pub invariant-loop-i : goal.invariant-loop-i

@@ -1,8 +1,6 @@
 use native.Mathlib.Omega.{arith}
-use borrow.Author.Rules.{rules}
-use mathlib.Core.Path.{◌≡◌, refl, sym, ◌∙◌}
-use Prim.Native.Nat.{◌-◌}
-use Rattle.chunks.specs.Chunks.{first_not, alike}
+use mathlib.Core.Path.{refl, sym, ◌∙◌}
+use Rattle.chunks.specs.Chunks.{alike}
 use Rattle.chunks.proofs.Laws as laws
 use Rattle.chunks.proofs.Scan as scan
 use Rattle.chunks.proofs.run_end.Goals as goal

@@ -1,10 +1,6 @@
-use native.Mathlib.Omega.{arith}
-use borrow.Author.Rules.{rules}
-use mathlib.Core.Path.{◌≡◌, refl, sym, ◌∙◌}
+use mathlib.Core.Path.{◌≡◌}
 use Prim.Native.Nat.{◌-◌}
 use Rattle.chunks.specs.Chunks.{first_not, alike}
-use Rattle.chunks.proofs.Laws as laws
-use Rattle.chunks.proofs.Scan as scan
 use Rattle.chunks.proofs.run_end.Given as goal
 
 abbrev pub invariant-loop-c : goal.invariant-loop-c

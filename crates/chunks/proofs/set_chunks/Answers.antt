@@ -1,12 +1,8 @@
 use borrow.Author.Rules.{rules}
 use native.Mathlib.Omega.{arith}
-use mathlib.Core.Path.{◌≡◌, refl, ◌∙◌}
+use mathlib.Core.Path.{refl, ◌∙◌}
 use mathlib.Core.Bool.{true}
-use Prim.Native.Nat.{◌-◌, ◌≤◌, max}
-use lib.ListN.{length}
 use Rattle.abi.specs.Lengths.{word_bits}
-use Rattle.laws.specs.Ranges.{between}
-use Rattle.bitmap.specs.Pages.{written}
 use Rattle.chunks.proofs.Laws as laws
 use Rattle.bitmap.proofs.Steps.{run_none, run_end_lem}
 use Rattle.chunks.proofs.set_chunks.Goals as goal

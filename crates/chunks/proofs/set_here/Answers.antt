@@ -1,5 +1,4 @@
 use native.Mathlib.Omega.{arith}
-use borrow.Author.Rules.{rules}
 use mathlib.Core.Path.{sym, ◌∙◌}
 use Rattle.abi.specs.Lengths.{word_bits}
 use Rattle.bitmap.specs.Pages.{bit_at}

@@ -1,5 +1,4 @@
 use native.Mathlib.Omega.{arith}
-use borrow.Author.Rules.{rules}
 use mathlib.Core.Path.{◌∙◌}
 use Rattle.chunks.proofs.Laws as laws
 use Rattle.chunks.proofs.set_some.Goals as goal

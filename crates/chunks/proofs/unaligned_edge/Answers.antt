@@ -1,4 +1,3 @@
-use borrow.Author.Rules.{rules}
 use Rattle.chunks.proofs.Laws as laws
 use Rattle.chunks.proofs.unaligned_edge.Goals as goal
 

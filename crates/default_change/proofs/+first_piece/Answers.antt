@@ -1,4 +1,3 @@
-use borrow.Author.Rules.{rules}
 use native.Mathlib.Omega.{arith}
 use mathlib.Core.Path.{subst}
 use Prim.Native.Nat.{ℕ, ◌+◌, ◌-◌, ◌<◌, ◌≤◌}
@@ -29,8 +28,7 @@ first_piece-left-requires t c =
     let e = c.find_inside-i.ensures in
     let below : i < used a.overlays.now = omega (arith, c.if-entry_count-i.false, c.entry_count.ensures) in
     let p = c.word_at-p.result in
-    let read = c.word_at-p.ensures in
-    (
+    let read = c.word_at-p.ensures in (
       subst (λ (j : ℕ). inside (overlay_pages a.overlays.now) a.first (p - a.first) < j) c.decreases (laws.left_falls a.overlays.now a.first a.count i e below p read),
       omega (arith, laws.p_low a.overlays.now a.first a.count i e below p read, laws.p_high a.overlays.now a.first a.count i e below p read, c.requires),
     )
@@ -43,8 +41,7 @@ returns-then-left-ne0 t c =
     let below : i < used a.overlays.now = omega (arith, c.if-entry_count-i.false, c.entry_count.ensures) in
     let p = c.word_at-p.result in
     let read = c.word_at-p.ensures in
-    let r = c.first_piece-left in
-    (
+    let r = c.first_piece-left in (
       laws.from_left_start a.overlays.now a.first a.count i e below p read r.result.first r.result.count r.ensures.0 r.ensures.1 c.if-left-ne0.true,
       laws.from_left_len a.overlays.now a.first a.count i e below p read r.result.first r.result.count r.ensures.0 r.ensures.1 c.if-left-ne0.true,
     )
@@ -77,8 +74,7 @@ first_piece-requires t c =
     let e = c.find_inside-i.ensures in
     let below : i < used a.overlays.now = omega (arith, c.if-entry_count-i.false, c.entry_count.ensures) in
     let p = c.word_at-p.result in
-    let read = c.word_at-p.ensures in
-    (
+    let read = c.word_at-p.ensures in (
       subst (λ (j : ℕ). inside (overlay_pages a.overlays.now) (p + 1) (a.first + a.count - (p + 1)) < j) c.decreases (laws.right_falls a.overlays.now a.first a.count i e below p read),
       omega (arith, laws.p_low a.overlays.now a.first a.count i e below p read, laws.p_high a.overlays.now a.first a.count i e below p read, c.requires),
     )
@@ -92,8 +88,7 @@ returns t c =
     let p = c.word_at-p.result in
     let read = c.word_at-p.ensures in
     let r = c.first_piece-left in
-    let q = c.first_piece in
-    (
+    let q = c.first_piece in (
       laws.from_right_start a.overlays.now a.first a.count i e below p read r.result.first r.result.count r.ensures.0 r.ensures.1 c.if-left-ne0.false q.result.first q.ensures.0,
       laws.from_right_len a.overlays.now a.first a.count i e below p read r.result.first r.result.count r.ensures.0 r.ensures.1 c.if-left-ne0.false q.result.count q.ensures.1,
     )

@@ -1,7 +1,5 @@
 use mathlib.Core.Path.{sym}
-use Prim.Native.Nat.{◌-◌}
 use lib.ListN.{get_or-eq_default}
-use borrow.Author.Rules.{rules}
 use Rattle.default_change.proofs.byte_at.Goals as goal
 
 pub returns-else-k-map : goal.returns-else-k-map

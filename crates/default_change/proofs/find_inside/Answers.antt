@@ -1,9 +1,6 @@
-use borrow.Author.Rules.{rules}
 use native.Mathlib.Omega.{arith}
-use mathlib.Core.Path.{◌≡◌, refl, sym, ◌∙◌}
-use Prim.Native.Nat.{◌+◌, ◌-◌, ◌*◌}
-use borrow.Author.Tests.{not-true, not-false}
-use Rattle.default_change.specs.Pieces.{pages_from, overlay_pages, outside, stop_at}
+use mathlib.Core.Path.{refl, sym, ◌∙◌}
+use Rattle.default_change.specs.Pieces.{outside}
 use Rattle.default_change.proofs.Split as laws
 use Rattle.default_change.proofs.find_inside.Goals as goal
 

@@ -1,10 +1,6 @@
-use borrow.Author.Rules.{rules}
-use native.Mathlib.Omega.{arith}
-use mathlib.Core.Path.{◌≡◌, refl, sym, ◌∙◌}
+use mathlib.Core.Path.{◌≡◌}
 use Prim.Native.Nat.{◌+◌, ◌-◌, ◌*◌}
-use borrow.Author.Tests.{not-true, not-false}
 use Rattle.default_change.specs.Pieces.{pages_from, overlay_pages, outside, stop_at}
-use Rattle.default_change.proofs.Split as laws
 use Rattle.default_change.proofs.find_inside.Given as goal
 
 abbrev pub invariant-loop-i : goal.invariant-loop-i

@@ -4,7 +4,6 @@ use Prim.Native.Nat.{◌-◌}
 use borrow.Author.Tests.{leb-true}
 use Rattle.default_change.proofs.Split.{true_false}
 use Rattle.default_change.proofs.Bytes as laws
-use borrow.Author.Rules.{rules}
 use Rattle.default_change.proofs.is_alike_byte.Goals as goal
 
 pub returns-then-byte_at-full : goal.returns-then-byte_at-full

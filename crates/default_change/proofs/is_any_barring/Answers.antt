@@ -1,7 +1,5 @@
-use borrow.Author.Rules.{rules}
 use native.Mathlib.Omega.{arith}
-use mathlib.Core.Path.{◌≡◌, refl}
-use Prim.Native.Nat.{◌-◌}
+use mathlib.Core.Path.{refl}
 use Rattle.layout.specs.Layout.{entries_of}
 use Rattle.page_list.specs.Runs.{part}
 use Rattle.default_change.specs.Barred.{barring, any_of}

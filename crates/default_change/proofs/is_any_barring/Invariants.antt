@@ -1,11 +1,8 @@
-use borrow.Author.Rules.{rules}
-use native.Mathlib.Omega.{arith}
-use mathlib.Core.Path.{◌≡◌, refl}
+use mathlib.Core.Path.{◌≡◌}
 use Prim.Native.Nat.{◌-◌}
 use Rattle.layout.specs.Layout.{entries_of}
 use Rattle.page_list.specs.Runs.{part}
 use Rattle.default_change.specs.Barred.{barring, any_of}
-use Rattle.default_change.proofs.Locked as laws
 use Rattle.default_change.proofs.is_any_barring.Given as goal
 
 abbrev pub invariant-loop-i : goal.invariant-loop-i

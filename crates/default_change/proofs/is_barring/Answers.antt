@@ -1,6 +1,4 @@
-use borrow.Author.Rules.{rules}
 use mathlib.Core.Path.{sym, ap, ◌∙◌}
-use borrow.Author.Tests.{not-true, not-false}
 use Rattle.laws.specs.Bools.{and_ends, and_goes}
 use mathlib.Core.Bool.{not}
 use Rattle.layout.specs.Layout.{entries_of}

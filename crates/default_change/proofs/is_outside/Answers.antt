@@ -1,5 +1,4 @@
 use mathlib.Core.Path.{sym}
-use Prim.Native.Nat.{◌-◌}
 use Rattle.default_change.proofs.Split as laws
 use Rattle.default_change.proofs.is_outside.Goals as goal
 

@@ -1,6 +1,4 @@
-use borrow.Author.Rules.{rules}
 use mathlib.Core.Path.{sym, ◌∙◌}
-use borrow.Author.Tests.{not-true, not-false}
 use Rattle.laws.specs.Bools.{and_ends, and_goes}
 use Rattle.bitmap.specs.Pages.{bit_at}
 use Rattle.layout.specs.Layout.{entries_of, is_ram}

@@ -1,8 +1,6 @@
 use mathlib.Core.Path.{sym, ap, ◌∙◌}
 use mathlib.Core.Bool.{Bool, not}
-use Prim.Native.Nat.{◌-◌}
 use Rattle.default_change.specs.Pieces.{is}
-use borrow.Author.Rules.{rules}
 use Rattle.default_change.proofs.is_state.Goals as goal
 
 pub returns-then-state : goal.returns-then-state

@@ -1,11 +1,8 @@
-use borrow.Author.Rules.{rules}
-use native.Mathlib.Omega.{arith}
-use mathlib.Core.Path.{◌≡◌, refl, sym, ◌∙◌}
+use mathlib.Core.Path.{◌≡◌}
 use Prim.Native.Nat.{◌-◌}
 use lib.ListN.{drop}
 use Rattle.layout.specs.Layout.{entries_of}
 use Rattle.default_change.specs.Pieces.{wanted, next_of}
-use Rattle.default_change.proofs.Next as laws
 use Rattle.default_change.proofs.next_piece.Given as goal
 
 abbrev pub invariant-loop-i : goal.invariant-loop-i

@@ -1,6 +1,4 @@
-use Prim.Native.Nat.{◌-◌}
 use Rattle.default_change.proofs.Bytes as laws
-use borrow.Author.Rules.{rules}
 use Rattle.default_change.proofs.next_private_run.Goals as goal
 
 pub returns : goal.returns

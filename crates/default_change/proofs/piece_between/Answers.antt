@@ -1,9 +1,7 @@
-use borrow.Author.Rules.{rules}
 use native.Mathlib.Omega.{arith}
-use mathlib.Core.Path.{◌≡◌, refl, sym, ◌∙◌}
-use Prim.Native.Nat.{◌-◌}
+use mathlib.Core.Path.{refl, sym, ◌∙◌}
 use Rattle.bitmap.specs.Pages.{bit_at}
-use Rattle.default_change.specs.Pieces.{free, wanted, piece_of}
+use Rattle.default_change.specs.Pieces.{free, wanted}
 use Rattle.default_change.proofs.Next as laws
 use Rattle.default_change.proofs.piece_between.Goals as goal
 

@@ -1,10 +1,6 @@
-use borrow.Author.Rules.{rules}
-use native.Mathlib.Omega.{arith}
-use mathlib.Core.Path.{◌≡◌, refl, sym, ◌∙◌}
+use mathlib.Core.Path.{◌≡◌}
 use Prim.Native.Nat.{◌-◌}
-use Rattle.bitmap.specs.Pages.{bit_at}
-use Rattle.default_change.specs.Pieces.{free, wanted, piece_of}
-use Rattle.default_change.proofs.Next as laws
+use Rattle.default_change.specs.Pieces.{wanted, piece_of}
 use Rattle.default_change.proofs.piece_between.Given as goal
 
 abbrev pub invariant-loop-at : goal.invariant-loop-at

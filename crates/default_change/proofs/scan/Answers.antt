@@ -1,8 +1,7 @@
 use native.Mathlib.Omega.{arith}
-use borrow.Author.Rules.{rules}
-use mathlib.Core.Path.{◌≡◌, refl}
-use Prim.Native.Nat.{◌+◌, ◌-◌}
-use Rattle.default_change.specs.Pieces.{span, is}
+use mathlib.Core.Path.{refl}
+use Prim.Native.Nat.{◌-◌}
+use Rattle.default_change.specs.Pieces.{is}
 use Rattle.default_change.proofs.Spans as spans
 use Rattle.default_change.proofs.Bytes as laws
 use Rattle.default_change.proofs.scan.Goals as goal

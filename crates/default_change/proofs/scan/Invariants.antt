@@ -1,10 +1,6 @@
-use native.Mathlib.Omega.{arith}
-use borrow.Author.Rules.{rules}
-use mathlib.Core.Path.{◌≡◌, refl}
+use mathlib.Core.Path.{◌≡◌}
 use Prim.Native.Nat.{◌+◌, ◌-◌}
 use Rattle.default_change.specs.Pieces.{span, is}
-use Rattle.default_change.proofs.Spans as spans
-use Rattle.default_change.proofs.Bytes as laws
 use Rattle.default_change.proofs.scan.Given as goal
 
 abbrev pub invariant-loop-p : goal.invariant-loop-p

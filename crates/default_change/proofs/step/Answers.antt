@@ -1,9 +1,7 @@
 use native.Mathlib.Omega.{arith}
 use mathlib.Core.Path.{sym, ◌∙◌}
-use Prim.Native.Nat.{◌-◌}
 use Rattle.default_change.specs.Pieces.{is}
 use Rattle.default_change.proofs.Bytes as laws
-use borrow.Author.Rules.{rules}
 use Rattle.default_change.proofs.step.Goals as goal
 
 pub returns-then-is_alike_byte : goal.returns-then-is_alike_byte

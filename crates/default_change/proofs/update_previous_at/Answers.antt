@@ -1,4 +1,3 @@
-use borrow.Author.Rules.{rules}
 use Rattle.layout.specs.Layout.{entries_of}
 use Rattle.default_change.proofs.Renewal as laws
 use Rattle.default_change.proofs.update_previous_at.Goals as goal

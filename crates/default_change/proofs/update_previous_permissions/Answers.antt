@@ -1,11 +1,10 @@
 use borrow.Author.Rules.{rules}
 use native.Mathlib.Omega.{arith}
-use mathlib.Core.Path.{◌≡◌, refl, sym, ap, ◌∙◌}
+use mathlib.Core.Path.{refl, sym, ap, ◌∙◌}
 use Rattle.layout.specs.Layout.{entries_of}
 use Rattle.default_change.proofs.Renewal as laws
-use Prim.Native.Nat.{ℕ, ◌+◌, ◌*◌, ◌≤◌}
-use lib.ListN.{length}
-use Rattle.default_change.specs.Renewed.{renewed_from, renewed}
+use Prim.Native.Nat.{ℕ}
+use Rattle.default_change.specs.Renewed.{renewed_from}
 use Rattle.default_change.proofs.update_previous_permissions.Goals as goal
 
 pub loop-left-init : goal.loop-left-init

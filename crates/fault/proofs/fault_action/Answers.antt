@@ -1,6 +1,4 @@
-use borrow.Author.Rules.{rules}
 use mathlib.Core.Path.{sym, ◌∙◌}
-use borrow.Author.Tests.{not-true, not-false}
 use Rattle.mapping.specs.Maps.{maps}
 use Rattle.fault.specs.Fault.{view_of}
 use Rattle.fault.proofs.Answers.{not_mapped_lem, not_shared_lem, not_private_lem, vtl_protected_lem, retry_shared, retry_allowed, retry_untracked}

@@ -1,4 +1,4 @@
-use borrow.Author.Tests.{not-true, not-false, lt-ltb, le-ltb, lt-leb, le-leb}
+use borrow.Author.Tests.{lt-ltb, le-ltb, lt-leb, le-leb}
 use Rattle.fault.specs.Fault.{fault_refusal}
 use Rattle.fault.proofs.fault_refusal.Goals as goal
 

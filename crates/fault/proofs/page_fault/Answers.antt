@@ -1,4 +1,3 @@
-use borrow.Author.Rules.{rules}
 use Rattle.layout.specs.Layout.{entries_of}
 use Rattle.mapping.specs.Maps.{maps}
 use Rattle.fault.proofs.Answers.{fault_refused, fault_given}

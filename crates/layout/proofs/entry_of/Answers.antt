@@ -1,9 +1,6 @@
-use borrow.Author.Rules.{rules}
 use native.Mathlib.Omega.{arith}
-use mathlib.Core.Path.{◌≡◌, sym, ◌∙◌}
-use Prim.Native.Nat.{◌+◌, ◌-◌, ◌≤◌}
-use lib.ListN.{drop}
-use Rattle.layout.specs.Layout.{entries_of, place_of}
+use mathlib.Core.Path.{sym, ◌∙◌}
+use Rattle.layout.specs.Layout.{entries_of}
 use Rattle.layout.proofs.Laws as laws
 use Rattle.layout.proofs.entry_of.Goals as goal
 

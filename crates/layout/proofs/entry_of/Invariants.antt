@@ -1,10 +1,7 @@
-use borrow.Author.Rules.{rules}
-use native.Mathlib.Omega.{arith}
-use mathlib.Core.Path.{◌≡◌, sym, ◌∙◌}
+use mathlib.Core.Path.{◌≡◌}
 use Prim.Native.Nat.{◌+◌, ◌-◌, ◌≤◌}
 use lib.ListN.{drop}
 use Rattle.layout.specs.Layout.{entries_of, place_of}
-use Rattle.layout.proofs.Laws as laws
 use Rattle.layout.proofs.entry_of.Given as goal
 
 abbrev pub invariant-loop-i : goal.invariant-loop-i

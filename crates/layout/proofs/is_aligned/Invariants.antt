@@ -1,11 +1,7 @@
-use native.Mathlib.Omega.{arith}
-use borrow.Author.Rules.{rules}
-use mathlib.Core.Path.{◌≡◌, refl, sym, ◌∙◌}
+use mathlib.Core.Path.{◌≡◌}
 use Prim.Native.Nat.{◌-◌}
 use lib.ListN.{drop}
-use borrow.Author.Tests.{not-true, not-false}
 use Rattle.layout.specs.Layout.{entries_of, aligned}
-use Rattle.layout.proofs.Laws as laws
 use Rattle.layout.proofs.is_aligned.Given as goal
 
 abbrev pub invariant-loop-i : goal.invariant-loop-i

@@ -1,10 +1,6 @@
 use native.Mathlib.Omega.{arith}
-use borrow.Author.Rules.{rules}
-use mathlib.Core.Path.{◌≡◌, refl, sym, ◌∙◌}
-use Prim.Native.Nat.{◌-◌}
-use lib.ListN.{drop}
-use borrow.Author.Tests.{not-true, not-false}
-use Rattle.layout.specs.Layout.{entries_of, ordered}
+use mathlib.Core.Path.{refl, sym, ◌∙◌}
+use Rattle.layout.specs.Layout.{entries_of}
 use Rattle.layout.proofs.Laws as laws
 use Rattle.layout.proofs.is_ordered.Goals as goal
 

@@ -1,9 +1,6 @@
 use native.Mathlib.Omega.{arith}
-use borrow.Author.Rules.{rules}
-use mathlib.Core.Path.{◌≡◌, refl, sym, ◌∙◌}
-use Prim.Native.Nat.{◌+◌, ◌-◌, ◌≤◌, ◌<◌}
-use lib.ListN.{drop}
-use Rattle.layout.specs.Layout.{entries_of, reach, touching}
+use mathlib.Core.Path.{refl, sym, ◌∙◌}
+use Rattle.layout.specs.Layout.{entries_of}
 use Rattle.layout.proofs.Laws as laws
 use Rattle.layout.proofs.span_at.Goals as goal
 

@@ -1,10 +1,7 @@
-use native.Mathlib.Omega.{arith}
-use borrow.Author.Rules.{rules}
-use mathlib.Core.Path.{◌≡◌, refl, sym, ◌∙◌}
+use mathlib.Core.Path.{◌≡◌}
 use Prim.Native.Nat.{◌+◌, ◌-◌, ◌≤◌, ◌<◌}
 use lib.ListN.{drop}
 use Rattle.layout.specs.Layout.{entries_of, reach, touching}
-use Rattle.layout.proofs.Laws as laws
 use Rattle.layout.proofs.span_at.Given as goal
 
 abbrev pub invariant-loop-next : goal.invariant-loop-next

@@ -1,4 +1,3 @@
-use borrow.Author.Rules.{rules}
 use Rattle.lock_entries.proofs.Laws as laws
 use Rattle.lock_entries.proofs.protector_lock_gpns.Goals as goal
 

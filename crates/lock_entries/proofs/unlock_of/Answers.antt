@@ -1,4 +1,3 @@
-use borrow.Author.Rules.{rules}
 use mathlib.Core.Path.{sym}
 use Rattle.page_list.specs.Pages.{pages_of}
 use Rattle.permissions.specs.declared.GuestVtl.TheVariants.{Vtl0, Vtl1}

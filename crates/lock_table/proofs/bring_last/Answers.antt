@@ -1,4 +1,3 @@
-use borrow.Author.Rules.{rules}
 use Rattle.lock_table.proofs.Laws as laws
 use Rattle.lock_table.proofs.bring_last.Goals as goal
 

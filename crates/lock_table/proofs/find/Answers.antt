@@ -1,9 +1,8 @@
-use borrow.Author.Rules.{rules}
 use native.Mathlib.Omega.{arith}
 use mathlib.Core.Path.{◌≡◌, refl, sym, ap, ◌∙◌}
 use Prim.Native.Nat.{ℕ, ◌+◌, ◌-◌}
 use Rattle.page_list.specs.Pages.{pages_of}
-use Rattle.lock_table.specs.Locks.{end_of, equal_from}
+use Rattle.lock_table.specs.Locks.{equal_from}
 use Rattle.lock_table.proofs.Laws as laws
 use Rattle.lock_table.proofs.find.Goals as goal
 

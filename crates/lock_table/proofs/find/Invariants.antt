@@ -1,10 +1,7 @@
-use borrow.Author.Rules.{rules}
-use native.Mathlib.Omega.{arith}
-use mathlib.Core.Path.{◌≡◌, refl, sym, ap, ◌∙◌}
-use Prim.Native.Nat.{ℕ, ◌+◌, ◌-◌}
+use mathlib.Core.Path.{◌≡◌}
+use Prim.Native.Nat.{◌+◌, ◌-◌}
 use Rattle.page_list.specs.Pages.{pages_of}
 use Rattle.lock_table.specs.Locks.{end_of, equal_from}
-use Rattle.lock_table.proofs.Laws as laws
 use Rattle.lock_table.proofs.find.Given as goal
 
 abbrev pub invariant-loop-k : goal.invariant-loop-k

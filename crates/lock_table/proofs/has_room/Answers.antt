@@ -1,5 +1,4 @@
 use native.Mathlib.Omega.{arith}
-use Prim.Native.Nat.{◌-◌}
 use Rattle.lock_table.proofs.Laws as laws
 use Rattle.lock_table.proofs.has_room.Goals as goal
 

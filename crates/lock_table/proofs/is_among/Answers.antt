@@ -1,9 +1,5 @@
-use borrow.Author.Rules.{rules}
 use native.Mathlib.Omega.{arith}
-use mathlib.Core.Path.{◌≡◌, refl, sym, ◌∙◌}
-use Prim.Native.Nat.{◌-◌}
-use Rattle.page_list.specs.Pages.{among}
-use Rattle.page_list.specs.Runs.{part}
+use mathlib.Core.Path.{refl, sym, ◌∙◌}
 use Rattle.lock_table.proofs.Laws as laws
 use Rattle.lock_table.proofs.is_among.Goals as goal
 

@@ -1,8 +1,6 @@
-use borrow.Author.Rules.{rules}
 use native.Mathlib.Omega.{arith}
 use mathlib.Core.Path.{◌≡◌, sym, ap, ◌∙◌}
-use Prim.Native.Nat.{ℕ, ◌+◌, ◌-◌}
-use lib.ListN.{drop}
+use Prim.Native.Nat.{ℕ, ◌+◌}
 use Rattle.page_list.specs.Runs.{part}
 use Rattle.page_list.specs.Pages.{pages_of}
 use Rattle.lock_table.specs.Locks.{same}

@@ -1,6 +1,4 @@
-use borrow.Author.Rules.{rules}
 use native.Mathlib.Omega.{arith}
-use borrow.Author.Tests.{not-true, not-false}
 use Rattle.page_list.specs.Pages.{pages_of}
 use Rattle.lock_table.proofs.Laws as laws
 use Rattle.lock_table.proofs.lock.Goals as goal

@@ -1,9 +1,6 @@
 use borrow.Author.Rules.{rules}
 use native.Mathlib.Omega.{arith}
-use mathlib.Core.Path.{◌≡◌, refl, sym, ◌∙◌}
-use Prim.Native.Nat.{◌-◌}
-use lib.ListN.{length}
-use Rattle.lock_table.specs.Locks.{moved}
+use mathlib.Core.Path.{refl, sym, ◌∙◌}
 use Rattle.lock_table.proofs.Laws as laws
 use Rattle.lock_table.proofs.move_ends.Goals as goal
 

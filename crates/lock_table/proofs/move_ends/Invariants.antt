@@ -1,10 +1,7 @@
-use borrow.Author.Rules.{rules}
-use native.Mathlib.Omega.{arith}
-use mathlib.Core.Path.{◌≡◌, refl, sym, ◌∙◌}
+use mathlib.Core.Path.{◌≡◌}
 use Prim.Native.Nat.{◌-◌}
 use lib.ListN.{length}
 use Rattle.lock_table.specs.Locks.{moved}
-use Rattle.lock_table.proofs.Laws as laws
 use Rattle.lock_table.proofs.move_ends.Given as goal
 
 abbrev pub invariant-loop-k : goal.invariant-loop-k

@@ -1,11 +1,8 @@
-use borrow.Author.Rules.{rules}
-use native.Mathlib.Omega.{arith}
-use mathlib.Core.Path.{◌≡◌, refl, sym, ap, ◌∙◌}
-use Prim.Native.Nat.{ℕ, ◌+◌, ◌-◌}
+use mathlib.Core.Path.{◌≡◌}
+use Prim.Native.Nat.{◌+◌, ◌-◌}
 use lib.ListN.{length, drop}
 use lib.Seq.{sets}
 use Rattle.page_list.specs.Pages.{pages_of}
-use Rattle.lock_table.proofs.Laws as laws
 use Rattle.lock_table.proofs.put_pages.Given as goal
 
 abbrev pub invariant-loop-i : goal.invariant-loop-i

@@ -1,4 +1,3 @@
-use borrow.Author.Rules.{rules}
 use native.Mathlib.Omega.{arith}
 use Rattle.lock_table.proofs.Laws as laws
 use Rattle.lock_table.proofs.remove_list.Goals as goal

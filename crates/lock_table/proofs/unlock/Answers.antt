@@ -1,4 +1,3 @@
-use borrow.Author.Rules.{rules}
 use Rattle.page_list.specs.Pages.{pages_of}
 use Rattle.lock_table.proofs.Laws as laws
 use Rattle.lock_table.proofs.unlock.Goals as goal

@@ -1,4 +1,3 @@
-use borrow.Author.Rules.{rules}
 use Rattle.layout.specs.Layout.{entries_of}
 use Rattle.mapping.proofs.Marks.{built_is}
 use Rattle.mapping.proofs.build.Goals as goal

@@ -1,4 +1,3 @@
-use borrow.Author.Rules.{rules}
 use mathlib.Core.Path.{◌∙◌}
 use Rattle.mapping.proofs.Marks.{all_cleared}
 use Rattle.mapping.proofs.clear.Goals as goal

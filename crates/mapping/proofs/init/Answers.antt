@@ -1,4 +1,3 @@
-use borrow.Author.Rules.{rules}
 use lib.ListN.{length}
 use Rattle.layout.specs.Layout.{entries_of}
 use Rattle.mapping.proofs.Marks.{init_set, init_clear}

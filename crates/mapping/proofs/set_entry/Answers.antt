@@ -2,7 +2,6 @@ use mathlib.Core.Bool.{true}
 use mathlib.Core.Path.{◌≡◌, ap, ◌∙◌}
 use Prim.Native.Nat.{ℕ, ◌+◌, ◌-◌}
 use native.Mathlib.Omega.{arith}
-use borrow.Author.Rules.{rules}
 use Rattle.laws.specs.Ranges.{between}
 use Rattle.bitmap.specs.Pages.{written}
 use Rattle.bitmap.proofs.Steps.{run_none, run_end_lem}

@@ -1,10 +1,8 @@
 use borrow.Author.Rules.{rules}
 use mathlib.Core.Bool.{true}
-use mathlib.Core.Path.{◌≡◌, refl, sym, ap, ◌∙◌}
-use Prim.Native.Nat.{◌-◌, ◌≤◌}
+use mathlib.Core.Path.{refl, sym, ap, ◌∙◌}
 use native.Mathlib.Omega.{arith}
 use lib.ListN.{length, drop}
-use Rattle.bitmap.specs.Pages.{written}
 use Rattle.bitmap.proofs.Map.{length_written}
 use Rattle.layout.specs.Layout.{entries_of, is_ram}
 use Rattle.mapping.proofs.Marks.{ram_step, ram_end}

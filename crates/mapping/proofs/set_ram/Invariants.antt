@@ -1,14 +1,10 @@
 -- The invariant: the RAM of the entries from `i` on is still to be set.
-use borrow.Author.Rules.{rules}
 use mathlib.Core.Bool.{true}
-use mathlib.Core.Path.{◌≡◌, refl, sym, ap, ◌∙◌}
+use mathlib.Core.Path.{◌≡◌}
 use Prim.Native.Nat.{◌-◌, ◌≤◌}
-use native.Mathlib.Omega.{arith}
-use lib.ListN.{length, drop}
+use lib.ListN.{drop}
 use Rattle.bitmap.specs.Pages.{written}
-use Rattle.bitmap.proofs.Map.{length_written}
 use Rattle.layout.specs.Layout.{entries_of, is_ram}
-use Rattle.mapping.proofs.Marks.{ram_step, ram_end}
 use Rattle.mapping.proofs.set_ram.Given as goal
 
 abbrev pub invariant-loop-i : goal.invariant-loop-i

@@ -1,4 +1,3 @@
-use borrow.Author.Rules.{rules}
 use Prim.Native.Nat.{◌+◌}
 use Rattle.bitmap.proofs.Steps.{run_one}
 use Rattle.mapping.proofs.Marks.{permitted_is}

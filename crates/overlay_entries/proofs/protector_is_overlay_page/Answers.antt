@@ -1,4 +1,3 @@
-use borrow.Author.Rules.{rules}
 use mathlib.Core.Path.{refl}
 use Rattle.overlay_entries.proofs.Laws as laws
 use Rattle.overlay_entries.proofs.protector_is_overlay_page.Goals as goal

@@ -1,4 +1,3 @@
-use borrow.Author.Rules.{rules}
 use Rattle.overlay_refusals.proofs.Laws as laws
 use Rattle.overlay_refusals.proofs.add_code.Goals as goal
 

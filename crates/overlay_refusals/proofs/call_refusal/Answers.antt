@@ -1,4 +1,3 @@
-use borrow.Author.Rules.{rules}
 use mathlib.Core.Path.{refl, sym, ◌∙◌}
 use Rattle.laws.specs.Refusal.{refuses, passes}
 use Rattle.call_refusals.proofs.Laws.{lent_refuses, lent_passes}

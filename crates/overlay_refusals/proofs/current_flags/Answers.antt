@@ -1,4 +1,3 @@
-use borrow.Author.Rules.{rules}
 use Rattle.mapping.specs.Maps.{perms}
 use Rattle.overlay_refusals.proofs.Laws as laws
 use Rattle.overlay_refusals.proofs.current_flags.Goals as goal

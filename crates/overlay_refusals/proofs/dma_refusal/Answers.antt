@@ -1,4 +1,3 @@
-use borrow.Author.Rules.{rules}
 use mathlib.Core.Path.{sym, ◌∙◌}
 use Rattle.laws.specs.Refusal.{when_refuses, when_passes}
 use Rattle.overlay_refusals.specs.Refusals.{dma_refusal}

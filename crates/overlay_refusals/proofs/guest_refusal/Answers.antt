@@ -1,6 +1,4 @@
-use borrow.Author.Rules.{rules}
 use mathlib.Core.Path.{sym, ap, ◌∙◌}
-use borrow.Author.Tests.{not-true, not-false}
 use Rattle.laws.specs.Refusal.{refuses, passes, when_refuses, when_passes}
 use Rattle.overlay_refusals.specs.Refusals.{within, guest_refusal}
 use Rattle.overlay_refusals.proofs.Laws as laws

@@ -1,6 +1,4 @@
-use borrow.Author.Rules.{rules}
 use mathlib.Core.Path.{sym, ◌∙◌}
-use borrow.Author.Tests.{not-true, not-false}
 use Rattle.laws.specs.Bools.{and_ends, and_goes}
 use Rattle.overlay_refusals.specs.Refusals.{within}
 use Rattle.overlay_refusals.proofs.is_within.Goals as goal

@@ -1,5 +1,3 @@
-use borrow.Author.Rules.{rules}
-use borrow.Author.Tests.{not-true, not-false}
 use Rattle.overlay_refusals.proofs.Laws as laws
 use Rattle.overlay_refusals.proofs.known_refusal.Goals as goal
 

@@ -2,7 +2,6 @@ use mathlib.Core.Path.{◌≡◌}
 use Rattle.permissions.specs.Flags.{vtl_of}
 use Rattle.overlay_table.specs.Overlays.{place_of}
 use Rattle.call_refusals.specs.Buffers.{overlays_of}
-use borrow.Author.Rules.{rules}
 use mathlib.Core.Path.{sym, ap, ◌∙◌}
 use mathlib.Core.List.{List}
 use Prim.Native.Nat.{ℕ}
@@ -20,7 +19,7 @@ unfolding register_refusal
 returns-then-n-ne0 c =
     let a = c.args in
     let both : (c.refused.result.refusal ≡ register_refusal a.state.now (fits_in a.state.now a.lengths) a.shared.now a.tables.now a.current a.vtl a.gpn a.source a.checked a.new) × (c.refused.result.refusal ≡ 0 → c.refused.result.place ≡ place_of (overlays_of a.tables.now (vtl_of a.vtl)) a.gpn) =
-        laws.stopped _ _ _ _ c.refused.ensures c.if-n-ne0.true (laws.call_ends a.state.now (fits_in a.state.now a.lengths) a.vtl _ c.call_refusal-n.ensures _ c.if-n-ne0.true) in
+    laws.stopped _ _ _ _ c.refused.ensures c.if-n-ne0.true (laws.call_ends a.state.now (fits_in a.state.now a.lengths) a.vtl _ c.call_refusal-n.ensures _ c.if-n-ne0.true) in
     record { refusal_value = both.0; place_value = both.1 }
 
 pub returns-then-m-ne0 : goal.returns-then-m-ne0
@@ -28,7 +27,7 @@ unfolding register_refusal
 returns-then-m-ne0 c =
     let a = c.args in
     let both : (c.refused-then-m-ne0.result.refusal ≡ register_refusal a.state.now (fits_in a.state.now a.lengths) a.shared.now a.tables.now a.current a.vtl a.gpn a.source a.checked a.new) × (c.refused-then-m-ne0.result.refusal ≡ 0 → c.refused-then-m-ne0.result.place ≡ place_of (overlays_of a.tables.now (vtl_of a.vtl)) a.gpn) =
-        laws.stopped _ _ _ _ c.refused-then-m-ne0.ensures c.if-m-ne0.true (laws.call_goes a.state.now (fits_in a.state.now a.lengths) a.vtl _ c.call_refusal-n.ensures _ _ c.if-n-ne0.false
+    laws.stopped _ _ _ _ c.refused-then-m-ne0.ensures c.if-m-ne0.true (laws.call_goes a.state.now (fits_in a.state.now a.lengths) a.vtl _ c.call_refusal-n.ensures _ _ c.if-n-ne0.false
     (laws.flags_ends a.source a.checked a.new _ _ c.flags_refusal-m.ensures c.if-m-ne0.true)) in
     record { refusal_value = both.0; place_value = both.1 }
 
@@ -48,6 +47,9 @@ page_refusal_in-k-requires c =
 pub returns : goal.returns
 unfolding register_refusal
 returns c =
-    let a = c.args in record { refusal_value = laws.call_goes a.state.now (fits_in a.state.now a.lengths) a.vtl _ c.call_refusal-n.ensures _ _ c.if-n-ne0.false (laws.flags_go a.source a.checked a.new _ _ _ c.flags_refusal-m.ensures c.if-m-ne0.false
+    let a = c.args in record {
+      refusal_value = laws.call_goes a.state.now (fits_in a.state.now a.lengths) a.vtl _ c.call_refusal-n.ensures _ _ c.if-n-ne0.false (laws.flags_go a.source a.checked a.new _ _ _ c.flags_refusal-m.ensures c.if-m-ne0.false
           (c.page_refusal_in-k.ensures ∙ ap (λ (v : GuestVtl). page_refusal (entries_in a.state.now) a.shared.now (overlays_of a.tables.now v) (locks_of a.tables.now v)
-          a.gpn a.source a.current a.checked a.new) c.vtl_of-v.ensures)); place_value = λ z. laws.found a.tables.now _ _ a.vtl a.gpn _ c.vtl_of-v.ensures c.overlays_of.ensures c.find_entry-place.ensures }
+          a.gpn a.source a.current a.checked a.new) c.vtl_of-v.ensures));
+      place_value = λ z. laws.found a.tables.now _ _ a.vtl a.gpn _ c.vtl_of-v.ensures c.overlays_of.ensures c.find_entry-place.ensures;
+    }

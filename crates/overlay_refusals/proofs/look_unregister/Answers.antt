@@ -2,7 +2,6 @@ use mathlib.Core.Path.{◌≡◌}
 use Rattle.permissions.specs.Flags.{vtl_of}
 use Rattle.overlay_table.specs.Overlays.{place_of}
 use Rattle.call_refusals.specs.Buffers.{overlays_of}
-use borrow.Author.Rules.{rules}
 use native.Mathlib.Omega.{arith}
 use mathlib.Core.Path.{refl, sym, ◌∙◌}
 use Rattle.laws.specs.Refusal.{refuses, passes}
@@ -17,7 +16,7 @@ unfolding unregister_refusal
 returns-then-n-ne0 c =
     let a = c.args in
     let both : (c.refused.result.refusal ≡ unregister_refusal a.state.now (fits_in a.state.now a.lengths) a.tables.now a.vtl a.gpn) × (c.refused.result.refusal ≡ 0 → c.refused.result.place ≡ place_of (overlays_of a.tables.now (vtl_of a.vtl)) a.gpn) =
-        laws.stopped _ _ _ _ c.refused.ensures c.if-n-ne0.true (laws.call_ends a.state.now (fits_in a.state.now a.lengths) a.vtl _ c.call_refusal-n.ensures _ c.if-n-ne0.true) in
+    laws.stopped _ _ _ _ c.refused.ensures c.if-n-ne0.true (laws.call_ends a.state.now (fits_in a.state.now a.lengths) a.vtl _ c.call_refusal-n.ensures _ c.if-n-ne0.true) in
     record { refusal_value = both.0; place_value = both.1 }
 
 pub overlays_of-requires : goal.overlays_of-requires
@@ -30,7 +29,7 @@ unfolding unregister_refusal
 returns-then-place-eq0 c =
     let a = c.args in
     let both : (c.refused-then-place-eq0.result.refusal ≡ unregister_refusal a.state.now (fits_in a.state.now a.lengths) a.tables.now a.vtl a.gpn) × (c.refused-then-place-eq0.result.refusal ≡ 0 → c.refused-then-place-eq0.result.place ≡ place_of (overlays_of a.tables.now (vtl_of a.vtl)) a.gpn) =
-        laws.stopped _ _ _ _ c.refused-then-place-eq0.ensures (λ z. absurd (omega (arith, z))) (laws.call_goes a.state.now (fits_in a.state.now a.lengths) a.vtl _ c.call_refusal-n.ensures _ _ c.if-n-ne0.false
+    laws.stopped _ _ _ _ c.refused-then-place-eq0.ensures (λ z. absurd (omega (arith, z))) (laws.call_goes a.state.now (fits_in a.state.now a.lengths) a.vtl _ c.call_refusal-n.ensures _ _ c.if-n-ne0.false
     (refuses _ _ _ (laws.unknown a.tables.now _ _ a.vtl a.gpn _ c.vtl_of-v.ensures c.overlays_of.ensures c.find_entry-place.ensures c.if-place-eq0.true))) in
     record { refusal_value = both.0; place_value = both.1 }
 

@@ -1,4 +1,3 @@
-use borrow.Author.Rules.{rules}
 use mathlib.Core.Path.{sym, ◌∙◌}
 use Rattle.layout.specs.Layout.{entries_of}
 use Rattle.overlay_refusals.proofs.Laws as laws

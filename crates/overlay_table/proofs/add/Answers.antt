@@ -1,7 +1,5 @@
-use borrow.Author.Rules.{rules}
 use native.Mathlib.Omega.{arith}
 use mathlib.Core.Path.{refl}
-use Prim.Native.Nat.{◌-◌}
 use Rattle.overlay_table.proofs.Laws as laws
 use Rattle.overlay_table.proofs.add.Goals as goal
 

@@ -1,5 +1,3 @@
-use borrow.Author.Rules.{rules}
-use Prim.Native.Nat.{◌-◌}
 use Rattle.overlay_table.proofs.Laws as laws
 use Rattle.overlay_table.proofs.entry_at.Goals as goal
 

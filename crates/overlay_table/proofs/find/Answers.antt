@@ -1,8 +1,7 @@
-use borrow.Author.Rules.{rules}
 use native.Mathlib.Omega.{arith}
-use mathlib.Core.Path.{◌≡◌, sym, ap, ◌∙◌}
-use Prim.Native.Nat.{ℕ, ◌+◌, ◌*◌, ◌≤◌}
-use Rattle.overlay_table.specs.Overlays.{place_from, place_of}
+use mathlib.Core.Path.{sym, ap, ◌∙◌}
+use Prim.Native.Nat.{ℕ}
+use Rattle.overlay_table.specs.Overlays.{place_from}
 use Rattle.overlay_table.proofs.Laws as laws
 use Rattle.overlay_table.proofs.find.Goals as goal
 

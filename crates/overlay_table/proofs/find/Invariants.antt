@@ -1,9 +1,6 @@
-use borrow.Author.Rules.{rules}
-use native.Mathlib.Omega.{arith}
-use mathlib.Core.Path.{◌≡◌, sym, ap, ◌∙◌}
-use Prim.Native.Nat.{ℕ, ◌+◌, ◌*◌, ◌≤◌}
+use mathlib.Core.Path.{◌≡◌}
+use Prim.Native.Nat.{◌+◌, ◌*◌, ◌≤◌}
 use Rattle.overlay_table.specs.Overlays.{place_from, place_of}
-use Rattle.overlay_table.proofs.Laws as laws
 use Rattle.overlay_table.proofs.find.Given as goal
 
 abbrev pub invariant-loop-left : goal.invariant-loop-left

@@ -1,9 +1,8 @@
-use borrow.Author.Rules.{rules}
 use native.Mathlib.Omega.{arith}
-use mathlib.Core.Path.{◌≡◌, sym, ap, ◌∙◌}
-use Prim.Native.Nat.{ℕ, ◌+◌, ◌*◌, ◌≤◌, ◌<◌}
-use Rattle.overlay_table.specs.Overlays.{place_from, place_of}
-use Rattle.overlay_table.specs.Search.{key_of, place_for}
+use mathlib.Core.Path.{sym, ap, ◌∙◌}
+use Prim.Native.Nat.{ℕ}
+use Rattle.overlay_table.specs.Overlays.{place_from}
+use Rattle.overlay_table.specs.Search.{key_of}
 use Rattle.overlay_table.proofs.Laws as laws
 use Rattle.overlay_table.proofs.find_entry.Goals as goal
 

@@ -1,4 +1,3 @@
-use borrow.Author.Rules.{rules}
 use native.Mathlib.Omega.{arith}
 use Rattle.overlay_table.proofs.Laws as laws
 use Rattle.overlay_table.proofs.find_few.Goals as goal

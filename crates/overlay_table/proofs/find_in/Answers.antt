@@ -1,13 +1,11 @@
 use native.Mathlib.Omega.{arith}
-use mathlib.Core.Bool.{Bool, true, false}
 use mathlib.Core.List.{List}
-use mathlib.Core.Path.{◌≡◌, refl, sym, ap, ◌∙◌, subst}
-use Prim.Native.Nat.{ℕ, ◌+◌, ◌≤◌, ◌<◌}
-use lib.ListN.{length, get_or, take, drop}
+use mathlib.Core.Path.{◌≡◌, sym, ap, ◌∙◌}
+use Prim.Native.Nat.{ℕ, ◌<◌}
+use lib.ListN.{get_or, take}
 use lib.Seq.{length-take-le, get_or-take}
 use Rattle.overlay_table.specs.declared.OverlayKey.{OverlayKey}
-use Rattle.overlay_table.specs.declared.Found.TheVariants.{At, Nothing}
-use Rattle.overlay_table.specs.Search.{is_of, none, find_from}
+use Rattle.overlay_table.specs.Search.{is_of, none}
 use Rattle.overlay_table.proofs.Steps.{seen, past, none_left}
 use Rattle.overlay_table.proofs.find_in.Goals as goal
 
@@ -28,8 +26,7 @@ loop-index-preserved c =
     let a = c.args in
     let es = a.entries.now in
     let i = c.loop-index.index in
-    let l = length-take-le a.used es c.requires in
-    (
+    let l = length-take-le a.used es c.requires in (
       omega arith,
       past (take a.used es) a.key i (omega (arith, l)) (same es a.used i a.key (omega arith) ∙ sym c.is_of.ensures ∙ c.if-is_of.false) ∙ c.loop-index.invariant.1,
     )

@@ -1,9 +1,5 @@
-use borrow.Author.Rules.{rules}
 use native.Mathlib.Omega.{arith}
-use mathlib.Core.Path.{◌≡◌, refl, sym, ◌∙◌}
-use Prim.Native.Nat.{◌+◌, ◌*◌, ◌≤◌, ◌<◌}
-use lib.ListN.{length}
-use Rattle.overlay_table.specs.Search.{place_for}
+use mathlib.Core.Path.{refl, sym, ◌∙◌}
 use Rattle.overlay_table.proofs.Laws as laws
 use Rattle.overlay_table.proofs.find_left.Goals as goal
 

@@ -1,10 +1,7 @@
-use borrow.Author.Rules.{rules}
-use native.Mathlib.Omega.{arith}
-use mathlib.Core.Path.{◌≡◌, refl, sym, ◌∙◌}
+use mathlib.Core.Path.{◌≡◌}
 use Prim.Native.Nat.{◌+◌, ◌*◌, ◌≤◌, ◌<◌}
 use lib.ListN.{length}
 use Rattle.overlay_table.specs.Search.{place_for}
-use Rattle.overlay_table.proofs.Laws as laws
 use Rattle.overlay_table.proofs.find_left.Given as goal
 
 abbrev pub invariant-loop-rest : goal.invariant-loop-rest

@@ -1,9 +1,6 @@
-use borrow.Author.Rules.{rules}
 use native.Mathlib.Omega.{arith}
-use mathlib.Core.Path.{◌≡◌, refl, sym, ◌∙◌}
-use Prim.Native.Nat.{◌-◌}
-use lib.ListN.{drop}
-use Rattle.page_list.specs.Pages.{pages_of, among}
+use mathlib.Core.Path.{refl, sym, ◌∙◌}
+use Rattle.page_list.specs.Pages.{pages_of}
 use Rattle.page_list.proofs.Laws as laws
 use Rattle.page_list.proofs.is_among.Goals as goal
 

@@ -1,10 +1,7 @@
-use borrow.Author.Rules.{rules}
-use native.Mathlib.Omega.{arith}
-use mathlib.Core.Path.{◌≡◌, refl, sym, ◌∙◌}
+use mathlib.Core.Path.{◌≡◌}
 use Prim.Native.Nat.{◌-◌}
 use lib.ListN.{drop}
 use Rattle.page_list.specs.Pages.{pages_of, repeats}
-use Rattle.page_list.proofs.Laws as laws
 use Rattle.page_list.proofs.is_repeated.Given as goal
 
 abbrev pub invariant-loop-i : goal.invariant-loop-i

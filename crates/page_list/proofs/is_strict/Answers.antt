@@ -1,10 +1,6 @@
-use borrow.Author.Rules.{rules}
 use native.Mathlib.Omega.{arith}
-use mathlib.Core.Path.{◌≡◌, sym, ◌∙◌}
-use Prim.Native.Nat.{◌-◌}
-use lib.ListN.{drop}
-use borrow.Author.Tests.{not-true, not-false}
-use Rattle.page_list.specs.Pages.{pages_of, steps_from, strict}
+use mathlib.Core.Path.{sym, ◌∙◌}
+use Rattle.page_list.specs.Pages.{pages_of}
 use Rattle.page_list.proofs.Laws as laws
 use Rattle.page_list.proofs.is_strict.Goals as goal
 

@@ -1,11 +1,7 @@
-use borrow.Author.Rules.{rules}
-use native.Mathlib.Omega.{arith}
-use mathlib.Core.Path.{◌≡◌, sym, ◌∙◌}
+use mathlib.Core.Path.{◌≡◌}
 use Prim.Native.Nat.{◌-◌}
 use lib.ListN.{drop}
-use borrow.Author.Tests.{not-true, not-false}
 use Rattle.page_list.specs.Pages.{pages_of, steps_from, strict}
-use Rattle.page_list.proofs.Laws as laws
 use Rattle.page_list.proofs.is_strict.Given as goal
 
 abbrev pub invariant-loop-i : goal.invariant-loop-i

@@ -1,4 +1,3 @@
-use borrow.Author.Rules.{rules}
 use Rattle.page_list.proofs.Laws.{halves}
 use Rattle.page_list.proofs.number.Goals as goal
 

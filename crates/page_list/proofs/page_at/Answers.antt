@@ -1,4 +1,3 @@
-use borrow.Author.Rules.{rules}
 use mathlib.Core.Path.{sym, ◌∙◌}
 use Rattle.page_list.specs.Pages.{number_at}
 use Rattle.page_list.proofs.Laws as laws

@@ -1,11 +1,6 @@
-use borrow.Author.Rules.{rules}
-use native.Mathlib.Omega.{arith}
-use mathlib.Core.Path.{◌≡◌, sym, ap, ◌∙◌}
-use Prim.Native.Nat.{ℕ, suc, ◌+◌, ◌-◌, ◌<◌}
-use lib.Dec.{eqb}
-use borrow.Author.Tests.{not-true, not-false}
+use mathlib.Core.Path.{◌≡◌}
+use Prim.Native.Nat.{suc, ◌+◌, ◌-◌, ◌<◌}
 use Rattle.page_list.specs.Runs.{part, neighbours}
-use Rattle.page_list.proofs.RunLaws as laws
 use Rattle.page_list.proofs.run_at.Given as goal
 
 abbrev pub invariant-loop-i : goal.invariant-loop-i

@@ -1,4 +1,3 @@
-use borrow.Author.Rules.{rules}
 use mathlib.Core.Path.{ap, ◌∙◌}
 use Rattle.permissions.specs.declared.IsolationType.{IsolationType}
 use Rattle.protector_state.specs.Reply.{flat_of}

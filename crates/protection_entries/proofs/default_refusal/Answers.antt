@@ -1,6 +1,4 @@
-use borrow.Author.Rules.{rules}
 use mathlib.Core.Path.{refl, sym, ◌∙◌}
-use borrow.Author.Tests.{not-true, not-false}
 use Rattle.laws.specs.Refusal.{refuses, passes}
 use Rattle.call_refusals.proofs.Laws.{lent_refuses, lent_passes}
 use Rattle.protection_entries.specs.Calls.{default_refusal}

@@ -1,4 +1,3 @@
-use borrow.Author.Rules.{rules}
 use mathlib.Core.Path.{◌∙◌}
 use Rattle.protection_entries.proofs.Laws as laws
 use Rattle.protection_entries.proofs.first_piece.Goals as goal

@@ -1,4 +1,3 @@
-use borrow.Author.Rules.{rules}
 use mathlib.Core.Path.{◌∙◌}
 use Rattle.protection_entries.proofs.Laws as laws
 use Rattle.protection_entries.proofs.has_locked_page.Goals as goal

@@ -1,12 +1,8 @@
-use borrow.Author.Rules.{rules}
-use mathlib.Core.Path.{◌≡◌, refl, sym, ◌∙◌}
+use mathlib.Core.Path.{◌≡◌}
 use lib.ListN.{drop}
-use native.Mathlib.Omega.{arith}
 use Prim.Native.Nat.{◌-◌}
-use Rattle.bitmap.specs.Pages.{bit_at}
 use Rattle.page_list.specs.Pages.{pages_of}
 use Rattle.protection_entries.specs.Calls.{any_shared}
-use Rattle.protection_entries.proofs.Laws as laws
 use Rattle.protection_entries.proofs.is_any_shared.Given as goal
 
 abbrev pub invariant-loop-i : goal.invariant-loop-i

@@ -1,4 +1,3 @@
-use borrow.Author.Rules.{rules}
 use mathlib.Core.Path.{refl, sym, ◌∙◌}
 use Rattle.laws.specs.Refusal.{first_refuses, first_passes, when_refuses, when_passes}
 use Rattle.protection_entries.proofs.pages_refusal.Goals as goal

@@ -1,6 +1,4 @@
-use borrow.Author.Rules.{rules}
 use mathlib.Core.Path.{sym, ap, ◌∙◌}
-use borrow.Author.Tests.{not-true, not-false}
 use Rattle.laws.specs.Refusal.{refuses, passes, when_refuses, when_passes}
 use Rattle.permissions.specs.declared.GuestVtl.{GuestVtl}
 use Rattle.call_refusals.proofs.Laws.{lent_refuses, lent_ready, lent_passes, tables_fit}

@@ -1,4 +1,3 @@
-use borrow.Author.Rules.{rules}
 use mathlib.Core.Path.{◌∙◌}
 use Rattle.permissions.specs.Flags.{vtl_of}
 use Rattle.mapping.specs.Maps.{maps}

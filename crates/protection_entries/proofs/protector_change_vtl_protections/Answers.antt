@@ -1,4 +1,3 @@
-use borrow.Author.Rules.{rules}
 use Rattle.permissions.specs.Flags.{vtl_of}
 use Rattle.mapping.specs.Maps.{maps}
 use Rattle.call_refusals.specs.Buffers.{buffers}

@@ -1,4 +1,3 @@
-use borrow.Author.Rules.{rules}
 use mathlib.Core.Path.{◌∙◌}
 use Rattle.protector_state.specs.State.{entries_in}
 use Rattle.default_change.specs.Renewed.{renewed}

@@ -1,4 +1,3 @@
-use borrow.Author.Rules.{rules}
 use Rattle.protector.proofs.Laws as laws
 use native.Mathlib.Omega.{arith}
 use mathlib.Core.Path.{ap, ◌∙◌}
@@ -19,5 +18,9 @@ returns c =
     let t = a.pages.now in
     let m = maps a.private.now a.shared.now a.read.now a.write.now a.kernel.now a.user.now in
     let x = c.done-next.result in
-    let e = laws.done_is s t _ (settings_of s) _ _ (request_of s) x c.settings-settings.ensures c.phase-phase.ensures c.load-request.ensures c.done-next.ensures in record { maps_after = c.apply_done.ensures.maps_after ∙ ap (λ (y : Step). applied t y.writes m) e; state_after = c.apply_done.ensures.state_after ∙ ap (λ (y : Step). with_request y.phase y.request s) e; value = c.apply_done.ensures.value ∙ ap
-            (λ (y : Step). flat_of (settings_of s).isolation y.answer) e }
+    let e = laws.done_is s t _ (settings_of s) _ _ (request_of s) x c.settings-settings.ensures c.phase-phase.ensures c.load-request.ensures c.done-next.ensures in record {
+      maps_after = c.apply_done.ensures.maps_after ∙ ap (λ (y : Step). applied t y.writes m) e;
+      state_after = c.apply_done.ensures.state_after ∙ ap (λ (y : Step). with_request y.phase y.request s) e;
+      value = c.apply_done.ensures.value ∙ ap
+          (λ (y : Step). flat_of (settings_of s).isolation y.answer) e;
+    }

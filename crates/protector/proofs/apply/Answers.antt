@@ -1,4 +1,3 @@
-use borrow.Author.Rules.{rules}
 use Rattle.mapping.specs.Maps.{maps}
 use Rattle.protector.proofs.Laws as laws
 use Rattle.protector.proofs.apply.Goals as goal

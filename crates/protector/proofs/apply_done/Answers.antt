@@ -1,4 +1,3 @@
-use borrow.Author.Rules.{rules}
 use Rattle.mapping.specs.Maps.{maps}
 use Rattle.protector_state.specs.State.{settings_of}
 use Rattle.protector.proofs.Laws as laws
@@ -20,5 +19,9 @@ pub returns : goal.returns
 returns c =
     let a = c.args in
     let m = maps a.private.now a.shared.now a.read.now a.write.now a.kernel.now a.user.now in
-    let s = settings_of a.state.now in record { maps_after = laws.marks_applied s a.request a.pages.now a.next m _ _ _ c.mark.ensures c.mark-2.ensures c.update_default_permissions.ensures; state_after = laws.next_saved s a.request a.pages.now a.next m a.state.now _ _ c.save.ensures c.next_request.ensures; value = laws.next_replies s
-            a.request a.pages.now a.next m _ _ c.next_reply-reply.ensures c.run_in-run.ensures }
+    let s = settings_of a.state.now in record {
+      maps_after = laws.marks_applied s a.request a.pages.now a.next m _ _ _ c.mark.ensures c.mark-2.ensures c.update_default_permissions.ensures;
+      state_after = laws.next_saved s a.request a.pages.now a.next m a.state.now _ _ c.save.ensures c.next_request.ensures;
+      value = laws.next_replies s
+          a.request a.pages.now a.next m _ _ c.next_reply-reply.ensures c.run_in-run.ensures;
+    }

@@ -1,4 +1,3 @@
-use borrow.Author.Rules.{rules}
 use Rattle.protector.proofs.apply_step.Goals as goal
 
 pub returns : goal.returns

@@ -1,4 +1,3 @@
-use borrow.Author.Rules.{rules}
 use mathlib.Core.Path.{ap, ◌∙◌}
 use mathlib.Core.Bool.{Bool}
 use Rattle.mapping.specs.Maps.{maps}
@@ -18,5 +17,9 @@ pub returns : goal.returns
 unfolding start_of flat_of asked_of
 returns c =
     let a = c.args in
-    let m = maps a.private.now a.shared.now a.read.now a.write.now a.kernel.now a.user.now in record { maps_after = c.apply.ensures ∙ ap (λ (w : Writes). applied a.pages.now w m)
-          (c.clears-writes.ensures ∙ ap (λ (b : Bool). cleared b a.vtl a.share a.count) c.is_tracked.ensures); state_after = c.save.ensures ∙ ap (λ (q : Request). with_request Wait q a.state.now) c.asked.ensures; value = c.plain.ensures }
+    let m = maps a.private.now a.shared.now a.read.now a.write.now a.kernel.now a.user.now in record {
+      maps_after = c.apply.ensures ∙ ap (λ (w : Writes). applied a.pages.now w m)
+          (c.clears-writes.ensures ∙ ap (λ (b : Bool). cleared b a.vtl a.share a.count) c.is_tracked.ensures);
+      state_after = c.save.ensures ∙ ap (λ (q : Request). with_request Wait q a.state.now) c.asked.ensures;
+      value = c.plain.ensures;
+    }

@@ -1,6 +1,4 @@
-use borrow.Author.Rules.{rules}
 use mathlib.Core.Path.{refl, ap}
-use borrow.Author.Tests.{not-true, not-false}
 use Rattle.laws.specs.Bools.{and_ends, and_goes}
 use Rattle.visibility_steps.specs.Steps.{is_vtl0}
 use Rattle.protector.proofs.checks_permissions.Goals as goal

@@ -1,5 +1,3 @@
-use borrow.Author.Rules.{rules}
-use borrow.Author.Tests.{not-true, not-false}
 use mathlib.Core.Path.{sym, ◌∙◌}
 use Rattle.laws.specs.Bools.{and_goes, and_ends}
 use Rattle.protector.proofs.is_nothing.Goals as goal

@@ -1,6 +1,4 @@
-use borrow.Author.Rules.{rules}
 use mathlib.Core.Path.{sym, ◌∙◌}
-use borrow.Author.Tests.{not-true, not-false}
 use Rattle.mapping.specs.Maps.{perms}
 use Rattle.protector_state.specs.State.{settings_of}
 use Rattle.protector.proofs.Laws as laws
@@ -25,13 +23,12 @@ returns-then-count-at c =
     (sym c.is_default0.ensures ∙ c.if-not-is_default0.false) (sym c.is_tracked.ensures ∙ c.if-not-is_tracked.false) c.if-count-at.true
 
 pub update_permissions_at-requires : goal.update_permissions_at-requires
-update_permissions_at-requires c =
-    (
-      c.if-count-at.false,
-      c.requires.1,
-      laws.default_run_lem (settings_of c.args.state.now) c.args.phase c.args.pages.now c.args.count c.args.at
-          (perms c.args.read.now c.args.write.now c.args.kernel.now c.args.user.now) (sym c.is_default0.ensures ∙ c.if-not-is_default0.false) _ c.requires.2,
-    )
+update_permissions_at-requires c = (
+  c.if-count-at.false,
+  c.requires.1,
+  laws.default_run_lem (settings_of c.args.state.now) c.args.phase c.args.pages.now c.args.count c.args.at
+      (perms c.args.read.now c.args.write.now c.args.kernel.now c.args.user.now) (sym c.is_default0.ensures ∙ c.if-not-is_default0.false) _ c.requires.2,
+)
 
 pub returns : goal.returns
 returns c =

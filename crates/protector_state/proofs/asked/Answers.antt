@@ -1,6 +1,5 @@
-use borrow.Author.Rules.{rules}
 use mathlib.Core.Path.{sym, ap, ◌∙◌}
-use Rattle.protector_state.specs.Reply.{plain, asked_of}
+use Rattle.protector_state.specs.Reply.{asked_of}
 use Rattle.protector_state.proofs.asked.Goals as goal
 
 pub returns-in-Wait : goal.returns-in-Wait

@@ -1,4 +1,3 @@
-use borrow.Author.Rules.{rules}
 use mathlib.Core.Path.{ap, ◌∙◌}
 use Rattle.visibility_steps.specs.Steps.{or_none}
 use Rattle.protector_state.proofs.default_vtl1.Goals as goal

@@ -1,4 +1,3 @@
-use borrow.Author.Rules.{rules}
 use mathlib.Core.Path.{sym, ap, ◌∙◌}
 use Rattle.protector_state.specs.State.{default_word}
 use Rattle.protector_state.proofs.default_word.Goals as goal

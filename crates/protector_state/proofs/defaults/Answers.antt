@@ -1,4 +1,3 @@
-use borrow.Author.Rules.{rules}
 use Rattle.protector_state.proofs.defaults.Goals as goal
 
 pub returns : goal.returns

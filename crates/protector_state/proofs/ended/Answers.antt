@@ -1,4 +1,3 @@
-use borrow.Author.Rules.{rules}
 use Rattle.protector_state.proofs.Laws as laws
 use Rattle.protector_state.proofs.ended.Goals as goal
 

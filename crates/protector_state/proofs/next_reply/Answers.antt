@@ -1,4 +1,3 @@
-use borrow.Author.Rules.{rules}
 use mathlib.Core.Path.{sym, ap, ◌∙◌}
 use Rattle.visibility_steps.specs.declared.Turn.{Turn}
 use Rattle.visibility_steps.specs.Next.{answer_by}

@@ -1,4 +1,3 @@
-use borrow.Author.Rules.{rules}
 use mathlib.Core.Path.{sym, ap, ◌∙◌}
 use Rattle.protector_state.specs.State.{option_word}
 use Rattle.protector_state.proofs.option_word.Goals as goal

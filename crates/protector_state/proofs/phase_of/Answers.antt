@@ -1,4 +1,3 @@
-use borrow.Author.Rules.{rules}
 use borrow.Author.Tests.{eq-eqb, ne_eqb}
 use Rattle.protector_state.specs.State.{phase_of}
 use Rattle.protector_state.proofs.phase_of.Goals as goal

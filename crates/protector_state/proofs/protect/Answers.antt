@@ -1,4 +1,3 @@
-use borrow.Author.Rules.{rules}
 use Rattle.protector_state.proofs.protect.Goals as goal
 
 pub returns : goal.returns

@@ -1,4 +1,3 @@
-use borrow.Author.Rules.{rules}
 use mathlib.Core.Path.{ap, ◌∙◌}
 use Rattle.protector_state.specs.Reply.{finished}
 use Prim.Native.Nat.{ℕ}

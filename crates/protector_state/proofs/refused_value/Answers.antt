@@ -1,4 +1,3 @@
-use borrow.Author.Rules.{rules}
 use mathlib.Core.Path.{ap}
 use Rattle.protector_state.specs.Reply.{value}
 use Rattle.protector_state.proofs.refused_value.Goals as goal

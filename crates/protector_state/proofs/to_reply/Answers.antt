@@ -1,6 +1,5 @@
-use borrow.Author.Rules.{rules}
 use mathlib.Core.Path.{sym, ap, ◌∙◌}
-use Rattle.protector_state.specs.Reply.{finished, flat_of}
+use Rattle.protector_state.specs.Reply.{flat_of}
 use Rattle.protector_state.proofs.to_reply.Goals as goal
 
 pub returns-in-Done : goal.returns-in-Done

@@ -1,4 +1,3 @@
-use borrow.Author.Rules.{rules}
 use mathlib.Core.Path.{ap₂}
 use Rattle.protector_state.specs.Reply.{value}
 use Rattle.queries.proofs.fault_value.Goals as goal

@@ -1,10 +1,9 @@
-use borrow.Author.Rules.{rules}
 use native.Mathlib.Omega.{arith}
-use mathlib.Core.Path.{◌≡◌, refl, sym, ap, ◌∙◌}
-use Prim.Native.Nat.{ℕ, ◌-◌, ◌≤◌}
-use lib.ListN.{length, take, length-set}
+use mathlib.Core.Path.{refl, sym, ap, ◌∙◌}
+use Prim.Native.Nat.{ℕ}
+use lib.ListN.{length-set}
 use Rattle.page_list.specs.Pages.{pages_of}
-use Rattle.queries.specs.Queries.{visibilities, filled_by}
+use Rattle.queries.specs.Queries.{visibilities}
 use Rattle.laws.specs.Bools.{digit}
 use Rattle.bitmap.specs.Pages.{bit_at}
 use Rattle.queries.proofs.Laws as laws

@@ -1,13 +1,9 @@
-use borrow.Author.Rules.{rules}
-use native.Mathlib.Omega.{arith}
 use mathlib.Core.Path.{◌≡◌}
-use borrow.Author.Tests.{not-true, not-false}
 use Prim.Native.Nat.{◌+◌, ◌-◌}
 use lib.ListN.{drop}
 use Rattle.layout.specs.Layout.{entries_of, is_ram}
 use Rattle.page_list.specs.Pages.{pages_of}
 use Rattle.request_pages.specs.Request.{stop_at}
-use Rattle.request_pages.proofs.Table.{stop_end, stop_hit, stop_miss}
 use Rattle.queries.proofs.ram_before.Given as goal
 
 abbrev pub invariant-loop-i : goal.invariant-loop-i

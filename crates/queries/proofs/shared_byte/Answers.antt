@@ -1,4 +1,3 @@
-use borrow.Author.Rules.{rules}
 use mathlib.Core.Path.{sym, ap, ◌∙◌}
 use Rattle.laws.specs.Bools.{digit}
 use Rattle.queries.proofs.shared_byte.Goals as goal

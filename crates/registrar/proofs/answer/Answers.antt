@@ -1,4 +1,4 @@
-use Rattle.std.proofs.Common.{arith, rules}
+use Rattle.std.proofs.Common.{arith}
 use Rattle.registrar.proofs.Laws as laws
 use Rattle.registrar.proofs.answer.Goals as goal
 

@@ -1,4 +1,4 @@
-use Rattle.std.proofs.Common.{ℕ, ap, ◌∙◌, ap₂, rules}
+use Rattle.std.proofs.Common.{ℕ, ap, ◌∙◌, ap₂}
 use Rattle.registrar_steps.specs.declared.Request.{Request}
 use Rattle.registrar_state.specs.Buffers.{simple, with_request}
 use Rattle.registrar.proofs.ask.Goals as goal

@@ -1,6 +1,5 @@
-use Rattle.std.proofs.Common.{◌≡◌, ℕ, ◌+◌, ◌-◌, ◌≤◌, List, length, get_or, set, ap, ◌∙◌, arith, length-set, rules}
+use Rattle.std.proofs.Common.{ℕ, ◌+◌, List, get_or, set, ap, ◌∙◌, arith, length-set}
 use Rattle.abi.specs.RegistrarPlaces as place
-use Rattle.abi.specs.Lengths.{ram_len, registrar_len}
 use Rattle.registrar.proofs.Laws.{filled_to}
 use Rattle.registrar.proofs.Laws as laws
 use Rattle.registrar.proofs.build_state.Goals as goal

@@ -1,8 +1,6 @@
-use Rattle.std.proofs.Common.{◌≡◌, ℕ, ◌+◌, ◌-◌, ◌≤◌, List, length, get_or, set, ap, ◌∙◌, arith, length-set, rules}
-use Rattle.abi.specs.RegistrarPlaces as place
+use Rattle.std.proofs.Common.{◌≡◌, ◌-◌, ◌≤◌, length}
 use Rattle.abi.specs.Lengths.{ram_len, registrar_len}
 use Rattle.registrar.proofs.Laws.{filled_to}
-use Rattle.registrar.proofs.Laws as laws
 use Rattle.registrar.proofs.build_state.Given as goal
 
 abbrev pub invariant-loop-i : goal.invariant-loop-i

@@ -1,4 +1,3 @@
-use Rattle.std.proofs.Common.{rules}
 use Rattle.registrar_state.specs.Buffers.{buffers}
 use Rattle.registrar.proofs.Laws as laws
 use Rattle.registrar.proofs.register_all_from.Goals as goal

@@ -1,4 +1,4 @@
-use Rattle.std.proofs.Common.{◌∙◌, rules}
+use Rattle.std.proofs.Common.{◌∙◌}
 use Rattle.registrar_state.specs.Buffers.{buffers}
 use Rattle.registrar.proofs.Laws as laws
 use Rattle.registrar.proofs.register_done.Goals as goal

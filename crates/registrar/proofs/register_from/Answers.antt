@@ -1,4 +1,4 @@
-use Rattle.std.proofs.Common.{min, sym, ◌∙◌, arith, rules}
+use Rattle.std.proofs.Common.{min, sym, ◌∙◌, arith}
 use Rattle.registrar_state.specs.Buffers.{buffers, chunk_state_in}
 use Rattle.registrar_steps.proofs.Laws.{stop_below}
 use Rattle.registrar.proofs.Laws as laws

@@ -1,4 +1,4 @@
-use Rattle.std.proofs.Common.{arith, rules}
+use Rattle.std.proofs.Common.{arith}
 use Rattle.registrar_state.specs.Buffers.{buffers, done_of}
 use Rattle.registrar_state.proofs.Laws.{count_in_lem}
 use Rattle.registrar.proofs.Laws as laws

@@ -1,4 +1,3 @@
-use Rattle.std.proofs.Common.{rules}
 use Rattle.registrar_state.specs.Buffers.{buffers, build_of}
 use Rattle.registrar.proofs.Laws as laws
 use Rattle.registrar.proofs.registrar_build.Goals as goal

@@ -1,4 +1,4 @@
-use Rattle.std.proofs.Common.{ap, ◌∙◌, rules}
+use Rattle.std.proofs.Common.{ap, ◌∙◌}
 use Rattle.registrar_state.specs.Buffers.{buffers, carried_out, register_of}
 use Rattle.registrar_state.proofs.Laws.{count_in_lem}
 use Rattle.registrar.proofs.Laws as laws

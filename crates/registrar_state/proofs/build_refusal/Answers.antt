@@ -1,7 +1,5 @@
 use native.Mathlib.Omega.{arith}
-use borrow.Author.Rules.{rules}
 use mathlib.Core.Path.{refl, sym, ◌∙◌}
-use borrow.Author.Tests.{not-true, not-false}
 use Rattle.registrar_state.specs.Buffers.{buffers}
 use Rattle.layout.specs.Layout.{entries_of}
 use Rattle.registrar_state.proofs.Laws as laws

@@ -1,6 +1,5 @@
-use borrow.Author.Rules.{rules}
 use mathlib.Core.Path.{refl, sym, ◌∙◌}
-use borrow.Author.Tests.{eq-eqb, ne_eqb, not-true, not-false}
+use borrow.Author.Tests.{eq-eqb, ne_eqb}
 use Rattle.laws.specs.Refusal.{refuses, passes}
 use Rattle.registrar_state.specs.Buffers.{granularity_of, entries_in}
 use Rattle.registrar_state.proofs.Laws as laws

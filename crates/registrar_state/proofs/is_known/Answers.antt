@@ -1,5 +1,3 @@
-use borrow.Author.Rules.{rules}
-use borrow.Author.Tests.{not-true, not-false}
 use Rattle.registrar_state.proofs.Laws as laws
 use Rattle.registrar_state.proofs.is_known.Goals as goal
 

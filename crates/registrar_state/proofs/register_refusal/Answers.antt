@@ -1,4 +1,3 @@
-use borrow.Author.Rules.{rules}
 use mathlib.Core.Path.{refl, sym, ◌∙◌}
 use Rattle.registrar_state.specs.Buffers.{buffers}
 use Rattle.registrar_state.proofs.Laws as laws

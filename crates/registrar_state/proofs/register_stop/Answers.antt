@@ -1,4 +1,3 @@
-use borrow.Author.Rules.{rules}
 use Rattle.registrar_state.specs.Buffers.{buffers}
 use Rattle.registrar_state.proofs.Laws as laws
 use Rattle.registrar_state.proofs.register_stop.Goals as goal

@@ -1,4 +1,3 @@
-use borrow.Author.Rules.{rules}
 use Rattle.registrar_state.proofs.Laws as laws
 use Rattle.registrar_state.proofs.rest_of.Goals as goal
 

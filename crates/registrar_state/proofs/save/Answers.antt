@@ -1,5 +1,4 @@
 use native.Mathlib.Omega.{arith}
-use borrow.Author.Rules.{rules}
 use lib.ListN.{length-set}
 use Rattle.registrar_state.proofs.Laws as laws
 use Rattle.registrar_state.proofs.save.Goals as goal

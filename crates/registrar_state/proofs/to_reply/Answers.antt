@@ -1,4 +1,3 @@
-use borrow.Author.Rules.{rules}
 use mathlib.Core.Path.{sym, ap, ◌∙◌}
 use Rattle.registrar_state.specs.Buffers.{flat_of}
 use Rattle.registrar_state.proofs.to_reply.Goals as goal

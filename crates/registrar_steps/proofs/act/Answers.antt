@@ -1,4 +1,3 @@
-use Rattle.std.proofs.Common.{rules}
 use Rattle.layout.specs.Layout.{entries_of}
 use Rattle.registrar_steps.proofs.Laws as laws
 use Rattle.registrar_steps.proofs.act.Goals as goal

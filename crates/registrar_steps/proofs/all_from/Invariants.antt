@@ -1,9 +1,6 @@
-use Rattle.std.proofs.Common.{◌≡◌, ◌-◌, drop, sym, refl, ◌∙◌, arith, rules}
-use borrow.Author.Tests.{not-true, not-false}
+use Rattle.std.proofs.Common.{◌≡◌, ◌-◌, drop}
 use Rattle.layout.specs.Layout.{entries_of, spans}
 use Rattle.registrar_steps.specs.Steps.{chunk_state, all_from}
-use Rattle.registrar_steps.proofs.Laws as laws
-use Rattle.chunks.proofs.Laws as chunk-laws
 use Rattle.registrar_steps.proofs.all_from.Given as goal
 
 abbrev pub invariant-loop-i : goal.invariant-loop-i

@@ -1,4 +1,4 @@
-use Rattle.std.proofs.Common.{rules, le-ltb, lt-ltb}
+use Rattle.std.proofs.Common.{le-ltb, lt-ltb}
 use Rattle.registrar_steps.proofs.is_failed_before.Goals as goal
 
 pub returns-then-chunk-to : goal.returns-then-chunk-to

@@ -1,4 +1,4 @@
-use Rattle.std.proofs.Common.{max, sym, ap, ◌∙◌, arith, rules}
+use Rattle.std.proofs.Common.{max, sym, ap, ◌∙◌, arith}
 use Rattle.registrar_steps.proofs.Laws as laws
 use Rattle.chunks.proofs.Laws as chunk-laws
 use Rattle.registrar_steps.proofs.look_at.Goals as goal

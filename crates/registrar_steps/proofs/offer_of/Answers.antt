@@ -1,4 +1,4 @@
-use Rattle.std.proofs.Common.{sym, ◌∙◌, rules}
+use Rattle.std.proofs.Common.{sym, ◌∙◌}
 use Rattle.layout.specs.Layout.{entries_of}
 use Rattle.registrar_steps.specs.Steps.{chunk_state}
 use Rattle.registrar_steps.proofs.Laws as laws

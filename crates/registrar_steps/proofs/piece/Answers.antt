@@ -1,4 +1,3 @@
-use Rattle.std.proofs.Common.{rules}
 use Rattle.registrar_steps.proofs.piece.Goals as goal
 
 pub returns : goal.returns

@@ -1,4 +1,4 @@
-use Rattle.std.proofs.Common.{arith, rules}
+use Rattle.std.proofs.Common.{arith}
 use Rattle.layout.specs.Layout.{entries_of}
 use Rattle.registrar_steps.proofs.Laws as laws
 use Rattle.registrar_steps.proofs.rest_of.Goals as goal

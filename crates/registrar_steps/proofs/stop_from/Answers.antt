@@ -1,4 +1,4 @@
-use Rattle.std.proofs.Common.{min, refl, ap, ◌∙◌, rules}
+use Rattle.std.proofs.Common.{min, refl, ap, ◌∙◌}
 use Rattle.layout.specs.Layout.{entries_of}
 use Rattle.registrar_steps.specs.Steps.{chunk_state, stop_at}
 use Rattle.registrar_steps.proofs.Laws as laws

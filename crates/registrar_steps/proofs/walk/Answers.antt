@@ -1,7 +1,6 @@
-use Rattle.std.proofs.Common.{◌≡◌, ◌-◌, sym, refl, ◌∙◌, arith, rules}
-use borrow.Author.Tests.{not-true, not-false}
+use Rattle.std.proofs.Common.{sym, refl, ◌∙◌, arith}
 use Rattle.layout.specs.Layout.{entries_of}
-use Rattle.registrar_steps.specs.Steps.{chunk_state, stop_at}
+use Rattle.registrar_steps.specs.Steps.{chunk_state}
 use Rattle.registrar_steps.proofs.Laws as laws
 use Rattle.registrar_steps.proofs.walk.Goals as goal
 

@@ -1,4 +1,3 @@
-use borrow.Author.Rules.{rules}
 use mathlib.Core.Path.{sym, ◌∙◌}
 use Rattle.laws.specs.Bools.{and_goes, and_ends}
 use Rattle.request_pages.proofs.is_readable_and_writable.Goals as goal

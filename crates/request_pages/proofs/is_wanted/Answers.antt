@@ -1,4 +1,3 @@
-use borrow.Author.Rules.{rules}
 use mathlib.Core.Bool.{Bool, not, cond}
 use mathlib.Core.Path.{sym, ap, ◌∙◌}
 use Rattle.request_pages.proofs.is_wanted.Goals as goal

@@ -1,4 +1,3 @@
-use borrow.Author.Rules.{rules}
 use native.Mathlib.Omega.{arith}
 use Rattle.request_pages.proofs.Runs.{end_max, end_of_lem}
 use Rattle.request_pages.proofs.run_end.Goals as goal

@@ -1,10 +1,7 @@
-use borrow.Author.Rules.{rules}
-use native.Mathlib.Omega.{arith}
-use mathlib.Core.Path.{◌≡◌, refl, sym, ◌∙◌}
-use Prim.Native.Nat.{◌-◌, ◌<◌}
+use mathlib.Core.Path.{◌≡◌}
+use Prim.Native.Nat.{◌-◌}
 use lib.ListN.{length}
 use Rattle.request_pages.specs.Request.{put}
-use Rattle.request_pages.proofs.Runs as laws
 use Rattle.request_pages.proofs.set_places.Given as goal
 
 abbrev pub invariant-loop-i : goal.invariant-loop-i

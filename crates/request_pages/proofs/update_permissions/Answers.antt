@@ -1,10 +1,8 @@
 use borrow.Author.Rules.{rules}
 use native.Mathlib.Omega.{arith}
-use mathlib.Core.Path.{◌≡◌, refl, sym, ◌∙◌}
-use Prim.Native.Nat.{◌-◌, ◌<◌}
-use lib.ListN.{length}
+use mathlib.Core.Path.{refl, sym, ◌∙◌}
+use Prim.Native.Nat.{◌<◌}
 use Rattle.mapping.specs.Maps.{perms}
-use Rattle.request_pages.specs.Request.{put_flags}
 use Rattle.request_pages.proofs.Runs as laws
 use Rattle.request_pages.proofs.update_permissions.Goals as goal
 

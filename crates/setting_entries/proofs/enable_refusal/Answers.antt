@@ -1,4 +1,3 @@
-use borrow.Author.Rules.{rules}
 use native.Mathlib.Omega.{arith}
 use Rattle.setting_entries.proofs.Laws as laws
 use Rattle.setting_entries.proofs.enable_refusal.Goals as goal

@@ -1,4 +1,3 @@
-use borrow.Author.Rules.{rules}
 use native.Mathlib.Omega.{arith}
 use Rattle.setting_entries.proofs.Laws as laws
 use Rattle.setting_entries.proofs.protector_set_vtl1_protections_enabled.Goals as goal

@@ -1,4 +1,3 @@
-use borrow.Author.Rules.{rules}
 use Rattle.setting_entries.proofs.Laws as laws
 use Rattle.setting_entries.proofs.protector_vtl1_protections_enabled.Goals as goal
 

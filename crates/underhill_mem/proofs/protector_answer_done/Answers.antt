@@ -1,7 +1,5 @@
-use borrow.Author.Rules.{rules}
 use mathlib.Core.Path.{refl}
 use mathlib.Core.Bool.{false, cond}
-use lib.ListN.{length}
 use Rattle.mapping.specs.Maps.{maps}
 use Rattle.protector_state.specs.State.{settings_of}
 use Rattle.protector_state.specs.Changing.{is_changing}

@@ -1,4 +1,3 @@
-use borrow.Author.Rules.{rules}
 use Rattle.mapping.specs.Maps.{maps}
 use Rattle.call_refusals.specs.Buffers.{buffers}
 use Rattle.protector.specs.Calls.{build_of, build_taken}

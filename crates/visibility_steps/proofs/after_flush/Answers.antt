@@ -1,4 +1,4 @@
-use Rattle.std.proofs.Common.{refl, rules}
+use Rattle.std.proofs.Common.{refl}
 use Rattle.visibility_steps.specs.declared.Phase.TheVariants as at
 use Rattle.visibility_steps.specs.Steps.{no_writes}
 use Rattle.visibility_steps.proofs.Laws as laws

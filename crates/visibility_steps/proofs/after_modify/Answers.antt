@@ -1,4 +1,4 @@
-use Rattle.std.proofs.Common.{refl, ap, ◌∙◌, rules}
+use Rattle.std.proofs.Common.{refl, ap, ◌∙◌}
 use Rattle.visibility_steps.specs.declared.Marks.{Marks}
 use Rattle.visibility_steps.specs.Steps.{no_writes, return_run}
 use Rattle.visibility_steps.specs.Next.{marked_by}

@@ -1,4 +1,3 @@
-use Rattle.std.proofs.Common.{rules}
 use Rattle.visibility_steps.proofs.Laws as laws
 use Rattle.visibility_steps.proofs.clears.Goals as goal
 

@@ -1,4 +1,4 @@
-use Rattle.std.proofs.Common.{ℕ, sym, ap, ◌∙◌, ap₂, rules}
+use Rattle.std.proofs.Common.{ℕ, sym, ap, ◌∙◌, ap₂}
 use Rattle.visibility_steps.specs.declared.Phase.{Phase}
 use Rattle.visibility_steps.specs.declared.Phase.TheVariants as at
 use Rattle.visibility_steps.specs.declared.Marks.{Marks}

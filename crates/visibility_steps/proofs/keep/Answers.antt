@@ -1,4 +1,4 @@
-use Rattle.std.proofs.Common.{ap, rules}
+use Rattle.std.proofs.Common.{ap}
 use Rattle.visibility_steps.specs.declared.Writes.{Writes}
 use Rattle.visibility_steps.specs.Steps.{step, keep}
 use Rattle.visibility_steps.specs.declared.Answer.TheVariants.{Refused}

@@ -1,4 +1,4 @@
-use Rattle.std.proofs.Common.{ap, rules}
+use Rattle.std.proofs.Common.{ap}
 use Rattle.visibility_steps.specs.declared.Marks.{Marks}
 use Rattle.visibility_steps.specs.declared.Turn.TheVariants as turn
 use Rattle.visibility_steps.specs.Next.{next}

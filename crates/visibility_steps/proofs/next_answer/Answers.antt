@@ -1,4 +1,4 @@
-use Rattle.std.proofs.Common.{sym, ap, ◌∙◌, rules}
+use Rattle.std.proofs.Common.{sym, ap, ◌∙◌}
 use Rattle.visibility_steps.specs.declared.Answer.TheVariants as answer
 use Rattle.visibility_steps.specs.declared.Turn.{Turn}
 use Rattle.visibility_steps.specs.Next.{answer_by}

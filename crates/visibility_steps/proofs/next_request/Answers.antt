@@ -1,4 +1,4 @@
-use Rattle.std.proofs.Common.{sym, ap, ◌∙◌, rules}
+use Rattle.std.proofs.Common.{sym, ap, ◌∙◌}
 use Rattle.visibility_steps.specs.declared.Turn.{Turn}
 use Rattle.visibility_steps.specs.Next.{request_by}
 use Rattle.visibility_steps.proofs.next_request.Goals as goal

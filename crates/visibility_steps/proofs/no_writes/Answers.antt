@@ -1,4 +1,4 @@
-use Rattle.std.proofs.Common.{true, ap, rules}
+use Rattle.std.proofs.Common.{true, ap}
 use Rattle.permissions.specs.declared.HvMapGpaFlags.{HvMapGpaFlags}
 use Rattle.visibility_steps.specs.Steps.{places, writes}
 use Rattle.visibility_steps.proofs.no_writes.Goals as goal

@@ -1,4 +1,3 @@
-use Rattle.std.proofs.Common.{rules}
 use Rattle.visibility_steps.proofs.permission_end.Goals as goal
 
 pub returns-then-tracked : goal.returns-then-tracked

@@ -1,4 +1,4 @@
-use Rattle.std.proofs.Common.{refl, ap, rules}
+use Rattle.std.proofs.Common.{refl, ap}
 use Rattle.laws.specs.Bools.{chose, chose_not}
 use Rattle.visibility_steps.specs.Steps.{places}
 use Rattle.visibility_steps.specs.Next.{is_default0}

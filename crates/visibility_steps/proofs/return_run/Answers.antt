@@ -1,4 +1,4 @@
-use Rattle.std.proofs.Common.{sym, refl, ap, ◌∙◌, rules}
+use Rattle.std.proofs.Common.{sym, refl, ap, ◌∙◌}
 use Rattle.visibility_steps.specs.declared.Phase.TheVariants as at
 use Rattle.visibility_steps.specs.Next.{marked_by}
 use Rattle.visibility_steps.proofs.Laws as laws

@@ -1,4 +1,4 @@
-use Rattle.std.proofs.Common.{refl, rules}
+use Rattle.std.proofs.Common.{refl}
 use Rattle.laws.specs.Bools.{chose, chose_not}
 use Rattle.visibility_steps.specs.Next.{has_run}
 use Rattle.visibility_steps.proofs.run_in.Goals as goal

@@ -1,4 +1,4 @@
-use Rattle.std.proofs.Common.{refl, rules}
+use Rattle.std.proofs.Common.{refl}
 use Rattle.visibility_steps.specs.Next.{next_step}
 use Rattle.visibility_steps.proofs.step_of.Goals as goal
 

@@ -1,4 +1,3 @@
-use borrow.Author.Rules.{rules}
 use Rattle.words.proofs.Laws as laws
 use Rattle.words.proofs.remove_words.Goals as goal
 

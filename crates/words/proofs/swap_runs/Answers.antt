@@ -1,5 +1,3 @@
-use borrow.Author.Rules.{rules}
-use Prim.Native.Nat.{◌-◌}
 use Rattle.words.proofs.Laws as laws
 use Rattle.words.proofs.swap_runs.Goals as goal
 

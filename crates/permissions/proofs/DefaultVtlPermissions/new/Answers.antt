@@ -1,4 +1,3 @@
-use borrow.Author.Rules.{rules}
 use Rattle.permissions.proofs.DefaultVtlPermissions.new.Goals as goal
 
 pub returns : goal.returns

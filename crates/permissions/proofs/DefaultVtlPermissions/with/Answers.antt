@@ -1,4 +1,3 @@
-use borrow.Author.Rules.{rules}
 use Rattle.permissions.proofs.DefaultVtlPermissions.with.Goals as goal
 
 pub returns-in-Vtl0 : goal.returns-in-Vtl0

@@ -1,5 +1,4 @@
 use Rattle.playback.proofs.Laws.{answered_failed, answered_done}
-use borrow.Author.Rules.{rules}
 use Rattle.playback.proofs.answers.answer.Goals as goal
 
 pub returns-then-at-c : goal.returns-then-at-c

@@ -1,5 +1,4 @@
 use Rattle.playback.proofs.Laws.{asked_pages, asked_none}
-use borrow.Author.Rules.{rules}
 use Rattle.playback.proofs.answers.asked.Goals as goal
 
 pub returns-then-r-eq-MODIFY : goal.returns-then-r-eq-MODIFY

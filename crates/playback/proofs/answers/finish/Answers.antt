@@ -1,8 +1,5 @@
-use borrow.Author.Rules.{rules}
-use mathlib.Core.Path.{◌≡◌, refl, ◌∙◌}
-use Prim.Native.Nat.{◌-◌, ◌≤◌}
+use mathlib.Core.Path.{refl, ◌∙◌}
 use native.Mathlib.Omega.{arith}
-use Rattle.playback.specs.Answers.{finished_from}
 use Rattle.playback.proofs.Laws.{finished_stop, finished_next, finished_end}
 use Rattle.playback.proofs.answers.finish.Goals as goal
 

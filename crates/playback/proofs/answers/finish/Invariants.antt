@@ -1,9 +1,6 @@
-use borrow.Author.Rules.{rules}
-use mathlib.Core.Path.{◌≡◌, refl, ◌∙◌}
+use mathlib.Core.Path.{◌≡◌}
 use Prim.Native.Nat.{◌-◌, ◌≤◌}
-use native.Mathlib.Omega.{arith}
 use Rattle.playback.specs.Answers.{finished_from}
-use Rattle.playback.proofs.Laws.{finished_stop, finished_next, finished_end}
 use Rattle.playback.proofs.answers.finish.Given as goal
 
 abbrev pub invariant-loop-at : goal.invariant-loop-at

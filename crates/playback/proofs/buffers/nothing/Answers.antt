@@ -1,6 +1,5 @@
 use mathlib.Core.Path.{ap}
 use Rattle.playback.specs.Buffers.{replied, no_buffers}
-use borrow.Author.Rules.{rules}
 use Rattle.playback.proofs.buffers.nothing.Goals as goal
 
 pub returns : goal.returns

@@ -2,7 +2,6 @@ use mathlib.Core.Path.{ap, ◌∙◌}
 use Prim.Native.Nat.{ℕ}
 use Rattle.protector.specs.Calls.{build_of}
 use Rattle.playback.specs.Buffers.{after, lent_of}
-use borrow.Author.Rules.{rules}
 use Rattle.playback.proofs.calls.build.Goals as goal
 
 pub returns : goal.returns

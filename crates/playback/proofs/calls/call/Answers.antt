@@ -1,6 +1,5 @@
 use Rattle.playback.specs.Calls.{call_of}
 use Rattle.playback.proofs.Laws.{is, is_not, below, not_below}
-use borrow.Author.Rules.{rules}
 use Rattle.playback.proofs.calls.call.Goals as goal
 
 pub returns-then-c-lt-LOCK_GPNS : goal.returns-then-c-lt-LOCK_GPNS

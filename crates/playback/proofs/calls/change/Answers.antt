@@ -2,7 +2,6 @@ use mathlib.Core.Path.{ap, ◌∙◌}
 use Prim.Native.Nat.{ℕ}
 use Rattle.playback.specs.Buffers.{after, lent_of}
 use Rattle.playback.specs.Calls.{change_in}
-use borrow.Author.Rules.{rules}
 use Rattle.playback.proofs.calls.change.Goals as goal
 
 pub returns : goal.returns

@@ -2,7 +2,6 @@ use mathlib.Core.Path.{refl, ap, ◌∙◌}
 use Rattle.playback.specs.Buffers.{after}
 use Rattle.playback.specs.Calls.{change_in}
 use Rattle.playback.proofs.Laws.{is, is_not}
-use borrow.Author.Rules.{rules}
 use Rattle.playback.proofs.calls.change_in.Goals as goal
 
 pub returns-then-c-eq-CHANGE_HOST_VISIBILITY : goal.returns-then-c-eq-CHANGE_HOST_VISIBILITY

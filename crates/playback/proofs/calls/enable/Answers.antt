@@ -1,6 +1,5 @@
 use mathlib.Core.Path.{ap}
 use Rattle.playback.specs.Calls.{enabled_of}
-use borrow.Author.Rules.{rules}
 use Rattle.playback.proofs.calls.enable.Goals as goal
 
 pub returns : goal.returns

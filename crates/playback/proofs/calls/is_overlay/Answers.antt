@@ -1,6 +1,5 @@
 use mathlib.Core.Path.{ap, ◌∙◌}
 use Rattle.playback.specs.Buffers.{valued}
-use borrow.Author.Rules.{rules}
 use Rattle.playback.proofs.calls.is_overlay.Goals as goal
 
 pub returns : goal.returns

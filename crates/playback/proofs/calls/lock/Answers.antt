@@ -1,6 +1,5 @@
 use mathlib.Core.Path.{ap}
 use Rattle.playback.specs.Calls.{kept_in}
-use borrow.Author.Rules.{rules}
 use Rattle.playback.proofs.calls.lock.Goals as goal
 
 pub returns : goal.returns

@@ -1,9 +1,7 @@
-use mathlib.Core.Path.{sym, ap, ◌∙◌}
+use mathlib.Core.Path.{ap, ◌∙◌}
 use Prim.Native.Nat.{ℕ}
-use borrow.Author.Rules.{rules, length_unmapped}
 use Rattle.playback.specs.Buffers.{valued, lent_of}
 use Rattle.playback.specs.Calls.{look_value}
-use Rattle.playback.proofs.Laws.{prefix_fits, prefix_long}
 use Rattle.playback.proofs.calls.look.Goals as goal
 
 pub returns : goal.returns

@@ -1,6 +1,5 @@
 use Rattle.playback.proofs.Laws.{is, is_not}
 use Rattle.playback.specs.Calls.{look_value}
-use borrow.Author.Rules.{rules}
 use Rattle.playback.proofs.calls.look_in.Goals as goal
 
 pub returns-then-c-eq-PAGE_FAULT : goal.returns-then-c-eq-PAGE_FAULT

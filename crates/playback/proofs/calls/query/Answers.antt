@@ -1,11 +1,8 @@
-use lib.ListN.{length-replicate, take, replicate}
-use lib.Seq.{length-take-le}
-use native.Mathlib.Omega.{arith}
-use mathlib.Core.Path.{sym, ap, ◌∙◌}
+use lib.ListN.{take, replicate}
+use mathlib.Core.Path.{ap, ◌∙◌}
 use Prim.Native.Nat.{ℕ}
 use Rattle.queries.specs.Queries.{query_of}
 use Rattle.playback.specs.Calls.{queried_of}
-use borrow.Author.Rules.{rules}
 use Rattle.playback.proofs.calls.query.Goals as goal
 
 pub returns : goal.returns

@@ -2,7 +2,6 @@ use mathlib.Core.Path.{ap, ◌∙◌}
 use Prim.Native.Nat.{ℕ}
 use Rattle.playback.specs.Buffers.{with_these}
 use Rattle.playback.specs.Calls.{queried_of}
-use borrow.Author.Rules.{rules}
 use Rattle.playback.proofs.calls.query_in.Goals as goal
 
 pub returns : goal.returns

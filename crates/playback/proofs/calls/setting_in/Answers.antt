@@ -1,5 +1,4 @@
 use Rattle.playback.proofs.Laws.{is, is_not}
-use borrow.Author.Rules.{rules}
 use Rattle.playback.proofs.calls.setting_in.Goals as goal
 
 pub returns-then-c-eq-VTL1_PROTECTIONS_ENABLED : goal.returns-then-c-eq-VTL1_PROTECTIONS_ENABLED

@@ -1,6 +1,5 @@
 use mathlib.Core.Path.{ap, ◌∙◌}
 use Rattle.playback.specs.Buffers.{replied}
-use borrow.Author.Rules.{rules}
 use Rattle.playback.proofs.calls.valued.Goals as goal
 
 pub returns : goal.returns

@@ -1,8 +1,6 @@
-use borrow.Author.Rules.{length_unmapped, rules}
-use mathlib.Core.Path.{sym, ap, ◌∙◌}
+use mathlib.Core.Path.{ap, ◌∙◌}
 use Prim.Native.Nat.{ℕ}
 use Rattle.playback.specs.Buffers.{after, lent_of}
-use Rattle.playback.proofs.Laws.{prefix_fits, prefix_long}
 use Rattle.protector.specs.Calls.{answer_failed}
 use Rattle.playback.proofs.entries.failed.Goals as goal
 

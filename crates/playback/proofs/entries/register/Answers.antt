@@ -1,8 +1,5 @@
-use borrow.Author.Rules.{length_unmapped}
-use mathlib.Core.Path.{sym, ap}
-use Prim.Native.Nat.{ℕ}
+use mathlib.Core.Path.{ap}
 use Rattle.playback.specs.Buffers.{after}
-use Rattle.playback.proofs.Laws.{prefix_fits, prefix_long}
 use Rattle.playback.proofs.entries.register.Goals as goal
 
 pub protector_register_overlay_page-r-requires : goal.protector_register_overlay_page-r-requires

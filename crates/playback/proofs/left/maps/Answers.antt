@@ -2,7 +2,6 @@ use mathlib.Core.Path.{ap, ◌∙◌}
 use Prim.Native.Nat.{ℕ}
 use Rattle.recording.specs.Digest.{digest_of}
 use Rattle.playback.proofs.Laws.{maps_tracked, maps_untracked}
-use borrow.Author.Rules.{rules}
 use Rattle.playback.proofs.left.maps.Goals as goal
 
 pub returns-then-state-eq1 : goal.returns-then-state-eq1

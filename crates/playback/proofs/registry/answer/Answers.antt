@@ -2,7 +2,6 @@ use mathlib.Core.Path.{ap, ◌∙◌}
 use Prim.Native.Nat.{ℕ}
 use Rattle.recording.specs.Digest.{digest_word}
 use Rattle.playback.proofs.Laws.{registry_failed, registry_done}
-use borrow.Author.Rules.{rules}
 use Rattle.playback.proofs.registry.answer.Goals as goal
 
 pub returns-then-at-c : goal.returns-then-at-c

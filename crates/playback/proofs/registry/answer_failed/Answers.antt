@@ -1,7 +1,6 @@
 use mathlib.Core.Path.{ap}
 use Rattle.registrar_state.specs.Buffers.{Outcome}
 use Rattle.playback.specs.Registry.{after}
-use borrow.Author.Rules.{rules}
 use Rattle.playback.proofs.registry.answer_failed.Goals as goal
 
 pub returns : goal.returns

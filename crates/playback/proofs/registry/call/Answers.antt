@@ -1,7 +1,6 @@
 use mathlib.Core.Path.{ap, ◌∙◌}
 use Rattle.playback.specs.declared.registry.Registry.{Registry}
 use Rattle.playback.specs.Registry.{finished_from}
-use borrow.Author.Rules.{rules}
 use Rattle.playback.proofs.registry.call.Goals as goal
 
 pub returns : goal.returns

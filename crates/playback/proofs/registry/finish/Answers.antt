@@ -1,8 +1,5 @@
-use borrow.Author.Rules.{rules}
-use mathlib.Core.Path.{◌≡◌, refl, ◌∙◌}
-use Prim.Native.Nat.{◌-◌, ◌≤◌}
+use mathlib.Core.Path.{refl, ◌∙◌}
 use native.Mathlib.Omega.{arith}
-use Rattle.playback.specs.Registry.{finished_from}
 use Rattle.playback.proofs.Laws.{registry_stop, registry_next, registry_end}
 use Rattle.playback.proofs.registry.finish.Goals as goal
 

@@ -1,9 +1,6 @@
-use borrow.Author.Rules.{rules}
-use mathlib.Core.Path.{◌≡◌, refl, ◌∙◌}
+use mathlib.Core.Path.{◌≡◌}
 use Prim.Native.Nat.{◌-◌, ◌≤◌}
-use native.Mathlib.Omega.{arith}
 use Rattle.playback.specs.Registry.{finished_from}
-use Rattle.playback.proofs.Laws.{registry_stop, registry_next, registry_end}
 use Rattle.playback.proofs.registry.finish.Given as goal
 
 abbrev pub invariant-loop-at : goal.invariant-loop-at

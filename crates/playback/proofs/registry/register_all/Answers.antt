@@ -2,7 +2,6 @@ use mathlib.Core.Path.{ap}
 use Rattle.registrar_state.specs.Buffers.{Outcome}
 use Rattle.recording.specs.Digest.{start}
 use Rattle.playback.specs.Registry.{after}
-use borrow.Author.Rules.{rules}
 use Rattle.playback.proofs.registry.register_all.Goals as goal
 
 pub returns : goal.returns

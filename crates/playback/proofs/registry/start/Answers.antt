@@ -4,7 +4,6 @@ use Rattle.registrar_state.specs.Buffers.{Outcome}
 use Rattle.recording.specs.Digest.{start}
 use Rattle.playback.specs.Registry.{start_in, after}
 use Rattle.playback.proofs.Laws.{is, is_not}
-use borrow.Author.Rules.{rules}
 use Rattle.playback.proofs.registry.start.Goals as goal
 
 pub returns-then-c-eq-REGISTRAR_BUILD : goal.returns-then-c-eq-REGISTRAR_BUILD

@@ -1,4 +1,3 @@
-use borrow.Author.Rules.{rules}
 use Rattle.protector_state.proofs.Changing as laws
 use Rattle.protector_state.proofs.change.is_changing.Goals as goal
 

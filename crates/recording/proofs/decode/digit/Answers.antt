@@ -1,5 +1,5 @@
 use Rattle.recording.proofs.Laws.{digit_none, digit_decimal, digit_between, digit_letter, digit_above}
-use Rattle.std.proofs.Common.{arith, rules}
+use Rattle.std.proofs.Common.{arith}
 use Rattle.recording.proofs.decode.digit.Goals as goal
 
 pub returns-then-b-lt48 : goal.returns-then-b-lt48

@@ -1,6 +1,6 @@
-use Rattle.std.proofs.Common.{◌≡◌, ℕ, ◌+◌, ◌-◌, List, length, drop, refl, ap, ◌∙◌, arith, rules}
+use Rattle.std.proofs.Common.{ℕ, ◌+◌, List, drop, refl, ap, ◌∙◌, arith}
 use Rattle.recording.proofs.Laws.{digits_end, digits_stop, digits_next}
-use Rattle.recording.specs.Decode.{digits_from, number_at}
+use Rattle.recording.specs.Decode.{digits_from}
 use Rattle.recording.proofs.decode.number.Goals as goal
 
 pub loop-i-init : goal.loop-i-init

@@ -1,5 +1,4 @@
-use Rattle.std.proofs.Common.{◌≡◌, ℕ, ◌+◌, ◌-◌, List, length, drop, refl, ap, ◌∙◌, arith, rules}
-use Rattle.recording.proofs.Laws.{digits_end, digits_stop, digits_next}
+use Rattle.std.proofs.Common.{◌≡◌, ◌-◌, length, drop}
 use Rattle.recording.specs.Decode.{digits_from, number_at}
 use Rattle.recording.proofs.decode.number.Given as goal
 

@@ -1,4 +1,4 @@
-use Rattle.std.proofs.Common.{◌≡◌, ℕ, ◌-◌, List, ◌++◌, length, take, refl, ap, ◌∙◌, arith, length-set, rules}
+use Rattle.std.proofs.Common.{◌≡◌, ℕ, ◌-◌, List, length, refl, ap, ◌∙◌, arith, length-set}
 use Rattle.recording.specs.Decode.{numbers_at, after_numbers}
 use Rattle.recording.proofs.Laws.{numbers_step, after_step, numbers_end, after_end}
 use Rattle.recording.proofs.decode.numbers.Goals as goal

@@ -1,4 +1,4 @@
-use Rattle.std.proofs.Common.{◌≡◌, ℕ, ◌+◌, ◌-◌, List, length, drop, refl, ap, ◌∙◌, arith, rules}
+use Rattle.std.proofs.Common.{ℕ, ◌+◌, List, drop, refl, ap, ◌∙◌, arith}
 use Rattle.recording.specs.Digest.{digest_word, digest_of}
 use Rattle.recording.proofs.Laws.{digest_next, digest_end}
 use Rattle.recording.proofs.digest.bytes.Goals as goal

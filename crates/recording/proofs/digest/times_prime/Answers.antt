@@ -1,4 +1,4 @@
-use Rattle.std.proofs.Common.{◌^◌, rules}
+use Rattle.std.proofs.Common.{◌^◌}
 use Rattle.recording.proofs.Laws.{times_law}
 use Rattle.recording.proofs.digest.times_prime.Goals as goal
 

@@ -1,4 +1,4 @@
-use Rattle.std.proofs.Common.{ap, rules}
+use Rattle.std.proofs.Common.{ap}
 use Rattle.recording.specs.Digest.{folded, digest_word}
 use Rattle.recording.proofs.digest.word.Goals as goal
 

@@ -1,5 +1,4 @@
-use Rattle.std.proofs.Common.{◌≡◌, ℕ, ◌+◌, ◌-◌, List, length, drop, refl, ap, ◌∙◌, arith, rules}
-use Rattle.recording.proofs.Laws.{digest_next, digest_end}
+use Rattle.std.proofs.Common.{◌≡◌, ◌-◌, length, drop}
 use Rattle.recording.specs.Digest.{digest_of}
 use Rattle.recording.proofs.digest.words.Given as goal
 

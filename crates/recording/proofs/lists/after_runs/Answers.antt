@@ -1,5 +1,4 @@
-use Rattle.std.proofs.Common.{◌≡◌, refl, ◌∙◌, arith, rules}
-use Rattle.recording.specs.Lists.{after_runs}
+use Rattle.std.proofs.Common.{refl, ◌∙◌, arith}
 use Rattle.recording.proofs.Laws.{after_runs_step, after_none}
 use Rattle.recording.proofs.lists.after_runs.Goals as goal
 

@@ -1,6 +1,5 @@
-use Rattle.std.proofs.Common.{◌≡◌, refl, ◌∙◌, arith, rules}
+use Rattle.std.proofs.Common.{◌≡◌}
 use Rattle.recording.specs.Lists.{after_runs}
-use Rattle.recording.proofs.Laws.{after_runs_step, after_none}
 use Rattle.recording.proofs.lists.after_runs.Given as goal
 
 abbrev pub invariant-loop-left : goal.invariant-loop-left

@@ -1,6 +1,5 @@
-use Rattle.std.proofs.Common.{◌≡◌, ℕ, List, length, refl, ◌∙◌, arith, rules}
+use Rattle.std.proofs.Common.{◌≡◌, length}
 use Rattle.recording.specs.Lists.{filling, with_runs, after_runs}
-use Rattle.recording.proofs.Laws.{runs_step, after_runs_step, no_runs, after_none}
 use Rattle.recording.proofs.lists.fill.Given as goal
 
 abbrev pub invariant-loop-left : goal.invariant-loop-left

@@ -1,4 +1,4 @@
-use Rattle.std.proofs.Common.{arith, rules}
+use Rattle.std.proofs.Common.{arith}
 use Rattle.recording.proofs.Laws.{byte_in, byte_past}
 use Rattle.recording.proofs.lists.put.Goals as goal
 

@@ -1,4 +1,3 @@
-use Rattle.std.proofs.Common.{rules}
 use Rattle.recording.proofs.lists.put_entry.Goals as goal
 
 pub returns : goal.returns

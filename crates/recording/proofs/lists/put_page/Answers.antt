@@ -1,4 +1,4 @@
-use Rattle.std.proofs.Common.{◌≡◌, ◌-◌, ◌/◌, length, refl, ap, ◌∙◌, arith, rules}
+use Rattle.std.proofs.Common.{◌-◌, ◌/◌, refl, ap, ◌∙◌, arith}
 use Rattle.recording.specs.Lists.{Filling, filling, with_bytes}
 use Rattle.recording.proofs.Laws.{bytes_next, no_bytes}
 use Rattle.recording.proofs.lists.put_page.Goals as goal

@@ -1,6 +1,5 @@
-use Rattle.std.proofs.Common.{◌≡◌, ◌-◌, ◌/◌, length, refl, ap, ◌∙◌, arith, rules}
-use Rattle.recording.specs.Lists.{Filling, filling, with_bytes}
-use Rattle.recording.proofs.Laws.{bytes_next, no_bytes}
+use Rattle.std.proofs.Common.{◌≡◌, length}
+use Rattle.recording.specs.Lists.{filling, with_bytes}
 use Rattle.recording.proofs.lists.put_page.Given as goal
 
 abbrev pub invariant-loop-left : goal.invariant-loop-left

@@ -1,4 +1,4 @@
-use Rattle.std.proofs.Common.{◌≡◌, ℕ, ◌-◌, length, refl, ◌∙◌, ap₂, arith, rules}
+use Rattle.std.proofs.Common.{ℕ, ◌-◌, refl, ◌∙◌, ap₂, arith}
 use Rattle.recording.specs.Lists.{Filling, filling, with_pages}
 use Rattle.recording.proofs.Laws.{pages_next, no_pages}
 use Rattle.recording.proofs.lists.put_run.Goals as goal

@@ -1,6 +1,5 @@
-use Rattle.std.proofs.Common.{◌≡◌, ℕ, ◌-◌, length, refl, ◌∙◌, ap₂, arith, rules}
-use Rattle.recording.specs.Lists.{Filling, filling, with_pages}
-use Rattle.recording.proofs.Laws.{pages_next, no_pages}
+use Rattle.std.proofs.Common.{◌≡◌, length}
+use Rattle.recording.specs.Lists.{filling, with_pages}
 use Rattle.recording.proofs.lists.put_run.Given as goal
 
 abbrev pub invariant-loop-left : goal.invariant-loop-left

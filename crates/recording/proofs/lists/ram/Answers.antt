@@ -1,4 +1,4 @@
-use Rattle.std.proofs.Common.{◌≡◌, ℕ, ◌-◌, length, refl, ap, ◌∙◌, arith, rules}
+use Rattle.std.proofs.Common.{◌≡◌, ℕ, ◌-◌, refl, ap, ◌∙◌, arith}
 use Rattle.recording.specs.Lists.{with_entries}
 use Rattle.recording.proofs.Laws.{entries_step, entries_end}
 use Rattle.recording.proofs.lists.ram.Goals as goal

@@ -1,6 +1,5 @@
-use Rattle.std.proofs.Common.{◌≡◌, ℕ, ◌-◌, length, refl, ap, ◌∙◌, arith, rules}
+use Rattle.std.proofs.Common.{◌≡◌, ◌-◌, length}
 use Rattle.recording.specs.Lists.{with_entries}
-use Rattle.recording.proofs.Laws.{entries_step, entries_end}
 use Rattle.recording.proofs.lists.ram.Given as goal
 
 abbrev pub invariant-loop-i : goal.invariant-loop-i

@@ -1,4 +1,4 @@
-use Rattle.std.proofs.Common.{◌≡◌, ℕ, ◌-◌, take, ap, ◌∙◌, arith, rules}
+use Rattle.std.proofs.Common.{◌≡◌, ℕ, ◌-◌, take, ap, ◌∙◌, arith}
 use Rattle.recording.proofs.Laws.{part_in, part_past}
 use Rattle.recording.proofs.lists.words_part.Goals as goal
 

@@ -1,4 +1,4 @@
-use Rattle.std.proofs.Common.{ℕ, ◌+◌, ◌%◌, [], ◌∷◌, get_or, ◌∙◌, ap₂, rules}
+use Rattle.std.proofs.Common.{ℕ, ◌+◌, ◌%◌, [], ◌∷◌, get_or, ◌∙◌, ap₂}
 use Rattle.replay.specs.Tally.{noted_of}
 use Rattle.replay.proofs.protector_part.compare.Goals as goal
 

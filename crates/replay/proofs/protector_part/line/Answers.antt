@@ -1,5 +1,4 @@
 use Rattle.replay.proofs.Laws.{protector_line, protector_compared, line_after}
-use Rattle.std.proofs.Common.{rules}
 use Rattle.replay.proofs.protector_part.line.Goals as goal
 
 pub returns : goal.returns

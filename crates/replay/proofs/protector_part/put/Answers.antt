@@ -1,4 +1,4 @@
-use Rattle.std.proofs.Common.{eqb, ap, ◌∙◌, rules, eq-eqb, ne_eqb}
+use Rattle.std.proofs.Common.{eqb, ap, ◌∙◌, eq-eqb, ne_eqb}
 use Rattle.laws.specs.Bools.{took, took_not}
 use Rattle.playback.specs.declared.buffers.Buffers.{Buffers}
 use Rattle.playback.specs.Answers.{finished_of}

@@ -1,4 +1,4 @@
-use Rattle.std.proofs.Common.{◌≡◌, ℕ, refl, ap, ◌∙◌, arith, rules}
+use Rattle.std.proofs.Common.{ℕ, refl, ap, ◌∙◌, arith}
 use Rattle.playback.specs.declared.buffers.Buffers.{Buffers}
 use Rattle.replay.specs.Lines.{put_of, put_times}
 use Rattle.replay.proofs.Laws.{times_next, times_none}

@@ -1,7 +1,5 @@
-use Rattle.std.proofs.Common.{◌≡◌, ℕ, refl, ap, ◌∙◌, arith, rules}
-use Rattle.playback.specs.declared.buffers.Buffers.{Buffers}
-use Rattle.replay.specs.Lines.{put_of, put_times}
-use Rattle.replay.proofs.Laws.{times_next, times_none}
+use Rattle.std.proofs.Common.{◌≡◌}
+use Rattle.replay.specs.Lines.{put_times}
 use Rattle.replay.proofs.protector_part.put_often.Given as goal
 
 abbrev pub invariant-loop-left : goal.invariant-loop-left

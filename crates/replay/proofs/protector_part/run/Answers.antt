@@ -1,4 +1,4 @@
-use Rattle.std.proofs.Common.{◌≡◌, length, refl, ap, ◌∙◌, ap₂, arith, rules}
+use Rattle.std.proofs.Common.{refl, ap, ◌∙◌, ap₂, arith}
 use Rattle.recording.specs.declared.decode.Read.{Read}
 use Rattle.playback.specs.declared.buffers.Buffers.{Buffers}
 use Rattle.replay.specs.Lines.{tally_after, after_lines}

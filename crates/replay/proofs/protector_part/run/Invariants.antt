@@ -1,8 +1,5 @@
-use Rattle.std.proofs.Common.{◌≡◌, length, refl, ap, ◌∙◌, ap₂, arith, rules}
-use Rattle.recording.specs.declared.decode.Read.{Read}
-use Rattle.playback.specs.declared.buffers.Buffers.{Buffers}
+use Rattle.std.proofs.Common.{◌≡◌, length}
 use Rattle.replay.specs.Lines.{tally_after, after_lines}
-use Rattle.replay.proofs.Laws.{lines_next, lines_none, after_next, after_none}
 use Rattle.replay.proofs.protector_part.run.Given as goal
 
 abbrev pub invariant-loop-left : goal.invariant-loop-left

@@ -1,4 +1,4 @@
-use Rattle.std.proofs.Common.{ℕ, [], ◌∷◌, ap, ◌∙◌, ap₂, rules}
+use Rattle.std.proofs.Common.{ℕ, [], ◌∷◌, ap, ◌∙◌, ap₂}
 use Rattle.playback.specs.Registry.{asked_of}
 use Rattle.replay.specs.Tally.{result_of, noted_of}
 use Rattle.replay.proofs.registrar_part.compare.Goals as goal

@@ -1,5 +1,4 @@
 use Rattle.replay.proofs.Laws.{registry_line, registry_compared, line_after}
-use Rattle.std.proofs.Common.{rules}
 use Rattle.replay.proofs.registrar_part.line.Goals as goal
 
 pub returns : goal.returns

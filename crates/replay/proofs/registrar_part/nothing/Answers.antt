@@ -1,4 +1,4 @@
-use Rattle.std.proofs.Common.{replicate, ap, rules}
+use Rattle.std.proofs.Common.{replicate, ap}
 use Rattle.registrar_state.specs.declared.Reply.{Reply}
 use Rattle.replay.proofs.registrar_part.nothing.Goals as goal
 

@@ -1,4 +1,4 @@
-use Rattle.std.proofs.Common.{◌≡◌, length, refl, ◌∙◌, ap₂, arith, rules}
+use Rattle.std.proofs.Common.{refl, ◌∙◌, ap₂, arith}
 use Rattle.recording.specs.declared.decode.Read.{Read}
 use Rattle.playback.specs.declared.registry.Registry.{Registry}
 use Rattle.replay.specs.Lines.{registry_tally}

@@ -1,8 +1,5 @@
-use Rattle.std.proofs.Common.{◌≡◌, length, refl, ◌∙◌, ap₂, arith, rules}
-use Rattle.recording.specs.declared.decode.Read.{Read}
-use Rattle.playback.specs.declared.registry.Registry.{Registry}
+use Rattle.std.proofs.Common.{◌≡◌, length}
 use Rattle.replay.specs.Lines.{registry_tally}
-use Rattle.replay.proofs.Laws.{registry_next, registry_none}
 use Rattle.replay.proofs.registrar_part.run.Given as goal
 
 abbrev pub invariant-loop-left : goal.invariant-loop-left

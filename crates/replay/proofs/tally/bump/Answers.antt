@@ -1,4 +1,4 @@
-use Rattle.std.proofs.Common.{ℕ, set, sym, ap, rules}
+use Rattle.std.proofs.Common.{ℕ, set, sym, ap}
 use lib.Seq.{set_out}
 use Rattle.replay.proofs.tally.bump.Goals as goal
 

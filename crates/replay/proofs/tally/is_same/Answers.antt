@@ -1,5 +1,4 @@
 use Rattle.replay.proofs.Laws.{differ_0, differ_1, differ_2, differ_3, differ_4, differ_5}
-use Rattle.std.proofs.Common.{rules}
 use Rattle.replay.proofs.tally.is_same.Goals as goal
 
 pub returns-then-f-g : goal.returns-then-f-g

@@ -1,5 +1,4 @@
 use Rattle.replay.proofs.Laws.{noted_same, noted_other}
-use Rattle.std.proofs.Common.{rules}
 use Rattle.replay.proofs.tally.note.Goals as goal
 
 pub returns-then-is_same : goal.returns-then-is_same
