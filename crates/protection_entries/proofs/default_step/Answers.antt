@@ -10,6 +10,9 @@ use Rattle.protection_entries.proofs.default_step.Goals as goal
 
 pub returns : goal.returns
 returns c =
-    let a = c.args in record { value = c.start_ram.ensures ∙ ap₂ (λ (t : Bool) (r : PageRun). start_ram t a.vtl a.flags r) c.is_tracked.ensures c.first_piece-piece.ensures.value; count_bound = subst
+    let a = c.args in record {
+      value = c.start_ram.ensures ∙ ap₂ (λ (t : Bool) (r : PageRun). start_ram t a.vtl a.flags r) c.is_tracked.ensures c.first_piece-piece.ensures.value;
+      count_bound = subst
           (λ (x : ChangeStep). x.written.first + x.written.count ≤ 2 ^ 64) (sym c.start_ram.ensures)
-          (laws.ram_within c.is_tracked.result a.vtl a.flags c.first_piece-piece.result c.first_piece-piece.ensures.count_bound) }
+          (laws.ram_within c.is_tracked.result a.vtl a.flags c.first_piece-piece.result c.first_piece-piece.ensures.count_bound);
+    }
