@@ -1,36 +1,32 @@
 #!/usr/bin/env bash
-# All that must hold: every proof, must-fail edit and program, then the Rust beside the port, over the libraries just proved.
+# All that must hold: every proof, must-fail edit and program, then the Rust beside the port, over the library just proved.
 set -euo pipefail
 cd "$(dirname "${BASH_SOURCE[0]}")"
 
-verdict=$(mktemp)
-copy=$(mktemp -d)
-trap 'rm -rf "$verdict" "$copy"' EXIT
-rt fmt --check
+said=$(mktemp)
+trap 'rm -f "$said"' EXIT
 # The entries in header, Rust, crates and theorem: read as text, in seconds.
 cargo test --offline --quiet --manifest-path rust/Cargo.toml -p boundary
-# One more at a time than cores: the longest of a group then leaves no core idle. The prover keeps the memory that it frees.
-export RT_JOBS=${RT_JOBS:-3} MIMALLOC_PURGE_DELAY=${MIMALLOC_PURGE_DELAY:--1}
-rt ci | tee "$verdict"
-# Edits with several wrong programs: each must be refused by the proof of its own function.
+rt ci | tee "$said"
+# An edit that can't be tried shows nothing of a contract; rt ci counts it, and passes all the same.
+if grep -Eq '^rt: ok.*, [0-9]+ bad' "$said"; then
+    echo "test.sh: there are bad must-fail edits, as told above" >&2
+    exit 1
+fi
+# Edits with several wrong programs.
 .ci/refused.py
 
 # One number changed in each of six recorded lines, those that are compared: the replay must see all six.
-seen=$(awk 'NR >= 3 && NR <= 8 { $(NR + 7) = $(NR + 7) "1" } { print }' crates/replay/stdin | target/bin/replay | tail -n 1)
+seen=$(awk 'NR >= 3 && NR <= 8 { $(NR + 7) = $(NR + 7) "1" } { print }' crates/replay/stdin | (cd crates/replay && rt run) | tail -n 1)
 case $seen in
 *', not as recorded: 6') ;;
 *) echo "test.sh: the replay doesn't see changed answers: $seen" >&2; exit 1 ;;
 esac
 
-# The static libraries of the crates with entries, half of them in a copy of the tree: two rt in one tree break each other.
-libraries() { for name in "$@"; do rt staticlib "$name" > /dev/null; done; }
-mapfile -t names < <(grep -l 'pub extern "C" fn' crates/*/src/*.rt | cut -d/ -f2 | sort -u)
-half=$((${#names[@]} / 2))
-cp -r crates crates.txt target "$copy"
-(cd "$copy" && libraries "${names[@]:0:half}") &
-libraries "${names[@]:half}"
-wait $!
-cp "$copy"/target/staticlib/*.a target/staticlib/
+# The library for C and Rust, from the crate that exports the entries, under the name that its callers know.
+made=$(cd crates/underhill_mem_c && rt lib) || { echo "$made"; exit 1; }
+mkdir -p target/staticlib
+cp crates/underhill_mem_c/out/libunderhill_mem_c.a target/staticlib/libunderhill_mem.a
 
 left_out=()
 if [ ! -d "${UNDERHILL_MEM_SRC:-../shared/docs/src/openhcl/underhill_mem/src}" ]; then
@@ -45,4 +41,4 @@ else
 fi
 
 # The verdict of rt ci, once more, as the last line.
-tail -n 1 "$verdict"
+tail -n 1 "$said"

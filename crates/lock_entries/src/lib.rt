@@ -56,13 +56,7 @@ fn unlock_of(tables: &mut [u64], vtl: GuestVtl, list: &[u8]) -> u64
 }
 
 // A list of pages is locked for a VTL: 17 where there is no room. No operation is asked for, and a refusal changes nothing.
-#[unsafe(no_mangle)]
-pub extern "C" fn protector_lock_gpns(
-    state: &[u64],
-    tables: &mut [u64],
-    vtl: u64,
-    list: &[u8],
-) -> Reply
+pub fn protector_lock_gpns(state: &[u64], tables: &mut [u64], vtl: u64, list: &[u8]) -> Reply
     ensures { kept tables.new result ≡ lock_of state.now tables.old vtl list.now }
 {
     let n = lock_refusal(state, tables.len() as u64, vtl, list);
@@ -75,13 +69,7 @@ pub extern "C" fn protector_lock_gpns(
 }
 
 // The first equal list of a VTL is unlocked: 18 where there is none. No operation is asked for, and a refusal changes nothing.
-#[unsafe(no_mangle)]
-pub extern "C" fn protector_unlock_gpns(
-    state: &[u64],
-    tables: &mut [u64],
-    vtl: u64,
-    list: &[u8],
-) -> Reply
+pub fn protector_unlock_gpns(state: &[u64], tables: &mut [u64], vtl: u64, list: &[u8]) -> Reply
     ensures { kept tables.new result ≡ unlock_of state.now tables.old vtl list.now }
 {
     let n = lock_refusal(state, tables.len() as u64, vtl, list);

@@ -43,13 +43,7 @@ fn set_ref_count(tables: &mut [u64], vtl: GuestVtl, place: u64, count: u64)
 }
 
 // Whether a VTL has an overlay entry of a page, 1 or 0. Nothing is written, and no operation is asked for.
-#[unsafe(no_mangle)]
-pub extern "C" fn protector_is_overlay_page(
-    state: &[u64],
-    tables: &[u64],
-    vtl: u64,
-    gpn: u64,
-) -> Value
+pub fn protector_is_overlay_page(state: &[u64], tables: &[u64], vtl: u64, gpn: u64) -> Value
     ensures { result ≡ is_overlay_in state.now tables.now vtl gpn }
 {
     let n = overlay_refusals::table_refusal(state, tables.len() as u64, vtl);
@@ -63,8 +57,7 @@ pub extern "C" fn protector_is_overlay_page(
 
 // An overlay page has one registration fewer. The last one asks for a Protect with the flags that the page had, then for Wait,
 // Flush and TlbWait; the entry goes as the Protect is done. A refusal changes nothing.
-#[unsafe(no_mangle)]
-pub extern "C" fn protector_unregister_overlay_page(
+pub fn protector_unregister_overlay_page(
     private: &[u8],
     shared: &[u8],
     read: &mut [u8],
@@ -110,8 +103,7 @@ pub extern "C" fn protector_unregister_overlay_page(
 
 // An overlay page has one registration more. The first one asks for a Protect if new flags are given, then for Wait, Flush and
 // TlbWait; the entry comes as Wait is asked for. A refusal changes nothing.
-#[unsafe(no_mangle)]
-pub extern "C" fn protector_register_overlay_page(
+pub fn protector_register_overlay_page(
     private: &[u8],
     shared: &[u8],
     read: &mut [u8],

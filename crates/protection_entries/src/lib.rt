@@ -140,8 +140,7 @@ fn apply_step(
 
 // A VTL has another default, to which its overlays on private RAM will return: asks for a Protect of each run of private RAM
 // between them, then for Wait, Flush and TlbWait. 10 refuses it with the default stored; every other refusal changes nothing.
-#[unsafe(no_mangle)]
-pub extern "C" fn protector_change_default_vtl_protections(
+pub fn protector_change_default_vtl_protections(
     private: &[u8],
     shared: &[u8],
     read: &mut [u8],
@@ -258,8 +257,7 @@ fn protection_step(state: &[u64], pages: &[u64], vtl: GuestVtl, flags: u64, n: u
 
 // A VTL has other flags for the pages of a list: asks for a Protect of each run in it, then for Wait, Flush and TlbWait. A
 // refusal changes nothing.
-#[unsafe(no_mangle)]
-pub extern "C" fn protector_change_vtl_protections(
+pub fn protector_change_vtl_protections(
     private: &[u8],
     shared: &[u8],
     read: &mut [u8],

@@ -48,8 +48,7 @@ fn build_state(state: &mut [u64], ram: &[u64], offset: u64, granularity: u64)
 
 // A registrar of a layout, with no chunk registered and none failed, whatever the runs held. Nothing is asked for, and a
 // refusal changes nothing.
-#[unsafe(no_mangle)]
-pub extern "C" fn registrar_build(
+pub fn registrar_build(
     ram: &[u64],
     offset: u64,
     granularity: u64,
@@ -124,8 +123,7 @@ fn answer(state: &[u64], total: u64, count: u64, until: u64, chunk: u64) -> Repl
 
 // The chunks that a range touches: asks for a Register of each span of RAM in those not registered, one at a time. 4, 9 and 19
 // change nothing; 23 is for a chunk that failed before, and those passed on the way to it are registered.
-#[unsafe(no_mangle)]
-pub extern "C" fn registrar_register(
+pub fn registrar_register(
     state: &mut [u64],
     registered: &mut [u64],
     failed: &mut [u64],
@@ -173,8 +171,7 @@ fn register_all_from(
 
 // The aligned part of each span: asks for a Register of each stretch not registered, one at a time. 4, 8, 9 and 19 change
 // nothing; 22, at an unaligned span, and 23, at a chunk that failed before, leave what is registered until then.
-#[unsafe(no_mangle)]
-pub extern "C" fn registrar_register_all_aligned(
+pub fn registrar_register_all_aligned(
     state: &mut [u64],
     registered: &mut [u64],
     failed: &mut [u64],
@@ -243,12 +240,7 @@ fn register_all_done(state: &mut [u64], registered: &mut [u64], failed: &[u64]) 
 
 // The Register asked for is done: its chunks are registered unless RAM of theirs is left, and the next Register is asked for or
 // the call ends. 4 and 21 change nothing.
-#[unsafe(no_mangle)]
-pub extern "C" fn registrar_answer_done(
-    state: &mut [u64],
-    registered: &mut [u64],
-    failed: &mut [u64],
-) -> Reply
+pub fn registrar_answer_done(state: &mut [u64], registered: &mut [u64], failed: &mut [u64]) -> Reply
     ensures { outcome state.new registered.new failed.new result ≡ done_of (buffers state.old registered.old failed.old) }
 {
     let total = registrar_state::chunk_count(state);
@@ -263,8 +255,7 @@ pub extern "C" fn registrar_answer_done(
 }
 
 // The Register asked for failed: its chunks are marked as failed, and the call ends with 23. 4 and 21 change nothing.
-#[unsafe(no_mangle)]
-pub extern "C" fn registrar_answer_failed(
+pub fn registrar_answer_failed(
     state: &mut [u64],
     registered: &mut [u64],
     failed: &mut [u64],

@@ -23,8 +23,7 @@ fn enable_refusal(state: &[u64]) -> u64
 
 // VTL1's protections are enabled: 24 where permissions aren't tracked. No operation is asked for, and a refusal changes
 // nothing.
-#[unsafe(no_mangle)]
-pub extern "C" fn protector_set_vtl1_protections_enabled(state: &mut [u64]) -> Reply
+pub fn protector_set_vtl1_protections_enabled(state: &mut [u64]) -> Reply
     ensures { enabled state.new result ≡ enable_of state.old }
 {
     let n = enable_refusal(state);
@@ -36,8 +35,7 @@ pub extern "C" fn protector_set_vtl1_protections_enabled(state: &mut [u64]) -> R
 }
 
 // Whether VTL1's protections are enabled, 1 or 0. Nothing is written, and no operation is asked for.
-#[unsafe(no_mangle)]
-pub extern "C" fn protector_vtl1_protections_enabled(state: &[u64]) -> Value
+pub fn protector_vtl1_protections_enabled(state: &[u64]) -> Value
     ensures { result ≡ enabled_in state.now }
 {
     let n = call_refusals::state_refusal(state);
@@ -49,8 +47,7 @@ pub extern "C" fn protector_vtl1_protections_enabled(state: &[u64]) -> Value
 }
 
 // The flags of VTL0's default. Nothing is written, and no operation is asked for.
-#[unsafe(no_mangle)]
-pub extern "C" fn protector_default_vtl0_protections(state: &[u64]) -> Value
+pub fn protector_default_vtl0_protections(state: &[u64]) -> Value
     ensures { result ≡ default_in state.now }
 {
     let n = call_refusals::state_refusal(state);

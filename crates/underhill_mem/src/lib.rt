@@ -16,8 +16,7 @@ use protector_state::{Reply, Value};
 
 // A protector of a layout: RAM private with all permissions, and empty tables, whatever the runs held. No operation is asked
 // for, and a refusal changes nothing.
-#[unsafe(no_mangle)]
-pub extern "C" fn protector_build(
+pub fn protector_build(
     ram: &[u64],
     isolation: u64,
     tracked: u64,
@@ -67,8 +66,7 @@ pub extern "C" fn protector_build(
 
 // The pages of a list that aren't yet as wanted become shared or private: their old marks are cleared and Wait is asked for,
 // then the answers lead on. A refusal changes nothing.
-#[unsafe(no_mangle)]
-pub extern "C" fn protector_change_host_visibility(
+pub fn protector_change_host_visibility(
     private: &mut [u8],
     shared: &mut [u8],
     read: &mut [u8],
@@ -115,8 +113,7 @@ pub extern "C" fn protector_change_host_visibility(
 
 // The operation asked for is done: the call's next one is asked for, or the call ends. An answer that isn't taken changes
 // nothing.
-#[unsafe(no_mangle)]
-pub extern "C" fn protector_answer_done(
+pub fn protector_answer_done(
     private: &mut [u8],
     shared: &mut [u8],
     read: &mut [u8],
@@ -154,8 +151,7 @@ pub extern "C" fn protector_answer_done(
 
 // The operation asked for failed: the call halts, ends with 16, or goes on with the pages that Modify processed, to end with 16
 // then. An answer that isn't taken changes nothing.
-#[unsafe(no_mangle)]
-pub extern "C" fn protector_answer_failed(
+pub fn protector_answer_failed(
     private: &mut [u8],
     shared: &mut [u8],
     read: &mut [u8],
@@ -201,8 +197,7 @@ pub extern "C" fn protector_answer_failed(
 
 // A byte for each page of a list: 0 private, 1 shared. A short output is filled as far as it goes. No operation is asked for,
 // and a refusal writes nothing.
-#[unsafe(no_mangle)]
-pub extern "C" fn protector_query_host_visibility(
+pub fn protector_query_host_visibility(
     state: &[u64],
     shared: &[u8],
     list: &[u8],
@@ -229,8 +224,7 @@ pub extern "C" fn protector_query_host_visibility(
 
 // What a fault at an address gives: Retry, or what is in its way. It is answered while a call is under way or halted too, asks
 // for no operation and writes nothing.
-#[unsafe(no_mangle)]
-pub extern "C" fn protector_page_fault(
+pub fn protector_page_fault(
     private: &[u8],
     shared: &[u8],
     read: &[u8],
@@ -259,8 +253,7 @@ pub extern "C" fn protector_page_fault(
 
 // The flags that a VTL has for a page. It is answered while a call is under way or halted too, asks for no operation and writes
 // nothing.
-#[unsafe(no_mangle)]
-pub extern "C" fn protector_query_lower_vtl_permissions(
+pub fn protector_query_lower_vtl_permissions(
     private: &[u8],
     shared: &[u8],
     read: &[u8],
@@ -285,8 +278,7 @@ pub extern "C" fn protector_query_lower_vtl_permissions(
 
 // The flags that the permission maps have for a page: 24 where there are no such maps. It is answered while a call is under way
 // or halted too, asks for no operation and writes nothing.
-#[unsafe(no_mangle)]
-pub extern "C" fn protector_query_access_permission(
+pub fn protector_query_access_permission(
     private: &[u8],
     shared: &[u8],
     read: &[u8],

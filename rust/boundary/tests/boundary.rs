@@ -152,15 +152,42 @@ fn the_theorems_are_about_every_entry() {
 }
 
 #[test]
-fn every_crate_with_entries_is_linked() {
+fn what_is_exported_is_linked() {
     let build = read("rust/underhill_mem_port/build.rs");
-    let (_, list) = build
-        .split_once("const LIBRARIES")
-        .expect("a list of crates");
-    let list = list.split_once("];").expect("its end").0;
-    let linked: BTreeSet<_> = list.split('"').skip(1).step_by(2).collect();
-    let (_, crates) = in_crates();
-    assert_eq!(linked, crates.values().map(String::as_str).collect());
+    let linked = build
+        .split_once("const LIBRARY: &str = \"")
+        .expect("the library's crate");
+    let linked = linked.1.split_once('"').expect("its end").0;
+    let exports = rattle::exports(&sources()).expect("the crates are read");
+    let exported: BTreeSet<_> = exports.values().map(|e| e.exported_by.as_str()).collect();
+    assert_eq!(exported, BTreeSet::from([linked]));
+    let line = format!("{linked} staticlib:");
+    assert!(
+        read("crates.txt").lines().any(|l| l.starts_with(&line)),
+        "{line}"
+    );
+}
+
+#[test]
+fn an_export_is_the_libraries_function() {
+    let mut sources = sources();
+    let wrong = rattle::wrong_calls(&sources).expect("the crates are read");
+    same(wrong);
+    // Another function, arguments in another order, another clause, another answer.
+    let place = "underhill_mem_c";
+    let text = sources[place].clone();
+    for (from, to) in [
+        ("::protector_lock_gpns(", "::protector_unlock_gpns("),
+        ("(state, tables, vtl, gpn)", "(state, tables, gpn, vtl)"),
+        ("≡ enable_of state.old", "≡ enable_of state.new"),
+        ("setting_entries::", "registrar::"),
+        ("    registrar::", "    let _ = registrar::"),
+    ] {
+        assert!(text.contains(from), "{from}");
+        sources.insert(place.to_string(), text.replacen(from, to, 1));
+        let wrong = rattle::wrong_calls(&sources).expect("the crates are read");
+        assert_eq!(wrong.len(), 1, "{from}: {wrong:?}");
+    }
 }
 
 /// An edit of the header, and the entry at which it is seen.

@@ -1,6 +1,6 @@
 //! The proved port of underhill_mem, for Rust.
 //!
-//! The port is one static library, which the build script joins of what `rt staticlib` makes. It
+//! The port is one static library, which the build script makes with `rt lib`. It
 //! holds no memory of its own: each call is lent a state block and bitmaps, and asks one backend
 //! operation at a time instead of calling back. This crate owns that memory, speaks in Rust's types
 //! and drives a call to its end over a backend. Nothing is decided here: each answer is the

@@ -1,4 +1,4 @@
-//! The header and the joined library for a C program: it compiles without a warning, links with
+//! The header and the library for a C program: it compiles without a warning, links with
 //! nothing else, and gets what the entries give.
 
 use std::io::ErrorKind;
@@ -28,7 +28,7 @@ fn a_c_program_calls_each_family() {
         .arg("-I")
         .arg(package.join("../../include"))
         .arg(package.join("tests/header.c"))
-        .arg(env!("UNDERHILL_MEM_JOINED"))
+        .arg(env!("UNDERHILL_MEM_ARCHIVE"))
         .arg("-o")
         .arg(&program);
     let Some((text, built)) = said(&mut cc) else {
