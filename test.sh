@@ -12,7 +12,7 @@ cargo test --offline --quiet --manifest-path rust/Cargo.toml -p boundary
 # One more at a time than cores: the longest of a group then leaves no core idle. The prover keeps the memory that it frees.
 export RT_JOBS=${RT_JOBS:-3} MIMALLOC_PURGE_DELAY=${MIMALLOC_PURGE_DELAY:--1}
 rt ci | tee "$verdict"
-# Edits with several wrong programs: each must be refused by the proof of its own function.
+# Edits with several wrong programs: each must stand alone in an edit too, where rt ci has tried it.
 .ci/refused.py
 
 # One number changed in each of six recorded lines, those that are compared: the replay must see all six.
