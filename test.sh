@@ -13,7 +13,7 @@ if grep -Eq '^rt: ok.*, [0-9]+ bad' "$said"; then
     echo "test.sh: there are bad must-fail edits, as told above" >&2
     exit 1
 fi
-# Edits with several wrong programs.
+# Edits with several wrong programs: each must stand alone in an edit too, where rt ci has tried it.
 .ci/refused.py
 
 # One number changed in each of six recorded lines, those that are compared: the replay must see all six.
