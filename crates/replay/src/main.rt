@@ -1,6 +1,8 @@
 // Recorded answers of the original, held against the proved entries. The input is the file of recorded calls.
 #![tactic(auto)]
 
+ghost use Rattle.std.specs.Prelude.{◌≤◌, length, IfOk};
+
 mod field;
 mod given;
 mod protector_part;
@@ -162,7 +164,9 @@ fn say_difference(rt: &impl Print, difference: &Difference) -> io::Result<()> {
 }
 
 // Reads until `buffer` is full or the input ends, and says how many bytes it has.
-fn read_full(input: &mut impl Read, buffer: &mut [u8]) -> io::Result<usize> {
+fn read_full(input: &mut impl Read, buffer: &mut [u8]) -> io::Result<usize>
+    ensures { IfOk result (λ n. n ≤ length buffer.new) }
+{
     let mut done = 0;
     for _ in 0..u64::MAX {
         if buffer.len() <= done {
