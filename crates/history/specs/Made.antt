@@ -12,42 +12,42 @@ use Rattle.protector_state.specs.declared.Value.{Value}
 use Rattle.queries.specs.Queries as queries
 use Rattle.visibility_claims.specs.Whole.{Succeeds, Fails}
 use Rattle.history.specs.Call.{Visibility, Protection, Default, Register, Unregister, Lock, Unlock, Enable, TellEnabled, TellDefault, IsOverlay, Query, Fault, Lower, Access, Call, Write, Read, Answer, Result}
-use Rattle.underhill_mem.proofs.protector_change_host_visibility.Reads as rVisibility
-use Rattle.underhill_mem.proofs.protector_change_host_visibility.Kinds as kVisibility
-use Rattle.underhill_mem.proofs.protector_answer_done.Reads as rDone
-use Rattle.underhill_mem.proofs.protector_answer_done.Kinds as kDone
-use Rattle.underhill_mem.proofs.protector_answer_failed.Reads as rFailed
-use Rattle.underhill_mem.proofs.protector_answer_failed.Kinds as kFailed
-use Rattle.protection_entries.proofs.protector_change_vtl_protections.Reads as rProtection
-use Rattle.protection_entries.proofs.protector_change_vtl_protections.Kinds as kProtection
-use Rattle.protection_entries.proofs.protector_change_default_vtl_protections.Reads as rDefault
-use Rattle.protection_entries.proofs.protector_change_default_vtl_protections.Kinds as kDefault
-use Rattle.overlay_entries.proofs.protector_register_overlay_page.Reads as rRegister
-use Rattle.overlay_entries.proofs.protector_register_overlay_page.Kinds as kRegister
-use Rattle.overlay_entries.proofs.protector_unregister_overlay_page.Reads as rUnregister
-use Rattle.overlay_entries.proofs.protector_unregister_overlay_page.Kinds as kUnregister
-use Rattle.lock_entries.proofs.protector_lock_gpns.Reads as rLock
-use Rattle.lock_entries.proofs.protector_lock_gpns.Kinds as kLock
-use Rattle.lock_entries.proofs.protector_unlock_gpns.Reads as rUnlock
-use Rattle.lock_entries.proofs.protector_unlock_gpns.Kinds as kUnlock
-use Rattle.setting_entries.proofs.protector_set_vtl1_protections_enabled.Reads as rEnable
-use Rattle.setting_entries.proofs.protector_set_vtl1_protections_enabled.Kinds as kEnable
+use Rattle.underhill_mem.proofs.protector_change_host_visibility.Reads as r_visibility
+use Rattle.underhill_mem.proofs.protector_change_host_visibility.Kinds as k_visibility
+use Rattle.underhill_mem.proofs.protector_answer_done.Reads as r_done
+use Rattle.underhill_mem.proofs.protector_answer_done.Kinds as k_done
+use Rattle.underhill_mem.proofs.protector_answer_failed.Reads as r_failed
+use Rattle.underhill_mem.proofs.protector_answer_failed.Kinds as k_failed
+use Rattle.protection_entries.proofs.protector_change_vtl_protections.Reads as r_protection
+use Rattle.protection_entries.proofs.protector_change_vtl_protections.Kinds as k_protection
+use Rattle.protection_entries.proofs.protector_change_default_vtl_protections.Reads as r_default
+use Rattle.protection_entries.proofs.protector_change_default_vtl_protections.Kinds as k_default
+use Rattle.overlay_entries.proofs.protector_register_overlay_page.Reads as r_register
+use Rattle.overlay_entries.proofs.protector_register_overlay_page.Kinds as k_register
+use Rattle.overlay_entries.proofs.protector_unregister_overlay_page.Reads as r_unregister
+use Rattle.overlay_entries.proofs.protector_unregister_overlay_page.Kinds as k_unregister
+use Rattle.lock_entries.proofs.protector_lock_gpns.Reads as r_lock
+use Rattle.lock_entries.proofs.protector_lock_gpns.Kinds as k_lock
+use Rattle.lock_entries.proofs.protector_unlock_gpns.Reads as r_unlock
+use Rattle.lock_entries.proofs.protector_unlock_gpns.Kinds as k_unlock
+use Rattle.setting_entries.proofs.protector_set_vtl1_protections_enabled.Reads as r_enable
+use Rattle.setting_entries.proofs.protector_set_vtl1_protections_enabled.Kinds as k_enable
 use Rattle.setting_entries.proofs.protector_vtl1_protections_enabled.Reads as r_tell_enabled
 use Rattle.setting_entries.proofs.protector_vtl1_protections_enabled.Kinds as k_tell_enabled
 use Rattle.setting_entries.proofs.protector_default_vtl0_protections.Reads as r_tell_default
 use Rattle.setting_entries.proofs.protector_default_vtl0_protections.Kinds as k_tell_default
 use Rattle.overlay_entries.proofs.protector_is_overlay_page.Reads as r_is_overlay
 use Rattle.overlay_entries.proofs.protector_is_overlay_page.Kinds as k_is_overlay
-use Rattle.underhill_mem.proofs.protector_query_host_visibility.Reads as rQuery
-use Rattle.underhill_mem.proofs.protector_query_host_visibility.Kinds as kQuery
-use Rattle.underhill_mem.proofs.protector_page_fault.Reads as rFault
-use Rattle.underhill_mem.proofs.protector_page_fault.Kinds as kFault
-use Rattle.underhill_mem.proofs.protector_query_lower_vtl_permissions.Reads as rLower
-use Rattle.underhill_mem.proofs.protector_query_lower_vtl_permissions.Kinds as kLower
-use Rattle.underhill_mem.proofs.protector_query_access_permission.Reads as rAccess
-use Rattle.underhill_mem.proofs.protector_query_access_permission.Kinds as kAccess
-use Rattle.underhill_mem.proofs.protector_build.Reads as rBuild
-use Rattle.underhill_mem.proofs.protector_build.Kinds as kBuild
+use Rattle.underhill_mem.proofs.protector_query_host_visibility.Reads as r_query
+use Rattle.underhill_mem.proofs.protector_query_host_visibility.Kinds as k_query
+use Rattle.underhill_mem.proofs.protector_page_fault.Reads as r_fault
+use Rattle.underhill_mem.proofs.protector_page_fault.Kinds as k_fault
+use Rattle.underhill_mem.proofs.protector_query_lower_vtl_permissions.Reads as r_lower
+use Rattle.underhill_mem.proofs.protector_query_lower_vtl_permissions.Kinds as k_lower
+use Rattle.underhill_mem.proofs.protector_query_access_permission.Reads as r_access
+use Rattle.underhill_mem.proofs.protector_query_access_permission.Kinds as k_access
+use Rattle.underhill_mem.proofs.protector_build.Reads as r_build
+use Rattle.underhill_mem.proofs.protector_build.Kinds as k_build
 
 -- ---- a run as it is lent, for writing or for reading alone; and its words
 
@@ -133,26 +133,26 @@ but_marks_pages before after = buffers (with_marks before.maps after.maps) after
 -- ---- a call that was lent u, left v and answered r
 
 pub data Made : (c : Call) → Buffers → Buffers → Result c → Type 0 where
-  visibility : (κs : Lfts 10) (a : Dens κs kVisibility.ps) (r : Reply) (e : AtExit (ended_of 10 kVisibility.ps kVisibility.r) κs) → rVisibility.Learnt κs a r e
+  visibility : (κs : Lfts 10) (a : Dens κs k_visibility.ps) (r : Reply) (e : AtExit (ended_of 10 k_visibility.ps k_visibility.r) κs) → r_visibility.Learnt κs a r e
       → Made (Write (Visibility (past reads_tables a).0 (past reads_tables a).1.0 (past reads_tables a).1.1.0.now)) (buffers_of reads_tables a) (but_tables (buffers_of reads_tables a) (buffers_of reads_tables e)) r
-  done : (κs : Lfts 9) (a : Dens κs kDone.ps) (r : Reply) (e : AtExit (ended_of 9 kDone.ps kDone.r) κs) → rDone.Learnt κs a r e
+  done : (κs : Lfts 9) (a : Dens κs k_done.ps) (r : Reply) (e : AtExit (ended_of 9 k_done.ps k_done.r) κs) → r_done.Learnt κs a r e
       → Made (Answer Succeeds) (buffers_of writes_all a) (buffers_of writes_all e) r
-  failed : (κs : Lfts 9) (a : Dens κs kFailed.ps) (r : Reply) (e : AtExit (ended_of 9 kFailed.ps kFailed.r) κs) → rFailed.Learnt κs a r e
+  failed : (κs : Lfts 9) (a : Dens κs k_failed.ps) (r : Reply) (e : AtExit (ended_of 9 k_failed.ps k_failed.r) κs) → r_failed.Learnt κs a r e
       → Made (Answer (Fails (past writes_all a).0 (past writes_all a).1.0)) (buffers_of writes_all a) (buffers_of writes_all e) r
-  protection : (κs : Lfts 10) (a : Dens κs kProtection.ps) (r : Reply) (e : AtExit (ended_of 10 kProtection.ps kProtection.r) κs) → rProtection.Learnt κs a r e
+  protection : (κs : Lfts 10) (a : Dens κs k_protection.ps) (r : Reply) (e : AtExit (ended_of 10 k_protection.ps k_protection.r) κs) → r_protection.Learnt κs a r e
       → Made (Write (Protection (past reads_marks_tables a).0 (past reads_marks_tables a).1.0 (past reads_marks_tables a).1.1.0.now)) (buffers_of reads_marks_tables a) (but_marks_tables (buffers_of reads_marks_tables a) (buffers_of reads_marks_tables e)) r
-  default : (κs : Lfts 9) (a : Dens κs kDefault.ps) (r : Reply) (e : AtExit (ended_of 9 kDefault.ps kDefault.r) κs) → rDefault.Learnt κs a r e
+  default : (κs : Lfts 9) (a : Dens κs k_default.ps) (r : Reply) (e : AtExit (ended_of 9 k_default.ps k_default.r) κs) → r_default.Learnt κs a r e
       → Made (Write (Default (past reads_marks_pages a).0 (past reads_marks_pages a).1.0)) (buffers_of reads_marks_pages a) (but_marks_pages (buffers_of reads_marks_pages a) (buffers_of reads_marks_pages e)) r
-  register : (κs : Lfts 9) (a : Dens κs kRegister.ps) (r : Reply) (e : AtExit (ended_of 9 kRegister.ps kRegister.r) κs) → rRegister.Learnt κs a r e
+  register : (κs : Lfts 9) (a : Dens κs k_register.ps) (r : Reply) (e : AtExit (ended_of 9 k_register.ps k_register.r) κs) → r_register.Learnt κs a r e
       → Made (Write (Register (past reads_marks_pages a).0 (past reads_marks_pages a).1.0 (past reads_marks_pages a).1.1.0 (past reads_marks_pages a).1.1.1.0 (past reads_marks_pages a).1.1.1.1.0)) (buffers_of reads_marks_pages a) (but_marks_pages (buffers_of reads_marks_pages a) (buffers_of reads_marks_pages e)) r
-  unregister : (κs : Lfts 9) (a : Dens κs kUnregister.ps) (r : Reply) (e : AtExit (ended_of 9 kUnregister.ps kUnregister.r) κs) → rUnregister.Learnt κs a r e
+  unregister : (κs : Lfts 9) (a : Dens κs k_unregister.ps) (r : Reply) (e : AtExit (ended_of 9 k_unregister.ps k_unregister.r) κs) → r_unregister.Learnt κs a r e
       → Made (Write (Unregister (past reads_marks_pages a).0 (past reads_marks_pages a).1.0)) (buffers_of reads_marks_pages a) (but_marks_pages (buffers_of reads_marks_pages a) (buffers_of reads_marks_pages e)) r
   -- the calls on locks are lent the state block and the tables alone, and the setter and the getters the state block
-  lock : (maps : Maps) (pages : List ℕ) (κs : Lfts 3) (a : Dens κs kLock.ps) (r : Reply) (e : AtExit (ended_of 3 kLock.ps kLock.r) κs) → rLock.Learnt κs a r e
+  lock : (maps : Maps) (pages : List ℕ) (κs : Lfts 3) (a : Dens κs k_lock.ps) (r : Reply) (e : AtExit (ended_of 3 k_lock.ps k_lock.r) κs) → r_lock.Learnt κs a r e
       → Made (Write (Lock a.1.1.0 a.1.1.1.0.now)) (with_tables true maps pages a) (buffers maps a.0.now pages e.1.0.now) r
-  unlock : (maps : Maps) (pages : List ℕ) (κs : Lfts 3) (a : Dens κs kUnlock.ps) (r : Reply) (e : AtExit (ended_of 3 kUnlock.ps kUnlock.r) κs) → rUnlock.Learnt κs a r e
+  unlock : (maps : Maps) (pages : List ℕ) (κs : Lfts 3) (a : Dens κs k_unlock.ps) (r : Reply) (e : AtExit (ended_of 3 k_unlock.ps k_unlock.r) κs) → r_unlock.Learnt κs a r e
       → Made (Write (Unlock a.1.1.0 a.1.1.1.0.now)) (with_tables true maps pages a) (buffers maps a.0.now pages e.1.0.now) r
-  enable : (maps : Maps) (pages tables : List ℕ) (κs : Lfts 1) (a : Dens κs kEnable.ps) (r : Reply) (e : AtExit (ended_of 1 kEnable.ps kEnable.r) κs) → rEnable.Learnt κs a r e
+  enable : (maps : Maps) (pages tables : List ℕ) (κs : Lfts 1) (a : Dens κs k_enable.ps) (r : Reply) (e : AtExit (ended_of 1 k_enable.ps k_enable.r) κs) → r_enable.Learnt κs a r e
       → Made (Write Enable) (with_state true maps pages tables a) (with_state true maps pages tables e) r
   tell_enabled : (maps : Maps) (pages tables : List ℕ) (κs : Lfts 1) (a : Dens κs k_tell_enabled.ps) (r : Value) (e : AtExit (ended_of 1 k_tell_enabled.ps k_tell_enabled.r) κs) → r_tell_enabled.Learnt κs a r e
       → Made (Read TellEnabled) (with_state false maps pages tables a) (with_state false maps pages tables a) r
@@ -161,40 +161,40 @@ pub data Made : (c : Call) → Buffers → Buffers → Result c → Type 0 where
   is_overlay : (maps : Maps) (pages : List ℕ) (κs : Lfts 2) (a : Dens κs k_is_overlay.ps) (r : Value) (e : AtExit (ended_of 2 k_is_overlay.ps k_is_overlay.r) κs) → r_is_overlay.Learnt κs a r e
       → Made (Read (IsOverlay a.1.1.0 a.1.1.1.0)) (with_tables false maps pages a) (with_tables false maps pages a) r
   -- of the maps a query is lent the shared one, and its output as it is filled is of what it answers
-  query : (private : List ℕ) (permissions : Permissions) (pages tables : List ℕ) (κs : Lfts 4) (a : Dens κs kQuery.ps) (r : Reply) (e : AtExit (ended_of 4 kQuery.ps kQuery.r) κs) → rQuery.Learnt κs a r e
+  query : (private : List ℕ) (permissions : Permissions) (pages tables : List ℕ) (κs : Lfts 4) (a : Dens κs k_query.ps) (r : Reply) (e : AtExit (ended_of 4 k_query.ps k_query.r) κs) → r_query.Learnt κs a r e
       → Made (Read (Query a.1.1.0.now a.1.1.1.0.now)) (with_shared private permissions pages tables a) (with_shared private permissions pages tables a) (queries.query e.1.1.1.0.now r)
   -- faults and the permission queries are lent neither the pages run nor the tables
-  fault : (pages tables : List ℕ) (κs : Lfts 7) (a : Dens κs kFault.ps) (r : Value) (e : AtExit (ended_of 7 kFault.ps kFault.r) κs) → rFault.Learnt κs a r e
+  fault : (pages tables : List ℕ) (κs : Lfts 7) (a : Dens κs k_fault.ps) (r : Value) (e : AtExit (ended_of 7 k_fault.ps k_fault.r) κs) → r_fault.Learnt κs a r e
       → Made (Read (Fault (past_seven reads_all a).0 (past_seven reads_all a).1.0 (past_seven reads_all a).1.1.0 (past_seven reads_all a).1.1.1.0 (past_seven reads_all a).1.1.1.1.0)) (with_seven pages tables a) (with_seven pages tables a) r
-  lower : (pages tables : List ℕ) (κs : Lfts 7) (a : Dens κs kLower.ps) (r : Value) (e : AtExit (ended_of 7 kLower.ps kLower.r) κs) → rLower.Learnt κs a r e
+  lower : (pages tables : List ℕ) (κs : Lfts 7) (a : Dens κs k_lower.ps) (r : Value) (e : AtExit (ended_of 7 k_lower.ps k_lower.r) κs) → r_lower.Learnt κs a r e
       → Made (Read (Lower (past_seven reads_all a).0 (past_seven reads_all a).1.0)) (with_seven pages tables a) (with_seven pages tables a) r
-  access : (pages tables : List ℕ) (κs : Lfts 7) (a : Dens κs kAccess.ps) (r : Value) (e : AtExit (ended_of 7 kAccess.ps kAccess.r) κs) → rAccess.Learnt κs a r e
+  access : (pages tables : List ℕ) (κs : Lfts 7) (a : Dens κs k_access.ps) (r : Value) (e : AtExit (ended_of 7 k_access.ps k_access.r) κs) → r_access.Learnt κs a r e
       → Made (Read (Access (past_seven reads_all a).0)) (with_seven pages tables a) (with_seven pages tables a) r
 
 -- ---- a build, of a layout and settings, that was lent u, left v and replied r
 
 pub data Built : (ram : List ℕ) (isolation tracked release : ℕ) → Buffers → Buffers → Reply → Type 0 where
-  build : (κs : Lfts 10) (a : Dens κs kBuild.ps) (r : Reply) (e : AtExit (ended_of 10 kBuild.ps kBuild.r) κs) → rBuild.Learnt κs a r e
+  build : (κs : Lfts 10) (a : Dens κs k_build.ps) (r : Reply) (e : AtExit (ended_of 10 k_build.ps k_build.r) κs) → r_build.Learnt κs a r e
       → Built a.0.now a.1.0 a.1.1.0 a.1.1.1.0 (buffers_of writes_all a.1.1.1.1) (buffers_of writes_all e.1.1.1.1) r
 
 -- ---- no entry asks anything of its arguments: each has its contract whatever it is lent
 
 pub record Unasked : Type 0 where
-  pub visibility : (κs : Lfts 10) (a : Dens κs kVisibility.ps) → rVisibility.Asked κs a
-  pub done : (κs : Lfts 9) (a : Dens κs kDone.ps) → rDone.Asked κs a
-  pub failed : (κs : Lfts 9) (a : Dens κs kFailed.ps) → rFailed.Asked κs a
-  pub protection : (κs : Lfts 10) (a : Dens κs kProtection.ps) → rProtection.Asked κs a
-  pub default : (κs : Lfts 9) (a : Dens κs kDefault.ps) → rDefault.Asked κs a
-  pub register : (κs : Lfts 9) (a : Dens κs kRegister.ps) → rRegister.Asked κs a
-  pub unregister : (κs : Lfts 9) (a : Dens κs kUnregister.ps) → rUnregister.Asked κs a
-  pub lock : (κs : Lfts 3) (a : Dens κs kLock.ps) → rLock.Asked κs a
-  pub unlock : (κs : Lfts 3) (a : Dens κs kUnlock.ps) → rUnlock.Asked κs a
-  pub enable : (κs : Lfts 1) (a : Dens κs kEnable.ps) → rEnable.Asked κs a
+  pub visibility : (κs : Lfts 10) (a : Dens κs k_visibility.ps) → r_visibility.Asked κs a
+  pub done : (κs : Lfts 9) (a : Dens κs k_done.ps) → r_done.Asked κs a
+  pub failed : (κs : Lfts 9) (a : Dens κs k_failed.ps) → r_failed.Asked κs a
+  pub protection : (κs : Lfts 10) (a : Dens κs k_protection.ps) → r_protection.Asked κs a
+  pub default : (κs : Lfts 9) (a : Dens κs k_default.ps) → r_default.Asked κs a
+  pub register : (κs : Lfts 9) (a : Dens κs k_register.ps) → r_register.Asked κs a
+  pub unregister : (κs : Lfts 9) (a : Dens κs k_unregister.ps) → r_unregister.Asked κs a
+  pub lock : (κs : Lfts 3) (a : Dens κs k_lock.ps) → r_lock.Asked κs a
+  pub unlock : (κs : Lfts 3) (a : Dens κs k_unlock.ps) → r_unlock.Asked κs a
+  pub enable : (κs : Lfts 1) (a : Dens κs k_enable.ps) → r_enable.Asked κs a
   pub tell_enabled : (κs : Lfts 1) (a : Dens κs k_tell_enabled.ps) → r_tell_enabled.Asked κs a
   pub tell_default : (κs : Lfts 1) (a : Dens κs k_tell_default.ps) → r_tell_default.Asked κs a
   pub is_overlay : (κs : Lfts 2) (a : Dens κs k_is_overlay.ps) → r_is_overlay.Asked κs a
-  pub query : (κs : Lfts 4) (a : Dens κs kQuery.ps) → rQuery.Asked κs a
-  pub fault : (κs : Lfts 7) (a : Dens κs kFault.ps) → rFault.Asked κs a
-  pub lower : (κs : Lfts 7) (a : Dens κs kLower.ps) → rLower.Asked κs a
-  pub access : (κs : Lfts 7) (a : Dens κs kAccess.ps) → rAccess.Asked κs a
-  pub build : (κs : Lfts 10) (a : Dens κs kBuild.ps) → rBuild.Asked κs a
+  pub query : (κs : Lfts 4) (a : Dens κs k_query.ps) → r_query.Asked κs a
+  pub fault : (κs : Lfts 7) (a : Dens κs k_fault.ps) → r_fault.Asked κs a
+  pub lower : (κs : Lfts 7) (a : Dens κs k_lower.ps) → r_lower.Asked κs a
+  pub access : (κs : Lfts 7) (a : Dens κs k_access.ps) → r_access.Asked κs a
+  pub build : (κs : Lfts 10) (a : Dens κs k_build.ps) → r_build.Asked κs a

@@ -2,20 +2,20 @@
 -- is lent.
 use contract.Lifetimes.{Lfts}
 use borrow.Fn.Kinds.{Dens}
-use Rattle.registrar.proofs.registrar_build.Reads as rBuild
-use Rattle.registrar.proofs.registrar_build.Kinds as kBuild
-use Rattle.registrar.proofs.registrar_register.Reads as rRegister
-use Rattle.registrar.proofs.registrar_register.Kinds as kRegister
-use Rattle.registrar.proofs.registrar_register_all_aligned.Reads as rAll
-use Rattle.registrar.proofs.registrar_register_all_aligned.Kinds as kAll
-use Rattle.registrar.proofs.registrar_answer_done.Reads as rDone
-use Rattle.registrar.proofs.registrar_answer_done.Kinds as kDone
-use Rattle.registrar.proofs.registrar_answer_failed.Reads as rFailed
-use Rattle.registrar.proofs.registrar_answer_failed.Kinds as kFailed
+use Rattle.registrar.proofs.registrar_build.Reads as r_build
+use Rattle.registrar.proofs.registrar_build.Kinds as k_build
+use Rattle.registrar.proofs.registrar_register.Reads as r_register
+use Rattle.registrar.proofs.registrar_register.Kinds as k_register
+use Rattle.registrar.proofs.registrar_register_all_aligned.Reads as r_all
+use Rattle.registrar.proofs.registrar_register_all_aligned.Kinds as k_all
+use Rattle.registrar.proofs.registrar_answer_done.Reads as r_done
+use Rattle.registrar.proofs.registrar_answer_done.Kinds as k_done
+use Rattle.registrar.proofs.registrar_answer_failed.Reads as r_failed
+use Rattle.registrar.proofs.registrar_answer_failed.Kinds as k_failed
 
 pub record Unasked : Type 0 where
-  pub build : (κs : Lfts 4) (a : Dens κs kBuild.ps) → rBuild.Asked κs a
-  pub register : (κs : Lfts 3) (a : Dens κs kRegister.ps) → rRegister.Asked κs a
-  pub register_all_lem : (κs : Lfts 3) (a : Dens κs kAll.ps) → rAll.Asked κs a
-  pub done : (κs : Lfts 3) (a : Dens κs kDone.ps) → rDone.Asked κs a
-  pub failed : (κs : Lfts 3) (a : Dens κs kFailed.ps) → rFailed.Asked κs a
+  pub build : (κs : Lfts 4) (a : Dens κs k_build.ps) → r_build.Asked κs a
+  pub register : (κs : Lfts 3) (a : Dens κs k_register.ps) → r_register.Asked κs a
+  pub register_all_lem : (κs : Lfts 3) (a : Dens κs k_all.ps) → r_all.Asked κs a
+  pub done : (κs : Lfts 3) (a : Dens κs k_done.ps) → r_done.Asked κs a
+  pub failed : (κs : Lfts 3) (a : Dens κs k_failed.ps) → r_failed.Asked κs a
