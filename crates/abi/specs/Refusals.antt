@@ -1,5 +1,7 @@
 -- The numbers of 01's refusals ("From the input" and "From the state"); 0 where nothing refuses.
-use Rattle.std.specs.Prelude.{ℕ}
+use Rattle.std.specs.Prelude.{Result, Ok, Err, ℕ}
+use Rattle.abi.specs.declared.refusal.Refusal.{Refusal}
+use Rattle.abi.specs.declared.refusal.Refusal.TheVariants as refusal
 
 -- the layout, or the registrar's offset
 abbrev pub unfit_layout : ℕ
@@ -91,3 +93,40 @@ registration_failed = 23
 -- permissions
 abbrev pub untracked : ℕ
 untracked = 24
+
+-- the number of each
+abbrev pub number_of : Refusal → ℕ
+number_of refusal.UnfitLayout = unfit_layout
+number_of refusal.BadAlignment = bad_alignment
+number_of refusal.UnfitIsolation = unfit_isolation
+number_of refusal.WrongLength = wrong_length
+number_of refusal.LongList = long_list
+number_of refusal.RepeatedPage = repeated_page
+number_of refusal.NotRam = not_ram
+number_of refusal.UnfitNumber = unfit_number
+number_of refusal.UnfitChunk = unfit_chunk
+number_of refusal.Locked = locked
+number_of refusal.Overlay = overlay
+number_of refusal.Shared = shared
+number_of refusal.Narrow = narrow
+number_of refusal.NoOverlay = no_overlay
+number_of refusal.AccessDenied = access_denied
+number_of refusal.BackendFailed = backend_failed
+number_of refusal.Full = full
+number_of refusal.NotLocked = not_locked
+number_of refusal.Busy = busy
+number_of refusal.Halted = halted
+number_of refusal.NothingAsked = nothing_asked
+number_of refusal.UnalignedMemory = unaligned_memory
+number_of refusal.RegistrationFailed = registration_failed
+number_of refusal.Untracked = untracked
+
+-- what a test gives as a number: 0 where nothing refuses
+abbrev pub refused_by : {A : Type 0} → Result A Refusal → ℕ
+refused_by (Ok _) = 0
+refused_by (Err r) = number_of r
+
+-- the same with its error as a number
+abbrev pub numbered : {A : Type 0} → Result A Refusal → Result A ℕ
+numbered (Ok a) = Ok a
+numbered (Err r) = Err (number_of r)

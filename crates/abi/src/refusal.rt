@@ -1,5 +1,106 @@
-// 01's refusals by their numbers; 0 where nothing refuses.
+// What refuses a call. What crosses is its number; 0 stands where nothing refuses.
+ghost use Rattle.std.specs.Prelude.{◌≡◌};
+ghost use Rattle.abi.specs.Refusals.{number_of};
 
+#[derive(Clone, Copy, Debug, PartialEq, Eq)]
+pub enum Refusal {
+    // The layout, or the registrar's offset.
+    UnfitLayout,
+
+    // Of a RAM entry.
+    BadAlignment,
+    UnfitIsolation,
+
+    // Of what is lent.
+    WrongLength,
+    LongList,
+    RepeatedPage,
+
+    // Or RAM, where a Dma page must not be.
+    NotRam,
+
+    // In the place of one of a few cases.
+    UnfitNumber,
+
+    // Past the last, or an unfit granularity or alignment.
+    UnfitChunk,
+    Locked,
+
+    // Where none may be.
+    Overlay,
+    Shared,
+
+    // Permissions for what is asked.
+    Narrow,
+
+    // Where one must be.
+    NoOverlay,
+
+    // A page to be shared that VTL0 may not read and write.
+    AccessDenied,
+
+    // An operation failed, and the call ends.
+    BackendFailed,
+
+    // A table or a count.
+    Full,
+
+    // No list of just these pages.
+    NotLocked,
+
+    // An operation is outstanding.
+    Busy,
+
+    // By an operation that failed.
+    Halted,
+
+    // That this could answer.
+    NothingAsked,
+
+    // A span of RAM, for the registrar.
+    UnalignedMemory,
+
+    // Now or in an earlier call.
+    RegistrationFailed,
+
+    // Permissions.
+    Untracked,
+}
+
+impl Refusal {
+    pub fn number(self) -> u64
+        ensures { result ≡ number_of self }
+    {
+        match self {
+            Refusal::UnfitLayout => UNFIT_LAYOUT,
+            Refusal::BadAlignment => BAD_ALIGNMENT,
+            Refusal::UnfitIsolation => UNFIT_ISOLATION,
+            Refusal::WrongLength => WRONG_LENGTH,
+            Refusal::LongList => LONG_LIST,
+            Refusal::RepeatedPage => REPEATED_PAGE,
+            Refusal::NotRam => NOT_RAM,
+            Refusal::UnfitNumber => UNFIT_NUMBER,
+            Refusal::UnfitChunk => UNFIT_CHUNK,
+            Refusal::Locked => LOCKED,
+            Refusal::Overlay => OVERLAY,
+            Refusal::Shared => SHARED,
+            Refusal::Narrow => NARROW,
+            Refusal::NoOverlay => NO_OVERLAY,
+            Refusal::AccessDenied => ACCESS_DENIED,
+            Refusal::BackendFailed => BACKEND_FAILED,
+            Refusal::Full => FULL,
+            Refusal::NotLocked => NOT_LOCKED,
+            Refusal::Busy => BUSY,
+            Refusal::Halted => HALTED,
+            Refusal::NothingAsked => NOTHING_ASKED,
+            Refusal::UnalignedMemory => UNALIGNED_MEMORY,
+            Refusal::RegistrationFailed => REGISTRATION_FAILED,
+            Refusal::Untracked => UNTRACKED,
+        }
+    }
+}
+
+// The numbers.
 // The layout, or the registrar's offset.
 pub const UNFIT_LAYOUT: u64 = 1;
 

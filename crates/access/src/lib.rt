@@ -2,31 +2,29 @@
 #![tactic(auto)]
 
 ghost use Rattle.std.specs.Prelude.{not, ◌&&◌, ◌≡◌};
+ghost use Rattle.abi.specs.Refusals.{refused_by, numbered};
 ghost use Rattle.layout.specs.Layout.{entries_of, is_ram};
 ghost use Rattle.mapping.specs.Maps.{perms, maps};
 ghost use Rattle.access.specs.Query.{access_refusal, access_permission, lower_refusal, lower_flags, lower_vtl_permissions, permissions_number, permissions_value};
 
-use abi::refusal;
+use abi::refusal::Refusal;
 use mapping::MapLengths;
 use permissions::{GuestVtl, HvMapGpaFlags};
 
-// What a permission query gives, or the number that refuses it.
-#[derive(Clone, Copy)]
-pub enum PermissionsAnswer {
-    Flags(HvMapGpaFlags),
-    Refused(u64),
-}
-
-fn access_refusal(fits: bool, tracked: bool) -> u64
-    ensures { result ≡ access_refusal fits tracked }
+fn access_refusal(fits: bool, tracked: bool) -> Result<(), Refusal>
+    ensures { refused_by result ≡ access_refusal fits tracked }
 {
     if !fits {
-        return refusal::WRONG_LENGTH;
+        return Err(Refusal::WrongLength);
     }
-    if tracked { 0 } else { refusal::UNTRACKED }
+    if !tracked {
+        return Err(Refusal::Untracked);
+    }
+    Ok(())
 }
 
 // The permissions of a page as the maps have them: none past their end.
+#[tactic(auto, using(abi::proofs::Numbers::number_not_zero), unfolding(crate::specs::Query::access_permission))]
 pub fn query_access_permission(
     private: &[u8],
     shared: &[u8],
@@ -37,8 +35,8 @@ pub fn query_access_permission(
     ram: &[u64],
     tracked: bool,
     gpn: u64,
-) -> PermissionsAnswer
-    ensures { result ≡ access_permission (entries_of ram.now) (maps private.now shared.now read.now write.now kernel.now user.now) tracked gpn }
+) -> Result<HvMapGpaFlags, Refusal>
+    ensures { numbered result ≡ access_permission (entries_of ram.now) (maps private.now shared.now read.now write.now kernel.now user.now) tracked gpn }
 {
     let len = layout::map_len(ram);
     let lengths = MapLengths {
@@ -49,31 +47,24 @@ pub fn query_access_permission(
         kernel: kernel.len() as u64,
         user: user.len() as u64,
     };
-    let n = access_refusal(mapping::maps_fit(len, tracked, lengths), tracked);
-    if n != 0 {
-        return PermissionsAnswer::Refused(n);
-    }
-    PermissionsAnswer::Flags(mapping::flags_at(read, write, kernel, user, gpn))
+    access_refusal(mapping::maps_fit(len, tracked, lengths), tracked)?;
+    Ok(mapping::flags_at(read, write, kernel, user, gpn))
 }
 
 // 7 in a hole: `inside` tells whether the maps have the page.
-fn lower_refusal(ram: &[u64], fits: bool, vtl: u64, gpn: u64, inside: bool) -> u64
-    ensures { result ≡ lower_refusal fits vtl (inside && not (is_ram (entries_of ram.now) gpn)) }
+fn lower_refusal(ram: &[u64], fits: bool, vtl: u64, gpn: u64, inside: bool) -> Result<(), Refusal>
+    ensures { refused_by result ≡ lower_refusal fits vtl (inside && not (is_ram (entries_of ram.now) gpn)) }
 {
     if !fits {
-        return refusal::WRONG_LENGTH;
+        return Err(Refusal::WrongLength);
     }
     if !permissions::is_vtl(vtl) {
-        return refusal::UNFIT_NUMBER;
+        return Err(Refusal::UnfitNumber);
     }
-    if !inside {
-        return 0;
+    if inside && !layout::is_in_guest_memory(ram, gpn) {
+        return Err(Refusal::NotRam);
     }
-    if layout::is_in_guest_memory(ram, gpn) {
-        0
-    } else {
-        refusal::NOT_RAM
-    }
+    Ok(())
 }
 
 // The permissions of a VTL: only VTL0's are tracked.
@@ -88,16 +79,14 @@ pub fn lower_flags(
 ) -> HvMapGpaFlags
     ensures { result ≡ lower_flags (perms read.now write.now kernel.now user.now) tracked vtl gpn }
 {
-    if !tracked {
-        return HvMapGpaFlags::all();
+    if tracked && permissions::is_vtl0(vtl) {
+        return mapping::flags_at(read, write, kernel, user, gpn);
     }
-    match vtl {
-        GuestVtl::Vtl0 => mapping::flags_at(read, write, kernel, user, gpn),
-        GuestVtl::Vtl1 => HvMapGpaFlags::all(),
-    }
+    HvMapGpaFlags::all()
 }
 
 // The permissions of a page as a VTL has them.
+#[tactic(auto, using(abi::proofs::Numbers::number_not_zero), unfolding(crate::specs::Query::lower_vtl_permissions))]
 pub fn query_lower_vtl_permissions(
     private: &[u8],
     shared: &[u8],
@@ -109,8 +98,8 @@ pub fn query_lower_vtl_permissions(
     tracked: bool,
     vtl: u64,
     gpn: u64,
-) -> PermissionsAnswer
-    ensures { result ≡ lower_vtl_permissions (entries_of ram.now) (maps private.now shared.now read.now write.now kernel.now user.now) tracked vtl gpn }
+) -> Result<HvMapGpaFlags, Refusal>
+    ensures { numbered result ≡ lower_vtl_permissions (entries_of ram.now) (maps private.now shared.now read.now write.now kernel.now user.now) tracked vtl gpn }
 {
     let len = layout::map_len(ram);
     let lengths = MapLengths {
@@ -122,35 +111,25 @@ pub fn query_lower_vtl_permissions(
         user: user.len() as u64,
     };
     let fits = mapping::maps_fit(len, tracked, lengths);
-    let n = lower_refusal(ram, fits, vtl, gpn, gpn / 8 < len);
-    if n != 0 {
-        return PermissionsAnswer::Refused(n);
-    }
-    PermissionsAnswer::Flags(lower_flags(
-        read,
-        write,
-        kernel,
-        user,
-        tracked,
-        permissions::vtl_of(vtl),
-        gpn,
-    ))
+    lower_refusal(ram, fits, vtl, gpn, gpn / 8 < len)?;
+    let v = permissions::vtl_of(vtl);
+    Ok(lower_flags(read, write, kernel, user, tracked, v, gpn))
 }
 
-pub fn permissions_number(a: PermissionsAnswer) -> u64
-    ensures { result ≡ permissions_number a }
+pub fn permissions_number(a: Result<HvMapGpaFlags, Refusal>) -> u64
+    ensures { result ≡ permissions_number (numbered a) }
 {
     match a {
-        PermissionsAnswer::Flags(_) => 0,
-        PermissionsAnswer::Refused(n) => n,
+        Ok(_) => 0,
+        Err(refusal) => refusal.number(),
     }
 }
 
-pub fn permissions_value(a: PermissionsAnswer) -> u64
-    ensures { result ≡ permissions_value a }
+pub fn permissions_value(a: Result<HvMapGpaFlags, Refusal>) -> u64
+    ensures { result ≡ permissions_value (numbered a) }
 {
     match a {
-        PermissionsAnswer::Flags(f) => f.into_bits(),
-        PermissionsAnswer::Refused(n) => permissions::hv_error(n),
+        Ok(f) => f.into_bits(),
+        Err(refusal) => permissions::hv_error(refusal.number()),
     }
 }

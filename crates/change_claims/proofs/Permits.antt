@@ -1,4 +1,5 @@
 -- The permission maps page by page, once whole calls ended. Assumes nothing.
+use Rattle.std.specs.Prelude.{Option, Some, None}
 use native.Mathlib.Omega.{arith}
 use mathlib.Core.Path.{◌≡◌, refl, sym, ap, ap₂, ◌∙◌}
 use mathlib.Core.Bool.{Bool, true, false, cond, ◌&&◌, ◌||◌}
@@ -17,8 +18,6 @@ use Rattle.layout.specs.Layout.{holds_page, ram_byte, is_ram}
 use Rattle.permissions.specs.declared.GuestVtl.{GuestVtl}
 use Rattle.permissions.specs.declared.GuestVtl.TheVariants.{Vtl0, Vtl1}
 use Rattle.permissions.specs.declared.HvMapGpaFlags.{HvMapGpaFlags}
-use Rattle.permissions.specs.declared.OptionFlags.{OptionFlags}
-use Rattle.permissions.specs.declared.OptionFlags.TheVariants.{Some, None}
 use Rattle.mapping.specs.Maps.{Permissions, Maps, perms, permitted}
 use Rattle.mapping.proofs.Marks.{permitted_page, entry_pages_lem}
 use Rattle.page_list.specs.declared.PageRun.{PageRun}
@@ -175,7 +174,7 @@ change_begun tracked Vtl1 f [] m = refl
 change_begun tracked Vtl1 f (r ∷ rs) m = change_begun tracked Vtl1 f rs m
 
 -- of a return
-pub return_begun : (tracked : Bool) (f : HvMapGpaFlags) (g : OptionFlags) (rs : List PageRun) (m : Maps) → begun (protecting tracked) (per_run (defaults f g) rs) m ≡ protected_runs tracked Vtl0 f rs m
+pub return_begun : (tracked : Bool) (f : HvMapGpaFlags) (g : Option HvMapGpaFlags) (rs : List PageRun) (m : Maps) → begun (protecting tracked) (per_run (defaults f g) rs) m ≡ protected_runs tracked Vtl0 f rs m
 unfolding begun per_run runs_in
 return_begun true f (Some g) [] m = refl
 return_begun true f (Some g) (r ∷ rs) m = return_begun true f (Some g) rs (with_permissions (permitted r.first (r.first + r.count) f m.permissions) m)

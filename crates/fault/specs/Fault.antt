@@ -1,5 +1,5 @@
 -- A fault (01, "Bitmaps", and the order of refusals: 4, 8), on any page: past the maps none is marked (02, (vi)).
-use Rattle.std.specs.Prelude.{Bool, false, not, cond, ◌&&◌, List, ℕ, ◌/◌, eqb, leb}
+use Rattle.std.specs.Prelude.{Bool, false, not, cond, ◌&&◌, List, ℕ, Result, Ok, Err, ◌/◌, eqb, leb}
 use Rattle.abi.specs.Faults as number
 use Rattle.abi.specs.Refusals as refusal
 use Rattle.abi.specs.Lengths.{page_size}
@@ -9,17 +9,13 @@ use Rattle.layout.specs.Layout.{map_len}
 use Rattle.laws.specs.Refusal.{unless}
 use Rattle.fault.specs.declared.GuestValidMemoryType.{GuestValidMemoryType}
 use Rattle.fault.specs.declared.GuestValidMemoryType.TheVariants.{Encrypted, Shared}
+use Rattle.fault.specs.declared.GuestMemoryViewReadType.{GuestMemoryViewReadType}
+use Rattle.fault.specs.declared.GuestMemoryViewReadType.TheVariants.{Read, KernelExecute, UserExecute}
 use Rattle.fault.specs.declared.PageFaultAction.{PageFaultAction}
-use Rattle.fault.specs.declared.PageFaultAction.TheVariants.{Retry, NotMapped, NotShared, NotPrivate, VtlProtected, Refused}
+use Rattle.fault.specs.declared.PageFaultAction.TheVariants.{Retry, NotMapped, NotShared, NotPrivate, VtlProtected}
 use Rattle.permissions.specs.Flags.{fit_bool, bool_of}
 use Rattle.permissions.specs.HvError.{code_of}
 use Rattle.mapping.specs.Maps.{Permissions, Maps, maps_fit, lengths_of}
-
--- what a view may do
-pub data GuestMemoryViewReadType : Type 0 where
-  Read : GuestMemoryViewReadType
-  KernelExecute : GuestMemoryViewReadType
-  UserExecute : GuestMemoryViewReadType
 
 -- a mapping and a view by their numbers
 abbrev pub fit_mapping : ℕ → Bool
@@ -74,28 +70,24 @@ fault_refusal fits mapping view write failure =
     (unless (fit_bool failure) refusal.unfit_number
     0))))
 
-abbrev pub or_refused : ℕ → PageFaultAction → PageFaultAction
-or_refused n a = cond (eqb n 0) a (Refused n)
+abbrev pub or_refused : ℕ → PageFaultAction → Result PageFaultAction ℕ
+or_refused n a = cond (eqb n 0) (Ok a) (Err n)
 
 -- a fault at an address, whose page is address / 4,096
-unfoldable pub page_fault : List MemoryRangeWithNode → Maps → Bool → ℕ → ℕ → ℕ → ℕ → ℕ → PageFaultAction
+unfoldable pub page_fault : List MemoryRangeWithNode → Maps → Bool → ℕ → ℕ → ℕ → ℕ → ℕ → Result PageFaultAction ℕ
 page_fault es m tracked mapping view address write failure =
     or_refused (fault_refusal (maps_fit (map_len es) tracked (lengths_of m)) mapping view write failure)
     (fault_of m tracked (mapping_of mapping) (view_of view) (address / page_size) (bool_of write) (bool_of failure))
 
 -- the number of 01 for an answer, 0 where nothing is refused; and its value, a number of the port's choice or the code that a refusal carries
-abbrev pub fault_number : PageFaultAction → ℕ
-fault_number Retry = 0
-fault_number NotMapped = 0
-fault_number NotShared = 0
-fault_number NotPrivate = 0
-fault_number VtlProtected = 0
-fault_number (Refused n) = n
+abbrev pub fault_number : Result PageFaultAction ℕ → ℕ
+fault_number (Ok a) = 0
+fault_number (Err n) = n
 
-abbrev pub fault_value : PageFaultAction → ℕ
-fault_value Retry = number.retry
-fault_value NotMapped = number.not_mapped
-fault_value NotShared = number.not_shared
-fault_value NotPrivate = number.not_private
-fault_value VtlProtected = number.vtl_protected
-fault_value (Refused n) = code_of n
+abbrev pub fault_value : Result PageFaultAction ℕ → ℕ
+fault_value (Ok Retry) = number.retry
+fault_value (Ok NotMapped) = number.not_mapped
+fault_value (Ok NotShared) = number.not_shared
+fault_value (Ok NotPrivate) = number.not_private
+fault_value (Ok VtlProtected) = number.vtl_protected
+fault_value (Err n) = code_of n

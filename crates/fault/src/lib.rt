@@ -2,38 +2,56 @@
 #![tactic(auto)]
 
 ghost use Rattle.std.specs.Prelude.{◌≡◌};
+ghost use Rattle.abi.specs.Refusals.{refused_by, numbered};
 ghost use Rattle.bitmap.specs.Pages.{bit_at};
 ghost use Rattle.layout.specs.Layout.{entries_of};
 ghost use Rattle.mapping.specs.Maps.{perms, maps};
 ghost use Rattle.fault.specs.Fault.{mapping_of, view_of, access_map, fault_of, fault_refusal, page_fault, fault_number, fault_value};
 
-use abi::{PAGE_SIZE, action, memory_type, read_type, refusal};
+use abi::refusal::Refusal;
+use abi::{PAGE_SIZE, action, memory_type, read_type};
 use mapping::MapLengths;
 
-#[derive(Clone, Copy)]
+#[derive(Clone, Copy, Debug, PartialEq, Eq)]
 pub enum GuestValidMemoryType {
     Shared,
     Encrypted,
 }
 
-// What a fault gives, or the number that refuses it.
-#[derive(Clone, Copy)]
+// What the view of a fault may do.
+#[derive(Clone, Copy, Debug, PartialEq, Eq)]
+pub enum GuestMemoryViewReadType {
+    Read,
+    KernelExecute,
+    UserExecute,
+}
+
+// What a fault gives.
+#[derive(Clone, Copy, Debug, PartialEq, Eq)]
 pub enum PageFaultAction {
     Retry,
     NotMapped,
     NotShared,
     NotPrivate,
     VtlProtected,
-    Refused(u64),
 }
 
 fn mapping_of(n: u64) -> GuestValidMemoryType
     ensures { result ≡ mapping_of n }
 {
-    if n == memory_type::ENCRYPTED {
-        GuestValidMemoryType::Encrypted
-    } else {
-        GuestValidMemoryType::Shared
+    match n {
+        memory_type::ENCRYPTED => GuestValidMemoryType::Encrypted,
+        _ => GuestValidMemoryType::Shared,
+    }
+}
+
+fn view_of(n: u64) -> GuestMemoryViewReadType
+    ensures { result ≡ view_of n }
+{
+    match n {
+        read_type::READ => GuestMemoryViewReadType::Read,
+        read_type::KERNEL_EXECUTE => GuestMemoryViewReadType::KernelExecute,
+        _ => GuestMemoryViewReadType::UserExecute,
     }
 }
 
@@ -43,25 +61,24 @@ fn is_allowed(
     write: &[u8],
     kernel: &[u8],
     user: &[u8],
-    view: u64,
+    view: GuestMemoryViewReadType,
     gpn: u64,
     writes: bool,
 ) -> bool
-    ensures { result ≡ bit_at 8 (access_map (view_of view) writes (perms read.now write.now kernel.now user.now)) gpn }
+    ensures { result ≡ bit_at 8 (access_map view writes (perms read.now write.now kernel.now user.now)) gpn }
 {
     if writes {
         return bitmap::page_state(write, gpn);
     }
-    if view == read_type::READ {
-        return bitmap::page_state(read, gpn);
+    match view {
+        GuestMemoryViewReadType::Read => bitmap::page_state(read, gpn),
+        GuestMemoryViewReadType::KernelExecute => bitmap::page_state(kernel, gpn),
+        GuestMemoryViewReadType::UserExecute => bitmap::page_state(user, gpn),
     }
-    if view == read_type::KERNEL_EXECUTE {
-        return bitmap::page_state(kernel, gpn);
-    }
-    bitmap::page_state(user, gpn)
 }
 
 // A fault on a page: past the maps it has no mark.
+#[tactic(auto, unfolding(crate::specs::Fault::fault_of))]
 fn fault_action(
     private: &[u8],
     shared: &[u8],
@@ -71,12 +88,12 @@ fn fault_action(
     user: &[u8],
     tracked: bool,
     mapping: GuestValidMemoryType,
-    view: u64,
+    view: GuestMemoryViewReadType,
     gpn: u64,
     writes: bool,
     failure: bool,
 ) -> PageFaultAction
-    ensures { result ≡ fault_of (maps private.now shared.now read.now write.now kernel.now user.now) tracked mapping (view_of view) gpn writes failure }
+    ensures { result ≡ fault_of (maps private.now shared.now read.now write.now kernel.now user.now) tracked mapping view gpn writes failure }
 {
     if !failure {
         return PageFaultAction::NotMapped;
@@ -91,39 +108,45 @@ fn fault_action(
             if !bitmap::page_state(private, gpn) {
                 return PageFaultAction::NotPrivate;
             }
-            if tracked {
-                if !is_allowed(read, write, kernel, user, view, gpn, writes) {
-                    return PageFaultAction::VtlProtected;
-                }
+            if tracked && !is_allowed(read, write, kernel, user, view, gpn, writes) {
+                return PageFaultAction::VtlProtected;
             }
         }
     }
     PageFaultAction::Retry
 }
 
-// The number that refuses a fault: 0 where none does.
-fn fault_refusal(fits: bool, mapping: u64, view: u64, writes: u64, failure: u64) -> u64
-    ensures { result ≡ fault_refusal fits mapping view writes failure }
+// What refuses a fault.
+#[tactic(auto, unfolding(crate::specs::Fault::fault_refusal))]
+fn fault_refusal(
+    fits: bool,
+    mapping: u64,
+    view: u64,
+    writes: u64,
+    failure: u64,
+) -> Result<(), Refusal>
+    ensures { refused_by result ≡ fault_refusal fits mapping view writes failure }
 {
     if !fits {
-        return refusal::WRONG_LENGTH;
+        return Err(Refusal::WrongLength);
     }
     if memory_type::SHARED < mapping {
-        return refusal::UNFIT_NUMBER;
+        return Err(Refusal::UnfitNumber);
     }
     if read_type::USER_EXECUTE < view {
-        return refusal::UNFIT_NUMBER;
+        return Err(Refusal::UnfitNumber);
     }
     if 2 <= writes {
-        return refusal::UNFIT_NUMBER;
+        return Err(Refusal::UnfitNumber);
     }
     if 2 <= failure {
-        return refusal::UNFIT_NUMBER;
+        return Err(Refusal::UnfitNumber);
     }
-    0
+    Ok(())
 }
 
 // A fault at an address, as its numbers cross.
+#[tactic(auto, using(abi::proofs::Numbers::number_not_zero), unfolding(crate::specs::Fault::page_fault))]
 pub fn page_fault(
     private: &[u8],
     shared: &[u8],
@@ -138,8 +161,8 @@ pub fn page_fault(
     address: u64,
     writes: u64,
     failure: u64,
-) -> PageFaultAction
-    ensures { result ≡ page_fault (entries_of ram.now) (maps private.now shared.now read.now write.now kernel.now user.now) tracked mapping view address writes failure }
+) -> Result<PageFaultAction, Refusal>
+    ensures { numbered result ≡ page_fault (entries_of ram.now) (maps private.now shared.now read.now write.now kernel.now user.now) tracked mapping view address writes failure }
 {
     let len = layout::map_len(ram);
     let lengths = MapLengths {
@@ -150,17 +173,9 @@ pub fn page_fault(
         kernel: kernel.len() as u64,
         user: user.len() as u64,
     };
-    let n = fault_refusal(
-        mapping::maps_fit(len, tracked, lengths),
-        mapping,
-        view,
-        writes,
-        failure,
-    );
-    if n != 0 {
-        return PageFaultAction::Refused(n);
-    }
-    fault_action(
+    let fits = mapping::maps_fit(len, tracked, lengths);
+    fault_refusal(fits, mapping, view, writes, failure)?;
+    Ok(fault_action(
         private,
         shared,
         read,
@@ -169,35 +184,31 @@ pub fn page_fault(
         user,
         tracked,
         mapping_of(mapping),
-        view,
+        view_of(view),
         address / PAGE_SIZE,
         writes == 1,
         failure == 1,
-    )
+    ))
 }
 
-pub fn fault_number(a: PageFaultAction) -> u64
-    ensures { result ≡ fault_number a }
+pub fn fault_number(a: Result<PageFaultAction, Refusal>) -> u64
+    ensures { result ≡ fault_number (numbered a) }
 {
     match a {
-        PageFaultAction::Retry => 0,
-        PageFaultAction::NotMapped => 0,
-        PageFaultAction::NotShared => 0,
-        PageFaultAction::NotPrivate => 0,
-        PageFaultAction::VtlProtected => 0,
-        PageFaultAction::Refused(n) => n,
+        Ok(_) => 0,
+        Err(refusal) => refusal.number(),
     }
 }
 
-pub fn fault_value(a: PageFaultAction) -> u64
-    ensures { result ≡ fault_value a }
+pub fn fault_value(a: Result<PageFaultAction, Refusal>) -> u64
+    ensures { result ≡ fault_value (numbered a) }
 {
     match a {
-        PageFaultAction::Retry => action::RETRY,
-        PageFaultAction::NotMapped => action::NOT_MAPPED,
-        PageFaultAction::NotShared => action::NOT_SHARED,
-        PageFaultAction::NotPrivate => action::NOT_PRIVATE,
-        PageFaultAction::VtlProtected => action::VTL_PROTECTED,
-        PageFaultAction::Refused(n) => permissions::hv_error(n),
+        Ok(PageFaultAction::Retry) => action::RETRY,
+        Ok(PageFaultAction::NotMapped) => action::NOT_MAPPED,
+        Ok(PageFaultAction::NotShared) => action::NOT_SHARED,
+        Ok(PageFaultAction::NotPrivate) => action::NOT_PRIVATE,
+        Ok(PageFaultAction::VtlProtected) => action::VTL_PROTECTED,
+        Err(refusal) => permissions::hv_error(refusal.number()),
     }
 }

@@ -1,4 +1,6 @@
 -- How far each page is since it was returned, kept by every step of a visibility change on SNP. Assumes nothing.
+use Rattle.permissions.specs.declared.HvMapGpaFlags.{HvMapGpaFlags}
+use Rattle.std.specs.Prelude.{Option, Some, None}
 use Prim.Native.Nat.{ℕ, ◌+◌, ◌≤◌, ◌<◌, min}
 use mathlib.Core.Path.{◌≡◌, refl, sym, ap, ap₂, ◌∙◌}
 use mathlib.Core.List.{List}
@@ -13,8 +15,6 @@ use Rattle.laws.specs.Ranges.{between}
 use Rattle.bitmap.specs.Pages.{bit_at, written}
 use Rattle.permissions.specs.declared.IsolationType.{IsolationType}
 use Rattle.permissions.specs.declared.IsolationType.TheVariants.{Snp, Tdx, Cca}
-use Rattle.permissions.specs.declared.OptionFlags.{OptionFlags}
-use Rattle.permissions.specs.declared.OptionFlags.TheVariants.{Some, None}
 use Rattle.page_list.specs.Pages.{among}
 use Rattle.page_list.specs.Runs.{part, run_at}
 use Rattle.page_list.specs.declared.PageRun.{PageRun}
@@ -305,7 +305,7 @@ module _ (s : Settings) (snp : is_snp s.isolation ≡ true) (P : List ℕ) (q : 
       (λ (b : j < q.at). either (in_run_at t q.n q.at (get_or t j 0)) _ _ (λ (a : ReturnState). a ≡ Zeroed) (ap zeroed (g.past refl j h d b)) (g.past refl j h d b))
       (λ (b : q.at ≤ j). ap (λ (c : Bool). cond c (zeroed (age (get_or t j 0))) (age (get_or t j 0))) (in_run_lem t q.n q.at j (g.long refl) b k d) ∙ zeroed_valid (age (get_or t j 0)) (g.valid refl j h d b k)) (lt_or_le j q.at))
 
-  second : (f : OptionFlags) → Ages q.n t age (after_default0 f s q t)
+  second : (f : Option HvMapGpaFlags) → Ages q.n t age (after_default0 f s q t)
   second (Some f) = quiet_ask s t age q at.ProtectDefault1 q.at refl refl
   second None = default_ages s t age q.n q (run_end t q.n q.at) no_writes (omega arith) refl (λ j k d. absurd (omega arith))
 

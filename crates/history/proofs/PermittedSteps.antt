@@ -1,4 +1,6 @@
 -- What the steps of requests write to the permission maps lies in RAM. Assumes nothing.
+use Rattle.permissions.specs.declared.HvMapGpaFlags.{HvMapGpaFlags}
+use Rattle.std.specs.Prelude.{Option, Some, None}
 use native.Mathlib.Omega.{arith}
 use mathlib.Core.Path.{◌≡◌, refl, sym, ap, ◌∙◌, subst}
 use mathlib.Core.Bool.{Bool, true, false, cond, ◌&&◌}
@@ -14,8 +16,6 @@ use Rattle.bitmap.specs.Pages.{written}
 use Rattle.layout.specs.declared.MemoryRangeWithNode.{MemoryRangeWithNode}
 use Rattle.layout.specs.Layout.{is_ram}
 use Rattle.permissions.specs.declared.GuestVtl.{GuestVtl}
-use Rattle.permissions.specs.declared.OptionFlags.{OptionFlags}
-use Rattle.permissions.specs.declared.OptionFlags.TheVariants.{Some, None}
 use Rattle.page_list.specs.declared.PageRun.{PageRun}
 use Rattle.page_list.specs.Pages.{among}
 use Rattle.page_list.specs.Runs.{part, run, run_at}
@@ -156,7 +156,7 @@ module _ (s : Settings) (t : List ℕ) where
   done_narrow at.Zero q = returns q (run_end t q.n q.at) no_writes (none q.n)
   done_narrow at.ProtectDefault0 q = go s.defaults.vtl1
     where
-      go : (f : OptionFlags) → Narrow q.n (after_default0 f s q t)
+      go : (f : Option HvMapGpaFlags) → Narrow q.n (after_default0 f s q t)
       go (Some f) = asks at.ProtectDefault1 q q.at no_writes (none q.n)
       go None = defaults q (run_end t q.n q.at) no_writes (none q.n)
   done_narrow at.ProtectDefault1 q = defaults q (run_end t q.n q.at) no_writes (none q.n)

@@ -1,4 +1,6 @@
 -- Every step that a taken answer leads a visibility change to fits, and moves as the answer says. Assumes nothing.
+use Rattle.permissions.specs.declared.HvMapGpaFlags.{HvMapGpaFlags}
+use Rattle.std.specs.Prelude.{Option, Some, None}
 use Prim.Native.Nat.{ℕ, ◌+◌, ◌≤◌, ◌<◌, min}
 use mathlib.Core.Path.{◌≡◌, refl, ap, ◌∙◌}
 use mathlib.Core.List.{List}
@@ -11,8 +13,6 @@ use lib.Dec.{eqb, ltb, leb}
 use borrow.Author.Tests.{leb-false}
 use Rattle.abi.specs.Refusals as refusal
 use Rattle.laws.specs.Bools.{false≢true}
-use Rattle.permissions.specs.declared.OptionFlags.{OptionFlags}
-use Rattle.permissions.specs.declared.OptionFlags.TheVariants.{Some, None}
 use Rattle.page_list.specs.Pages.{among}
 use Rattle.page_list.specs.Runs.{part}
 use Rattle.request_pages.specs.Request.{run_end}
@@ -139,7 +139,7 @@ module _ (s : Settings) (q : Request) (t : List ℕ) where
   unfolding after_accept
   accept_fits = pick (is_snp s.isolation) (ask_quiet at.Zero q.at refl) (return_quiet (run_end t q.n q.at))
 
-  default0_fits : (g : OptionFlags) → F false q.n (after_default0 g s q t)
+  default0_fits : (g : Option HvMapGpaFlags) → F false q.n (after_default0 g s q t)
   default0_fits (Some f) = ask_closed false q.n q.n at.ProtectDefault1 q.at no_writes refl refl (quiet q.n) (λ _. (refl, omega arith))
   default0_fits None = default_quiet (run_end t q.n q.at)
 
@@ -302,7 +302,7 @@ module _ (s : Settings) (t : List ℕ) (last : ℕ → Bool) where
     unfolding default_run
     shut_run i = choose (ltb i q.n) (shut_ask at.ProtectDefault0 i (set_permissions no_writes i (cond s.tracked (run_end t q.n i) i) s.defaults.vtl0) refl refl (omega arith)) shut_end
 
-    shut_default : (g : OptionFlags) → Moves p q t last last (after_default0 g s q t)
+    shut_default : (g : Option HvMapGpaFlags) → Moves p q t last last (after_default0 g s q t)
     shut_default (Some f) = shut_ask at.ProtectDefault1 q.at no_writes refl refl (omega arith)
     shut_default None = shut_run (run_end t q.n q.at)
 

@@ -3,11 +3,13 @@
 
 ghost use Rattle.std.specs.Prelude.{◌≡◌, length};
 ghost use Rattle.abi.specs.Refusals as refusal;
+ghost use Rattle.abi.specs.Refusals.{refused_by};
 ghost use Rattle.laws.specs.Ranges.{between};
 ghost use Rattle.laws.specs.Refusal.{unless};
 ghost use Rattle.layout.specs.Layout.{entries_of, entry_at, is_ram, place_of, follows, ordered, on_bytes, aligned, refusal_of, last_end, map_len, span_at, page_up};
 
-use abi::{PAGE_SIZE, RAM_ALIGNMENT, RAM_ENTRY_WORDS, limit, refusal};
+use abi::refusal::Refusal;
+use abi::{PAGE_SIZE, RAM_ALIGNMENT, RAM_ENTRY_WORDS, limit};
 
 #[derive(Clone, Copy)]
 pub struct MemoryRange {
@@ -125,30 +127,32 @@ fn is_aligned(ram: &[u64]) -> bool
     true
 }
 
-// 1 comes before 2.
-fn entries_refusal(ordered: bool, aligned: bool) -> u64
-    ensures { result ≡ unless ordered refusal.unfit_layout (unless aligned refusal.bad_alignment 0) }
+// Whether the entries are in order comes before whether they are aligned.
+fn entries_refusal(ordered: bool, aligned: bool) -> Result<(), Refusal>
+    ensures { refused_by result ≡ unless ordered refusal.unfit_layout (unless aligned refusal.bad_alignment 0) }
 {
-    if ordered {
-        if aligned { 0 } else { refusal::BAD_ALIGNMENT }
-    } else {
-        refusal::UNFIT_LAYOUT
+    if !ordered {
+        return Err(Refusal::UnfitLayout);
     }
+    if !aligned {
+        return Err(Refusal::BadAlignment);
+    }
+    Ok(())
 }
 
-// 1 or 2 where the layout is refused, else 0.
-pub fn refusal(ram: &[u64]) -> u64
-    ensures { result ≡ refusal_of ram.now }
+// What refuses the layout.
+pub fn refusal(ram: &[u64]) -> Result<(), Refusal>
+    ensures { refused_by result ≡ refusal_of ram.now }
 {
     if ram.len() % RAM_ENTRY_WORDS != 0 {
-        return refusal::UNFIT_LAYOUT;
+        return Err(Refusal::UnfitLayout);
     }
     let n = entry_count(ram);
     if n == 0 {
-        return refusal::UNFIT_LAYOUT;
+        return Err(Refusal::UnfitLayout);
     }
     if limit::RAM_ENTRIES < n {
-        return refusal::UNFIT_LAYOUT;
+        return Err(Refusal::UnfitLayout);
     }
     entries_refusal(is_ordered(ram), is_aligned(ram))
 }

@@ -1,16 +1,14 @@
 -- Flags and VTLs as numbers and back. Assumes nothing.
 use mathlib.Core.Bool.{Bool, true, false}
 use mathlib.Core.Path.{◌≡◌, refl, ap}
-use Prim.Native.Nat.{ℕ, ◌+◌, ◌*◌, ◌/◌, ◌%◌, ◌≤◌, ◌<◌}
+use Prim.Native.Nat.{ℕ, ◌+◌, ◌*◌, ◌/◌, ◌%◌, ◌<◌}
 use native.Mathlib.Omega.{arith}
 use native.Mathlib.Decide.{dec_lt}
 use lib.Dec.{eqb}
-use borrow.Author.Tests.{eq-eqb, ne_eqb, lt-ltb, le-ltb, le-leb, lt-leb}
 use Rattle.laws.specs.Bools.{digit, digit_le}
 use Rattle.permissions.specs.declared.GuestVtl.{GuestVtl}
 use Rattle.permissions.specs.declared.GuestVtl.TheVariants.{Vtl0, Vtl1}
 use Rattle.permissions.specs.declared.HvMapGpaFlags.{HvMapGpaFlags}
-use Rattle.permissions.specs.HvError.{code_of}
 use Rattle.permissions.specs.Flags.{vtl_of, vtl_number, flags_of, bits_of}
 
 pub bits_lt : (f : HvMapGpaFlags) → bits_of f < 16
@@ -59,22 +57,3 @@ vtl_number_lem Vtl1 = refl
 pub vtl_lt : (v : GuestVtl) → vtl_number v < 2
 vtl_lt Vtl0 = omega arith
 vtl_lt Vtl1 = omega arith
-
--- the code of a refusal, a law for each return
-module _ (n : ℕ) where
-  pub code_ram : n ≡ 7 → 8 ≡ code_of n
-  code_ram e = rw (eq-eqb n 7 e)
-
-  module _ (o : n ≡ 7 → ⊥) where
-    pub code_input : n < 10 → 0 ≡ code_of n
-    code_input h = rw (ne_eqb n 7 o, lt-leb 10 n h, ne_eqb n 15 (λ e. omega arith))
-
-    module _ (l : 10 ≤ n) where
-      pub code_state : n < 15 → 8 ≡ code_of n
-      code_state h = rw (ne_eqb n 7 o, le-leb 10 n l, lt-ltb n 15 h)
-
-      pub code_stop : 15 ≤ n → n ≡ 15 → 6 ≡ code_of n
-      code_stop h e = rw (ne_eqb n 7 o, le-leb 10 n l, le-ltb n 15 h, eq-eqb n 15 e)
-
-      pub code_none : 15 ≤ n → (n ≡ 15 → ⊥) → 0 ≡ code_of n
-      code_none h e = rw (ne_eqb n 7 o, le-leb 10 n l, le-ltb n 15 h, ne_eqb n 15 e)

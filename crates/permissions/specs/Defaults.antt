@@ -1,7 +1,7 @@
 -- The default permissions (01, "Defaults").
+use Rattle.std.specs.Prelude.{Some, None}
 use Rattle.permissions.specs.declared.GuestVtl.{GuestVtl}
 use Rattle.permissions.specs.declared.GuestVtl.TheVariants.{Vtl0, Vtl1}
-use Rattle.permissions.specs.declared.OptionFlags.TheVariants.{Some, None}
 use Rattle.permissions.specs.declared.HvMapGpaFlags.{HvMapGpaFlags}
 use Rattle.permissions.specs.declared.DefaultVtlPermissions.{DefaultVtlPermissions}
 use Rattle.permissions.specs.Flags.{all_flags}

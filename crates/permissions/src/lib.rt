@@ -10,21 +10,21 @@ ghost use Rattle.permissions.specs.HvError.{code_of};
 
 use abi::{FLAGS_END, code, isolation, refusal};
 
-#[derive(Clone, Copy)]
+#[derive(Clone, Copy, Debug, PartialEq, Eq)]
 pub enum GuestVtl {
     Vtl0,
     Vtl1,
 }
 
 // The isolation types of the domain.
-#[derive(Clone, Copy)]
+#[derive(Clone, Copy, Debug, PartialEq, Eq)]
 pub enum IsolationType {
     Snp,
     Tdx,
     Cca,
 }
 
-#[derive(Clone, Copy)]
+#[derive(Clone, Copy, Debug, PartialEq, Eq)]
 pub struct HvMapGpaFlags {
     pub readable: bool,
     pub writable: bool,
@@ -32,18 +32,12 @@ pub struct HvMapGpaFlags {
     pub user_executable: bool,
 }
 
-// Flags that may not be given.
-#[derive(Clone, Copy)]
-pub enum OptionFlags {
-    Some(HvMapGpaFlags),
-    None,
-}
-
 // The permissions that a page gets as it returns to private.
-#[derive(Clone, Copy)]
+#[derive(Clone, Copy, Debug, PartialEq, Eq)]
 pub struct DefaultVtlPermissions {
     pub vtl0: HvMapGpaFlags,
-    pub vtl1: OptionFlags,
+    // None where none were given.
+    pub vtl1: Option<HvMapGpaFlags>,
 }
 
 // Whether a number names a VTL, and which.
@@ -76,32 +70,23 @@ pub fn vtl_number(vtl: GuestVtl) -> u64
 pub fn is_isolation(n: u64) -> bool
     ensures { result ≡ fit_isolation n }
 {
-    if n < isolation::SNP {
-        false
-    } else {
-        n <= isolation::CCA
-    }
+    isolation::SNP <= n && n <= isolation::CCA
 }
 
 pub fn isolation_of(n: u64) -> IsolationType
     ensures { result ≡ isolation_of n }
 {
-    if n == isolation::SNP {
-        return IsolationType::Snp;
+    match n {
+        isolation::SNP => IsolationType::Snp,
+        isolation::TDX => IsolationType::Tdx,
+        _ => IsolationType::Cca,
     }
-    if n == isolation::TDX {
-        return IsolationType::Tdx;
-    }
-    IsolationType::Cca
 }
 
 pub fn is_vtl0(vtl: GuestVtl) -> bool
     ensures { result ≡ is_vtl0 vtl }
 {
-    match vtl {
-        GuestVtl::Vtl0 => true,
-        GuestVtl::Vtl1 => false,
-    }
+    vtl == GuestVtl::Vtl0
 }
 
 // Whether a number is a sum of flags.
@@ -159,7 +144,7 @@ pub fn bool_to_u64(b: bool) -> u64
     ensures value { result ≡ digit b }
     ensures upper_bound { result ≤ 1 }
 {
-    if b { 1 } else { 0 }
+    u64::from(b)
 }
 
 impl DefaultVtlPermissions {
@@ -168,7 +153,7 @@ impl DefaultVtlPermissions {
     {
         Self {
             vtl0: HvMapGpaFlags::all(),
-            vtl1: OptionFlags::None,
+            vtl1: None,
         }
     }
 
@@ -176,16 +161,14 @@ impl DefaultVtlPermissions {
     pub fn with(self, vtl: GuestVtl, permissions: HvMapGpaFlags) -> Self
         ensures { result ≡ with_default self vtl permissions }
     {
-        let vtl0 = self.vtl0;
-        let vtl1 = self.vtl1;
         match vtl {
             GuestVtl::Vtl0 => Self {
                 vtl0: permissions,
-                vtl1,
+                ..self
             },
             GuestVtl::Vtl1 => Self {
-                vtl0,
-                vtl1: OptionFlags::Some(permissions),
+                vtl1: Some(permissions),
+                ..self
             },
         }
     }
@@ -194,7 +177,7 @@ impl DefaultVtlPermissions {
     pub fn set(&mut self, vtl: GuestVtl, permissions: HvMapGpaFlags)
         ensures { self.new ≡ with_default self.old vtl permissions }
     {
-        *self = DefaultVtlPermissions::with(*self, vtl, permissions);
+        *self = self.with(vtl, permissions);
     }
 }
 
@@ -207,7 +190,7 @@ pub fn set_default(
     ensures { result ≡ with_default defaults vtl permissions }
 {
     let mut t = defaults;
-    DefaultVtlPermissions::set(&mut t, vtl, permissions);
+    t.set(vtl, permissions);
     t
 }
 
@@ -229,18 +212,9 @@ pub fn rmpadjust(vtl: GuestVtl, protections: HvMapGpaFlags) -> u64
 pub fn hv_error(number: u64) -> u64
     ensures { result ≡ code_of number }
 {
-    if number == refusal::NOT_RAM {
-        return code::OPERATION_DENIED;
-    }
-    if number < refusal::LOCKED {
-        return 0;
-    }
-    if number < refusal::ACCESS_DENIED {
-        return code::OPERATION_DENIED;
-    }
-    if number == refusal::ACCESS_DENIED {
-        code::ACCESS_DENIED
-    } else {
-        0
+    match number {
+        refusal::NOT_RAM | refusal::LOCKED..refusal::ACCESS_DENIED => code::OPERATION_DENIED,
+        refusal::ACCESS_DENIED => code::ACCESS_DENIED,
+        _ => 0,
     }
 }

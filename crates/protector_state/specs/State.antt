@@ -1,7 +1,8 @@
 -- The state block of the protector (01, "The request under way", "Defaults", "RAM layout"): 128 words. A visibility change under way is in words 0 to
 -- 9, another change in words 0 to 13, the settings are in words 16 to 21, the number of RAM entries in word 31, the entries from word 32 on. A build
 -- leaves the others 0.
-use Rattle.std.specs.Prelude.{cond, List, [], ◌∷◌, ◌++◌, ℕ, ◌-◌, ◌*◌, min, eqb, length, get_or, drop, take, replicate}
+use Rattle.permissions.specs.declared.HvMapGpaFlags.{HvMapGpaFlags}
+use Rattle.std.specs.Prelude.{cond, List, [], ◌∷◌, ◌++◌, ℕ, ◌-◌, ◌*◌, min, eqb, length, get_or, drop, take, replicate, Option, Some, None}
 pub use Rattle.abi.specs.Lengths.{state_len}
 use Rattle.abi.specs.Flags as bits
 use Rattle.abi.specs.Limits as limit
@@ -13,8 +14,6 @@ use Rattle.layout.specs.declared.MemoryRangeWithNode.{MemoryRangeWithNode}
 use Rattle.layout.specs.Layout.{entries_of}
 use Rattle.permissions.specs.declared.GuestVtl.{GuestVtl}
 use Rattle.permissions.specs.declared.GuestVtl.TheVariants.{Vtl0, Vtl1}
-use Rattle.permissions.specs.declared.OptionFlags.{OptionFlags}
-use Rattle.permissions.specs.declared.OptionFlags.TheVariants.{Some, None}
 use Rattle.permissions.specs.declared.DefaultVtlPermissions.{DefaultVtlPermissions}
 use Rattle.permissions.specs.Flags.{vtl_of, vtl_number, isolation_of, fit_flags, flags_of, bits_of, bool_of}
 use Rattle.visibility_steps.specs.declared.Phase.{Phase}
@@ -86,10 +85,10 @@ with_request p request state = request_words p request ++ drop place.after_reque
 
 -- ---- the settings: isolation, tracked, release flag, protections enabled, default of VTL0, default of VTL1 (16 where none is given)
 
-abbrev pub option_of : ℕ → OptionFlags
+abbrev pub option_of : ℕ → Option HvMapGpaFlags
 option_of n = cond (fit_flags n) (Some (flags_of n)) None
 
-abbrev pub option_word : OptionFlags → ℕ
+abbrev pub option_word : Option HvMapGpaFlags → ℕ
 option_word (Some f) = bits_of f
 option_word None = bits.no_flags
 

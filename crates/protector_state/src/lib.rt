@@ -15,7 +15,7 @@ pub mod change;
 
 use abi::{NO_FLAGS, RAM_ENTRY_WORDS, limit, operation, phase, place, refusal};
 use page_list::PageRun;
-use permissions::{DefaultVtlPermissions, GuestVtl, HvMapGpaFlags, IsolationType, OptionFlags};
+use permissions::{DefaultVtlPermissions, GuestVtl, HvMapGpaFlags, IsolationType};
 use visibility_steps::{Answer, Operation, Phase, Request, Settings, Turn};
 
 // What crosses: 01's number (0 where none), code, index and count of a call, and the operation asked for (0 where none):
@@ -374,22 +374,22 @@ pub fn save(state: &mut [u64], phase: Phase, request: Request)
     state[place::COUNT] = request.count;
 }
 
-fn option_of(n: u64) -> OptionFlags
+fn option_of(n: u64) -> Option<HvMapGpaFlags>
     ensures { result ≡ option_of n }
 {
     if permissions::is_flags(n) {
-        OptionFlags::Some(HvMapGpaFlags::from_bits(n))
+        Some(HvMapGpaFlags::from_bits(n))
     } else {
-        OptionFlags::None
+        None
     }
 }
 
-fn option_word(flags: OptionFlags) -> u64
+fn option_word(flags: Option<HvMapGpaFlags>) -> u64
     ensures { result ≡ option_word flags }
 {
     match flags {
-        OptionFlags::Some(given) => given.into_bits(),
-        OptionFlags::None => NO_FLAGS,
+        Some(given) => given.into_bits(),
+        None => NO_FLAGS,
     }
 }
 

@@ -1,4 +1,5 @@
 -- The count of a call is the number of its operations: of up to 512 pages it does not pass 64 bits. Assumes nothing.
+use Rattle.std.specs.Prelude.{Option, Some, None}
 use native.Mathlib.Omega.{arith}
 use mathlib.Core.Path.{◌≡◌, ap, ◌∙◌}
 use mathlib.Core.Bool.{Bool, true, false, cond}
@@ -11,8 +12,6 @@ use Rattle.permissions.specs.declared.GuestVtl.{GuestVtl}
 use Rattle.permissions.specs.declared.IsolationType.{IsolationType}
 use Rattle.permissions.specs.declared.IsolationType.TheVariants.{Snp, Tdx, Cca}
 use Rattle.permissions.specs.declared.HvMapGpaFlags.{HvMapGpaFlags}
-use Rattle.permissions.specs.declared.OptionFlags.{OptionFlags}
-use Rattle.permissions.specs.declared.OptionFlags.TheVariants.{Some, None}
 use Rattle.mapping.specs.Maps.{Maps}
 use Rattle.page_list.specs.declared.PageRun.{PageRun}
 use Rattle.page_list.specs.Runs.{run, runs_of}
@@ -86,7 +85,7 @@ few_accepts Snp r = omega arith
 few_accepts Tdx r = omega arith
 few_accepts Cca r = omega arith
 
-few_defaults : (f : HvMapGpaFlags) (g : OptionFlags) (r : PageRun) → length (defaults f g r) ≤ 2
+few_defaults : (f : HvMapGpaFlags) (g : Option HvMapGpaFlags) (r : PageRun) → length (defaults f g r) ≤ 2
 few_defaults f (Some x) r = omega arith
 few_defaults f None r = omega arith
 

@@ -1,4 +1,6 @@
 -- Every request ends: each answer that is taken lowers the number `left`, and nothing refused changes it. Assumes nothing.
+use Rattle.permissions.specs.declared.HvMapGpaFlags.{HvMapGpaFlags}
+use Rattle.std.specs.Prelude.{Option, Some, None}
 use native.Mathlib.Omega.{arith}
 use mathlib.Core.Path.{◌≡◌, refl, sym, ap, ap₂, ◌∙◌}
 use mathlib.Core.Logic.{⊎_elim}
@@ -11,8 +13,6 @@ use lib.ListN.{length, get_or, drop}
 use lib.Seq.{get_or-drop, drop-drop}
 use borrow.Author.Tests.{eq-eqb, eqb-true, eqb-false, ltb-true, leb-false}
 use Rattle.laws.specs.Bools.{false≢true, and_left, lt_or_le}
-use Rattle.permissions.specs.declared.OptionFlags.{OptionFlags}
-use Rattle.permissions.specs.declared.OptionFlags.TheVariants.{Some, None}
 use Rattle.layout.specs.declared.MemoryRangeWithNode.{MemoryRangeWithNode}
 use Rattle.page_list.specs.declared.PageRun.{PageRun}
 use Rattle.default_change.specs.Pieces.{span, non, piece_of, page_up, piece_in, next_of, wanted}
@@ -98,7 +98,7 @@ module _ (s : Settings) (t : List ℕ) where
   unfolding after_flush
   flush_left q = pick _ q.share (λ _. more (omega arith) (share_left q 0)) (more (omega arith) (asked at.Modify q 0 no_writes))
 
-  second_left : (g : OptionFlags) (q : Request) → Within (2 * (q.n - suc q.at) + 1) (after_default0 g s q t)
+  second_left : (g : Option HvMapGpaFlags) (q : Request) → Within (2 * (q.n - suc q.at) + 1) (after_default0 g s q t)
   second_left (Some f) q = more (omega arith) (asked at.ProtectDefault1 q q.at no_writes)
   second_left None q = more (omega (arith, past q.n q.at)) (default_left q (run_end t q.n q.at) no_writes)
 

@@ -1,4 +1,5 @@
 -- The steps of a visibility change are the whole call: the same operations, the same maps, the same answer. Assumes nothing.
+use Rattle.std.specs.Prelude.{Option, Some, None}
 use native.Mathlib.Omega.{arith}
 use mathlib.Core.Path.{◌≡◌, refl, sym, ap, ap₂, ◌∙◌}
 use mathlib.Core.Logic.{⊎_elim}
@@ -15,8 +16,6 @@ use Rattle.permissions.specs.declared.GuestVtl.TheVariants.{Vtl0, Vtl1}
 use Rattle.permissions.specs.declared.IsolationType.{IsolationType}
 use Rattle.permissions.specs.declared.IsolationType.TheVariants.{Snp, Tdx, Cca}
 use Rattle.permissions.specs.declared.HvMapGpaFlags.{HvMapGpaFlags}
-use Rattle.permissions.specs.declared.OptionFlags.{OptionFlags}
-use Rattle.permissions.specs.declared.OptionFlags.TheVariants.{Some, None}
 use Rattle.permissions.specs.Flags.{no_flags}
 use Rattle.mapping.specs.Maps.{Maps}
 use Rattle.page_list.specs.declared.PageRun.{PageRun}
@@ -81,7 +80,7 @@ module _ (s : Settings) (t : List ℕ) where
   halts c q m e (Fails code k ∷ gs) = halts c q m e gs
 
 -- settings and a request, field by field
-abbrev set : IsolationType → Bool → Bool → Bool → HvMapGpaFlags → OptionFlags → Settings
+abbrev set : IsolationType → Bool → Bool → Bool → HvMapGpaFlags → Option HvMapGpaFlags → Settings
 set i tr rel en f g = record { isolation = i; tracked = tr; release = rel; enabled = en; defaults = record { vtl0 = f; vtl1 = g } }
 
 abbrev req : Bool → GuestVtl → ℕ → ℕ → Bool → Bool → ℕ → ℕ → ℕ → Request
@@ -106,7 +105,7 @@ ends s t c x sh v n a st fl ix cd p h m e [] = go st fl
     go false false = ap₂ (λ (y : Maps) (n : ℕ). record { asked = []; maps = y; last = told n Ok }) (applied_sets t p h m) d
 
 -- the Protect of VTL1, if a default is given, and what follows
-unfoldable second : OptionFlags → PageRun → (Maps → List BackendAnswer → Whole) → Maps → List BackendAnswer → Whole
+unfoldable second : Option HvMapGpaFlags → PageRun → (Maps → List BackendAnswer → Whole) → Maps → List BackendAnswer → Whole
 second (Some f) r next m gs = one (Protect Vtl1 f r) m gs (λ gs. next m gs) (λ code k gs. stands m Halts)
 second None r next m gs = next m gs
 
@@ -116,14 +115,14 @@ module _ (t : List ℕ) (i : IsolationType) (tr rel en : Bool) (d : HvMapGpaFlag
   abbrev ended : Maps → List BackendAnswer → Whole
   ended m gs = stands m (ending st fl ix cd)
 
-  abbrev defaulting : OptionFlags → List PageRun → Maps → List BackendAnswer → Whole
+  abbrev defaulting : Option HvMapGpaFlags → List PageRun → Maps → List BackendAnswer → Whole
   defaulting g rs m gs = in_turn (protecting tr) (per_run (defaults d g) rs) m gs ended
 
-  abbrev Defaults : OptionFlags → ℕ → ℕ → ℕ → ℕ → Places → Places → Maps → List BackendAnswer → Type 0
+  abbrev Defaults : Option HvMapGpaFlags → ℕ → ℕ → ℕ → ℕ → Places → Places → Maps → List BackendAnswer → Type 0
   Defaults g c x a₀ a p h m gs =
       run (set i tr rel en d g) t (default_run (set i tr rel en d g) (req sh v n a₀ st fl ix cd x) t a (sets p h)) m gs ≡ after c (defaulting g (runs_of (part t n a)) (set_by t p h m) gs)
 
-  default_over : (g : OptionFlags) (c x a₀ a : ℕ) (p h : Places) (m : Maps) → x ≡ c % 2 ^ 64 → n ≤ a → (gs : List BackendAnswer) → Defaults g c x a₀ a p h m gs
+  default_over : (g : Option HvMapGpaFlags) (c x a₀ a : ℕ) (p h : Places) (m : Maps) → x ≡ c % 2 ^ 64 → n ≤ a → (gs : List BackendAnswer) → Defaults g c x a₀ a p h m gs
   unfolding in_turn per_run
   default_over g c x a₀ a p h m e o gs =
       let s : Settings = set i tr rel en d g in
@@ -132,7 +131,7 @@ module _ (t : List ℕ) (i : IsolationType) (tr rel en : Bool) (d : HvMapGpaFlag
       ∙ ends s t c x sh v n a₀ st fl ix cd p h m e gs
       ∙ ap (λ (rs : List PageRun). after c (defaulting g rs (set_by t p h m) gs)) (sym (runs_end t n a (omega arith)))
 
-  module _ (g : OptionFlags) (c x a₀ a : ℕ) (p h : Places) (m : Maps) (e : x ≡ c % 2 ^ 64) (o : a < n) where
+  module _ (g : Option HvMapGpaFlags) (c x a₀ a : ℕ) (p h : Places) (m : Maps) (e : x ≡ c % 2 ^ 64) (o : a < n) where
     abbrev s : Settings
     s = set i tr rel en d g
 
@@ -156,7 +155,7 @@ module _ (t : List ℕ) (i : IsolationType) (tr rel en : Bool) (d : HvMapGpaFlag
         (applied_default t n a o l tr p h d m) refl refl f (λ code k gs _. halts s t (c + 1) (req sh v n a st fl ix cd ((x + 1) % 2 ^ 64)) _ (once c x e) gs) gs
 
   -- the run at a place, where the law holds from the place after it on
-  module _ (g : OptionFlags) (a : ℕ) (o : a < n)
+  module _ (g : Option HvMapGpaFlags) (a : ℕ) (o : a < n)
       (on : (c x : ℕ) (m : Maps) (gs : List BackendAnswer) → x ≡ c % 2 ^ 64 → Defaults g c x a (run_end t n a) (places 0 0) (places 0 0) m gs) where
     onward : (c x : ℕ) (m : Maps) (gs : List BackendAnswer) → x ≡ c % 2 ^ 64
         → run (set i tr rel en d g) t (default_run (set i tr rel en d g) (req sh v n a st fl ix cd x) t (run_end t n a) no_writes) m gs
@@ -175,7 +174,7 @@ module _ (t : List ℕ) (i : IsolationType) (tr rel en : Bool) (d : HvMapGpaFlag
         ∙ same g
         ∙ ap (λ (rs : List PageRun). after c (defaulting g rs (set_by t p h m) gs)) (sym (runs_at_lem t n a o (omega arith)))
       where
-        same : (g : OptionFlags) → after c
+        same : (g : Option HvMapGpaFlags) → after c
             (one (Protect Vtl0 d (run_at t n a)) (protecting tr (Protect Vtl0 d (run_at t n a)) (set_by t p h m)) gs
             (λ gs. second g (run_at t n a) (λ m gs. defaulting g (runs_of (part t n (a + (run_at t n a).count))) m gs) (protecting tr (Protect Vtl0 d (run_at t n a)) (set_by t p h m)) gs)
             (λ code k gs. stands (protecting tr (Protect Vtl0 d (run_at t n a)) (set_by t p h m)) Halts))
@@ -183,7 +182,7 @@ module _ (t : List ℕ) (i : IsolationType) (tr rel en : Bool) (d : HvMapGpaFlag
         same (Some f) = refl
         same None = refl
 
-  second_law : (g : OptionFlags) (a : ℕ)
+  second_law : (g : Option HvMapGpaFlags) (a : ℕ)
       → ((c x : ℕ) (m : Maps) (gs : List BackendAnswer) → x ≡ c % 2 ^ 64
       → run (set i tr rel en d g) t (default_run (set i tr rel en d g) (req sh v n a st fl ix cd x) t (run_end t n a) no_writes) m gs
       ≡ after c (defaulting g (runs_of (part t n (a + (run_at t n a).count))) m gs))
@@ -199,12 +198,12 @@ module _ (t : List ℕ) (i : IsolationType) (tr rel en : Bool) (d : HvMapGpaFlag
       (λ gs. on (c + 1) ((x + 1) % 2 ^ 64) m gs (once c x e))
       (λ code k gs _. halts s t (c + 1) q m (once c x e) gs) gs
 
-  default_step_lem : (g : OptionFlags) (a : ℕ) (o : a < n)
+  default_step_lem : (g : Option HvMapGpaFlags) (a : ℕ) (o : a < n)
       (on : (c x : ℕ) (m : Maps) (gs : List BackendAnswer) → x ≡ c % 2 ^ 64 → Defaults g c x a (run_end t n a) (places 0 0) (places 0 0) m gs)
       (c x a₀ : ℕ) (p h : Places) (m : Maps) (gs : List BackendAnswer) → x ≡ c % 2 ^ 64 → Defaults g c x a₀ a p h m gs
   default_step_lem g a o on c x a₀ p h m gs e = default_turn g a o on c x a₀ p h m gs e (second_law g a (onward g a o on))
 
-  default_law : (g : OptionFlags) (k c x a₀ a : ℕ) (p h : Places) (m : Maps) → x ≡ c % 2 ^ 64 → n ≤ a + k → (gs : List BackendAnswer) → Defaults g c x a₀ a p h m gs
+  default_law : (g : Option HvMapGpaFlags) (k c x a₀ a : ℕ) (p h : Places) (m : Maps) → x ≡ c % 2 ^ 64 → n ≤ a + k → (gs : List BackendAnswer) → Defaults g c x a₀ a p h m gs
   default_law g zero c x a₀ a p h m e b gs = default_over g c x a₀ a p h m e (omega arith) gs
   default_law g (suc k) c x a₀ a p h m e b gs =
       ⊎_elim
@@ -218,7 +217,7 @@ unfolding per_run
 no_accepts [] = refl
 no_accepts (r ∷ rs) = no_accepts rs
 
-module _ (t : List ℕ) (tr rel en : Bool) (d : HvMapGpaFlags) (g : OptionFlags) (sh : Bool) (v : GuestVtl) (n : ℕ) (st fl : Bool) (ix cd : ℕ) (l : n ≤ length t) where
+module _ (t : List ℕ) (tr rel en : Bool) (d : HvMapGpaFlags) (g : Option HvMapGpaFlags) (sh : Bool) (v : GuestVtl) (n : ℕ) (st fl : Bool) (ix cd : ℕ) (l : n ≤ length t) where
   abbrev S : IsolationType → Settings
   S i = set i tr rel en d g
 
@@ -309,7 +308,7 @@ module _ (t : List ℕ) (tr rel en : Bool) (d : HvMapGpaFlags) (g : OptionFlags)
 
 -- ---- To private, from the call on
 
-module _ (t : List ℕ) (tr rel en : Bool) (d : HvMapGpaFlags) (g : OptionFlags) (v : GuestVtl) (n ix : ℕ) (their : List ℕ) (l : n ≤ length t)
+module _ (t : List ℕ) (tr rel en : Bool) (d : HvMapGpaFlags) (g : Option HvMapGpaFlags) (v : GuestVtl) (n ix : ℕ) (their : List ℕ) (l : n ≤ length t)
     (place : (k : ℕ) → k < n → get_or t (512 + k) 0 ≡ get_or their k 0) where
   abbrev T : IsolationType → Settings
   T i = set i tr rel en d g
@@ -389,7 +388,7 @@ no_unaccepts Tdx true a b (r ∷ rs) = false≢true (sym b)
 no_unaccepts Tdx false a b (r ∷ rs) = no_unaccepts Tdx false a b rs
 no_unaccepts Cca rel a b (r ∷ rs) = no_unaccepts Cca rel a b rs
 
-module _ (t : List ℕ) (tr en : Bool) (d : HvMapGpaFlags) (g : OptionFlags) (v : GuestVtl) (n : ℕ) (st : Bool) (ix : ℕ) (l : n ≤ length t) where
+module _ (t : List ℕ) (tr en : Bool) (d : HvMapGpaFlags) (g : Option HvMapGpaFlags) (v : GuestVtl) (n : ℕ) (st : Bool) (ix : ℕ) (l : n ≤ length t) where
   abbrev U : IsolationType → Bool → Settings
   U i rel = set i tr rel en d g
 

@@ -1,4 +1,6 @@
 -- What every step has that a taken answer leads to, where each way that it may go has it. Assumes nothing.
+use Rattle.permissions.specs.declared.HvMapGpaFlags.{HvMapGpaFlags}
+use Rattle.std.specs.Prelude.{Option, Some, None}
 use mathlib.Core.Path.{◌≡◌, refl}
 use mathlib.Core.Bool.{Bool, true, false, cond, ◌&&◌}
 use mathlib.Core.List.{List}
@@ -7,8 +9,6 @@ use lib.Dec.{ltb, leb}
 use lib.ListN.{get_or}
 use borrow.Author.Tests.{leb-false}
 use Rattle.laws.specs.Bools.{false≢true}
-use Rattle.permissions.specs.declared.OptionFlags.{OptionFlags}
-use Rattle.permissions.specs.declared.OptionFlags.TheVariants.{Some, None}
 use Rattle.request_pages.specs.Request.{run_end}
 use Rattle.visibility_steps.specs.declared.Phase.{Phase}
 use Rattle.visibility_steps.specs.declared.Phase.TheVariants as at
@@ -46,7 +46,7 @@ module _ (s : Settings) (t : List ℕ) (I : Request → Type 0) (P : Step → Ty
   unfolding after_flush
   flushed q h = pick q.share (share q 0 h) (asks at.Modify q 0 no_writes h)
 
-  second : (g : OptionFlags) (q : Request) → I q → P (after_default0 g s q t)
+  second : (g : Option HvMapGpaFlags) (q : Request) → I q → P (after_default0 g s q t)
   second (Some f) q h = asks at.ProtectDefault1 q q.at no_writes h
   second None q h = default q (run_end t q.n q.at) no_writes h
 

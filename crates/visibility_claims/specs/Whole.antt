@@ -1,13 +1,11 @@
 -- A whole visibility change under a list of backend answers, written from document 01, "The request under way", its two bullets.
-use Rattle.std.specs.Prelude.{Bool, true, false, cond, List, [], ◌∷◌, ◌++◌, ℕ, ◌+◌, ltb, length, get_or, take, drop}
+use Rattle.std.specs.Prelude.{Bool, true, false, cond, List, [], ◌∷◌, ◌++◌, ℕ, ◌+◌, ltb, length, get_or, take, drop, Option, Some, None}
 use Rattle.bitmap.specs.Pages.{written}
 use Rattle.permissions.specs.declared.GuestVtl.{GuestVtl}
 use Rattle.permissions.specs.declared.GuestVtl.TheVariants.{Vtl0, Vtl1}
 use Rattle.permissions.specs.declared.IsolationType.{IsolationType}
 use Rattle.permissions.specs.declared.IsolationType.TheVariants.{Snp, Tdx, Cca}
 use Rattle.permissions.specs.declared.HvMapGpaFlags.{HvMapGpaFlags}
-use Rattle.permissions.specs.declared.OptionFlags.{OptionFlags}
-use Rattle.permissions.specs.declared.OptionFlags.TheVariants.{Some, None}
 use Rattle.permissions.specs.Flags.{no_flags}
 use Rattle.mapping.specs.Maps.{Maps, Permissions, perms, permitted}
 use Rattle.page_list.specs.declared.PageRun.{PageRun}
@@ -102,7 +100,7 @@ accepts Snp run = Accept run ∷ Zero run ∷ []
 accepts Tdx run = Accept run ∷ []
 accepts Cca run = []
 
-abbrev pub defaults : HvMapGpaFlags → OptionFlags → PageRun → List Operation
+abbrev pub defaults : HvMapGpaFlags → Option HvMapGpaFlags → PageRun → List Operation
 defaults vtl0 (Some vtl1) run = Protect Vtl0 vtl0 run ∷ Protect Vtl1 vtl1 run ∷ []
 defaults vtl0 None run = Protect Vtl0 vtl0 run ∷ []
 

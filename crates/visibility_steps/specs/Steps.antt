@@ -1,5 +1,5 @@
 -- What each answer leads a visibility change to (01, "The request under way", its two bullets, and 15, 16, 20 and 21 of "From the state").
-use Rattle.std.specs.Prelude.{ℕ, ◌+◌, ◌%◌, ◌^◌, Bool, true, false, cond, ◌&&◌, List, nat_le, nat_lt, slice_index}
+use Rattle.std.specs.Prelude.{ℕ, ◌+◌, ◌%◌, ◌^◌, Bool, true, false, cond, ◌&&◌, List, nat_le, nat_lt, slice_index, Option, Some, None}
 use Rattle.abi.specs.Refusals as refusal
 use Rattle.abi.specs.Lengths.{places_start}
 use Rattle.permissions.specs.declared.GuestVtl.{GuestVtl}
@@ -7,8 +7,6 @@ use Rattle.permissions.specs.declared.GuestVtl.TheVariants.{Vtl0, Vtl1}
 use Rattle.permissions.specs.declared.IsolationType.{IsolationType}
 use Rattle.permissions.specs.declared.IsolationType.TheVariants.{Snp, Tdx, Cca}
 use Rattle.permissions.specs.declared.HvMapGpaFlags.{HvMapGpaFlags}
-use Rattle.permissions.specs.declared.OptionFlags.{OptionFlags}
-use Rattle.permissions.specs.declared.OptionFlags.TheVariants.{Some, None}
 pub use Rattle.permissions.specs.Flags.{is_vtl0}
 use Rattle.permissions.specs.Flags.{no_flags}
 use Rattle.page_list.specs.declared.PageRun.{PageRun}
@@ -64,7 +62,7 @@ set_permissions old from to flags = writes old.state old.private old.shared (pla
 abbrev pub step : Phase → Request → Answer → Writes → Step
 step phase request answer writes = record { phase = phase; request = request; answer = answer; writes = writes }
 
-abbrev pub or_none : OptionFlags → HvMapGpaFlags
+abbrev pub or_none : Option HvMapGpaFlags → HvMapGpaFlags
 or_none (Some flags) = flags
 or_none None = no_flags
 
@@ -178,7 +176,7 @@ unfoldable pub after_accept : Settings → Request → List ℕ → Step
 after_accept settings request pages =
     cond (is_snp settings.isolation) (ask settings at.Zero request pages request.at no_writes) (return_run settings request pages (run_end pages request.n request.at) no_writes)
 
-abbrev pub after_default0 : OptionFlags → Settings → Request → List ℕ → Step
+abbrev pub after_default0 : Option HvMapGpaFlags → Settings → Request → List ℕ → Step
 after_default0 (Some flags) settings request pages = ask settings at.ProtectDefault1 request pages request.at no_writes
 after_default0 None settings request pages = default_run settings request pages (run_end pages request.n request.at) no_writes
 

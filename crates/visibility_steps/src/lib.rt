@@ -9,7 +9,7 @@ ghost use Rattle.visibility_steps.specs.Next.{marks, marked_by, asks, ends, keep
 
 use abi::refusal;
 use page_list::PageRun;
-use permissions::{DefaultVtlPermissions, GuestVtl, HvMapGpaFlags, IsolationType, OptionFlags};
+use permissions::{DefaultVtlPermissions, GuestVtl, HvMapGpaFlags, IsolationType};
 
 // What a protector is built with, and what calls set.
 #[derive(Clone, Copy)]
@@ -181,12 +181,12 @@ fn no_writes() -> Writes
     }
 }
 
-pub fn or_none(flags: OptionFlags) -> HvMapGpaFlags
+pub fn or_none(flags: Option<HvMapGpaFlags>) -> HvMapGpaFlags
     ensures { result ≡ or_none flags }
 {
     match flags {
-        OptionFlags::Some(flags) => flags,
-        OptionFlags::None => HvMapGpaFlags::none(),
+        Some(flags) => flags,
+        None => HvMapGpaFlags::none(),
     }
 }
 
@@ -450,8 +450,8 @@ fn after_default0(settings: Settings, request: Request, pages: &[u64]) -> Next
     let defaults = settings.defaults;
     let vtl1 = defaults.vtl1;
     match vtl1 {
-        OptionFlags::Some(_) => asks(Phase::ProtectDefault1, request.at, no_marks()),
-        OptionFlags::None => {
+        Some(_) => asks(Phase::ProtectDefault1, request.at, no_marks()),
+        None => {
             let next = request_pages::run_end(pages, request.n, request.at);
             default_run(settings, request, pages, next, no_marks())
         }

@@ -1,8 +1,7 @@
 -- The one table of document 01's worked examples (P1 to P10), of the readings that it shuts out and of computed cases that tell right from nearly right, by family: RAM
 -- pages 0 to 15 and 32 to 39, through the entries' own definitions and the numbers that cross.
-use Rattle.std.specs.Prelude.{◌≡◌, ℕ}
+use Rattle.std.specs.Prelude.{◌≡◌, ℕ, Some}
 use Rattle.permissions.specs.declared.GuestVtl.TheVariants.{Vtl0, Vtl1}
-use Rattle.permissions.specs.declared.OptionFlags.TheVariants.{Some}
 use Rattle.permissions.specs.declared.DefaultVtlPermissions.{DefaultVtlPermissions}
 use Rattle.permissions.specs.Defaults.{with_default}
 use Rattle.permissions.specs.Flags.{flags_of}
