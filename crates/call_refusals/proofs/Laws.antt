@@ -11,14 +11,12 @@ use borrow.Author.Tests.{eq-eqb, ne_eqb, eqb-true}
 use Rattle.abi.specs.Refusals as refusal
 use Rattle.laws.specs.Bools.{and_left, and_right}
 use Rattle.laws.specs.Refusal.{unless, when, first, passed, first_passed}
-use Rattle.layout.specs.Layout.{entries_of, map_len}
-use Rattle.permissions.specs.declared.GuestVtl.{GuestVtl}
-use Rattle.page_list.specs.Pages.{pages_of}
+use Rattle.layout.specs.Layout.{map_len}
 use Rattle.mapping.specs.Maps.{maps_fit}
-use Rattle.protector_state.specs.State.{state_len, settings_of, ram_of, entries_in}
+use Rattle.protector_state.specs.State.{state_len, settings_of, entries_in}
 use Rattle.call_refusals.specs.declared.Lengths.{Lengths}
-use Rattle.call_refusals.specs.Buffers.{Buffers, pages_len, tables_len, overlays_of, locks_of, lengths_fit, fits_in, lengths_in, fits, status_in, takes_in}
-use Rattle.call_refusals.specs.Refusals.{ready, answer_refusal, page_refusal, first_refusal}
+use Rattle.call_refusals.specs.Buffers.{Buffers, pages_len, tables_len, lengths_fit, fits_in, lengths_in, fits, status_in, takes_in}
+use Rattle.call_refusals.specs.Refusals.{ready, answer_refusal, first_refusal}
 
 -- ---- what calls test first
 
@@ -147,7 +145,3 @@ module _ (w : Buffers) (h : fits w ≡ true) where
   fits_tables = tables_fit w.state (lengths_in w) h
 
 -- ---- the layout and the tables that a call looks at
-
-pub tables_are : (t s ram o l : List ℕ) (x v : GuestVtl) → ram ≡ ram_of s → o ≡ overlays_of t x → l ≡ locks_of t x → x ≡ v → (share : Bool) (list : List ℕ)
-    → first_refusal (page_refusal (entries_of ram) o l share) (pages_of list) ≡ first_refusal (page_refusal (entries_in s) (overlays_of t v) (locks_of t v) share) (pages_of list)
-tables_are t s ram o l x v a b d e share list = rw (a, b, d, e) refl

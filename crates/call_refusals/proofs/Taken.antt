@@ -1,13 +1,13 @@
 -- Done is taken exactly while an operation is outstanding. Assumes nothing.
-use mathlib.Core.Path.{◌≡◌, refl, sym, ap, ◌∙◌, subst}
-use mathlib.Core.Bool.{Bool, true, false, not, cond}
+use mathlib.Core.Path.{◌≡◌, refl, subst}
+use mathlib.Core.Bool.{Bool, true, false, cond}
 use mathlib.Core.List.{List}
 use Prim.Native.Nat.{ℕ, suc, ◌≤◌, ◌<◌}
 use native.Mathlib.Omega.{arith}
 use native.Mathlib.Decide.{dec_lt}
 use lib.Dec.{eqb, ltb, leb}
 use lib.ListN.{get_or}
-use borrow.Author.Tests.{ltb-true, leb-true, not-true}
+use borrow.Author.Tests.{ltb-true, leb-true}
 use Rattle.abi.specs.Places as place
 use Rattle.abi.specs.Refusals as refusal
 use Rattle.abi.specs.Stages as number
@@ -71,6 +71,3 @@ done_takes s = go (is_changing s) refl
     go : (b : Bool) → is_changing s ≡ b → cond b (takes_at (stage_in s) false) (takes (phase_in s) false) ≡ eqb (cond b refusal.busy (status_of (phase_in s))) refusal.busy
     go true e = stage_takes (stage_in s) (changing_named s e)
     go false e = phase_takes (phase_in s)
-
-pub busy_takes : (s : List ℕ) (failed : Bool) (n : ℕ) → not failed ≡ true → n ≡ status_in s → eqb n refusal.busy ≡ takes_in s failed
-busy_takes s failed n h e = ap (λ (k : ℕ). eqb k refusal.busy) e ∙ sym (done_takes s) ∙ ap (takes_in s) (sym (not-true failed h))

@@ -2,13 +2,15 @@
 #![tactic(auto)]
 
 ghost use Rattle.std.specs.Prelude.{◌≡◌, true, length};
+ghost use Rattle.abi.specs.Refusals.{refused_by};
 ghost use Rattle.layout.specs.Layout.{entries_of, map_len};
 ghost use Rattle.page_list.specs.Pages.{pages_of};
 ghost use Rattle.protector_state.specs.State.{state_len, entries_in};
 ghost use Rattle.call_refusals.specs.Buffers.{tables_len, overlays_of, locks_of, is_locked, lengths_fit, fits_in, status_of, status_in, takes, takes_at, takes_in};
 ghost use Rattle.call_refusals.specs.Refusals.{ready, tested_of, build_fits, build_refusal, page_refusal, first_refusal, visibility_refusal, answer_refusal};
 
-use abi::{PAGES_WORDS, STATE_WORDS, TABLES_WORDS, refusal, table};
+use abi::refusal::Refusal;
+use abi::{PAGES_WORDS, STATE_WORDS, TABLES_WORDS, table};
 use change_steps::Stage;
 use mapping::MapLengths;
 use permissions::GuestVtl;
@@ -26,14 +28,9 @@ pub struct Lengths {
 fn lengths_fit(len: u64, tracked: bool, lengths: Lengths) -> bool
     ensures { result ≡ lengths_fit len tracked lengths }
 {
-    let maps = lengths.maps;
-    if !mapping::maps_fit(len, tracked, maps) {
-        return false;
-    }
-    if lengths.pages != PAGES_WORDS {
-        return false;
-    }
-    lengths.tables == TABLES_WORDS
+    mapping::maps_fit(len, tracked, lengths.maps)
+        && lengths.pages == PAGES_WORDS
+        && lengths.tables == TABLES_WORDS
 }
 
 // The same by the state block.
@@ -45,60 +42,48 @@ fn fits_in(state: &[u64], lengths: Lengths) -> bool
     lengths_fit(len, protector_state::is_tracked(state), lengths)
 }
 
-fn phase_status(phase: Phase) -> u64
-    ensures { result ≡ status_of phase }
+fn phase_status(phase: Phase) -> Result<(), Refusal>
+    ensures { refused_by result ≡ status_of phase }
 {
     match phase {
-        Phase::Idle => 0,
-        Phase::Halted => refusal::HALTED,
-        Phase::Wait => refusal::BUSY,
-        Phase::FlushAll => refusal::BUSY,
-        Phase::ProtectNone0 => refusal::BUSY,
-        Phase::ProtectNone1 => refusal::BUSY,
-        Phase::Invalidate => refusal::BUSY,
-        Phase::Release => refusal::BUSY,
-        Phase::Modify => refusal::BUSY,
-        Phase::Accept => refusal::BUSY,
-        Phase::Zero => refusal::BUSY,
-        Phase::ProtectDefault0 => refusal::BUSY,
-        Phase::ProtectDefault1 => refusal::BUSY,
+        Phase::Idle => Ok(()),
+        Phase::Halted => Err(Refusal::Halted),
+        _ => Err(Refusal::Busy),
     }
 }
 
-// 20 where halted, 19 while an operation is outstanding, else 0.
-fn status(state: &[u64]) -> u64
+// Whether the state is halted, or an operation is outstanding.
+fn status(state: &[u64]) -> Result<(), Refusal>
     requires { length state.now ≡ state_len }
-    ensures { result ≡ status_in state.now }
+    ensures { refused_by result ≡ status_in state.now }
 {
     if protector_state::change::is_changing(state) {
-        return refusal::BUSY;
+        return Err(Refusal::Busy);
     }
     phase_status(protector_state::phase(state))
 }
 
-// What every call but an answer tests first: 4 of the state block, then 20 or 19. 0 where none refuses it.
-pub fn state_refusal(state: &[u64]) -> u64
-    ensures { result ≡ ready state.now true 0 }
+// What every call but an answer tests first: the length of the state block, then its status.
+#[tactic(auto, using(abi::proofs::Numbers::number_not_zero), unfolding(crate::specs::Refusals::ready))]
+pub fn state_refusal(state: &[u64]) -> Result<(), Refusal>
+    ensures { refused_by result ≡ ready state.now true 0 }
 {
     if state.len() != STATE_WORDS {
-        return refusal::WRONG_LENGTH;
+        return Err(Refusal::WrongLength);
     }
     status(state)
 }
 
-// The same, then 4 of what else is lent, of a call that is lent all.
-pub fn lent_refusal(state: &[u64], lengths: Lengths) -> u64
-    ensures { result ≡ ready state.now (fits_in state.now lengths) 0 }
+// The same, then the lengths of what else is lent, of a call that is lent all.
+#[tactic(auto, using(abi::proofs::Numbers::number_not_zero), unfolding(crate::specs::Refusals::ready))]
+pub fn lent_refusal(state: &[u64], lengths: Lengths) -> Result<(), Refusal>
+    ensures { refused_by result ≡ ready state.now (fits_in state.now lengths) 0 }
 {
-    let n = state_refusal(state);
-    if n != 0 {
-        return n;
+    state_refusal(state)?;
+    if !fits_in(state, lengths) {
+        return Err(Refusal::WrongLength);
     }
-    if fits_in(state, lengths) {
-        0
-    } else {
-        refusal::WRONG_LENGTH
-    }
+    Ok(())
 }
 
 // The tables of one VTL.
@@ -125,50 +110,56 @@ pub fn locks_of(tables: &[u64], vtl: GuestVtl) -> &[u64]
 fn is_locked(overlays: &[u64], locks: &[u64], gpn: u64) -> bool
     ensures { result ≡ is_locked overlays.now locks.now gpn }
 {
-    if lock_table::holds(locks, gpn) {
-        !overlay_table::is_overlay(overlays, gpn)
-    } else {
-        false
-    }
+    lock_table::holds(locks, gpn) && !overlay_table::is_overlay(overlays, gpn)
 }
 
-fn page_refusal(ram: &[u64], overlays: &[u64], locks: &[u64], share: bool, gpn: u64) -> u64
-    ensures { result ≡ page_refusal (entries_of ram.now) overlays.now locks.now share gpn }
+fn page_refusal(
+    ram: &[u64],
+    overlays: &[u64],
+    locks: &[u64],
+    share: bool,
+    gpn: u64,
+) -> Result<(), Refusal>
+    ensures { refused_by result ≡ page_refusal (entries_of ram.now) overlays.now locks.now share gpn }
 {
     if !layout::is_in_guest_memory(ram, gpn) {
-        return refusal::NOT_RAM;
+        return Err(Refusal::NotRam);
     }
     if is_locked(overlays, locks, gpn) {
-        return refusal::LOCKED;
+        return Err(Refusal::Locked);
     }
-    if share {
-        if overlay_table::is_overlay(overlays, gpn) {
-            return refusal::OVERLAY;
-        }
+    if share && overlay_table::is_overlay(overlays, gpn) {
+        return Err(Refusal::Overlay);
     }
-    0
+    Ok(())
 }
 
-// The number of the first page of a list that is refused.
-fn pages_refusal(ram: &[u64], overlays: &[u64], locks: &[u64], share: bool, list: &[u8]) -> u64
-    ensures { result ≡ first_refusal (page_refusal (entries_of ram.now) overlays.now locks.now share) (pages_of list.now) }
+// What refuses the first page of a list that is refused.
+fn pages_refusal(
+    ram: &[u64],
+    overlays: &[u64],
+    locks: &[u64],
+    share: bool,
+    list: &[u8],
+) -> Result<(), Refusal>
+    ensures { refused_by result ≡ first_refusal (page_refusal (entries_of ram.now) overlays.now locks.now share) (pages_of list.now) }
 {
-    let count = page_list::page_count(list);
-    let mut i: u64 = 0;
-    while i < count {
-        let n = page_refusal(ram, overlays, locks, share, page_list::page_at(list, i));
-        if n != 0 {
-            return n;
-        }
-        i += 1;
+    for i in 0..page_list::page_count(list) {
+        page_refusal(ram, overlays, locks, share, page_list::page_at(list, i))?;
     }
-    0
+    Ok(())
 }
 
 // The same, by the layout of the state and the tables of a VTL.
-pub fn listed_refusal(state: &[u64], tables: &[u64], vtl: GuestVtl, share: bool, list: &[u8]) -> u64
+pub fn listed_refusal(
+    state: &[u64],
+    tables: &[u64],
+    vtl: GuestVtl,
+    share: bool,
+    list: &[u8],
+) -> Result<(), Refusal>
     requires { (length state.now ≡ state_len) × (length tables.now ≡ tables_len) }
-    ensures { result ≡ first_refusal (page_refusal (entries_in state.now) (overlays_of tables.now vtl) (locks_of tables.now vtl) share) (pages_of list.now) }
+    ensures { refused_by result ≡ first_refusal (page_refusal (entries_in state.now) (overlays_of tables.now vtl) (locks_of tables.now vtl) share) (pages_of list.now) }
 {
     let ram = protector_state::ram_of(state);
     pages_refusal(
@@ -180,7 +171,8 @@ pub fn listed_refusal(state: &[u64], tables: &[u64], vtl: GuestVtl, share: bool,
     )
 }
 
-// The number that refuses a visibility change: 0 where none does.
+// What refuses a visibility change.
+#[tactic(auto, using(abi::proofs::Numbers::number_not_zero), unfolding(crate::specs::Refusals::visibility_refusal, crate::specs::Refusals::ready))]
 pub fn visibility_refusal(
     state: &[u64],
     lengths: Lengths,
@@ -188,106 +180,84 @@ pub fn visibility_refusal(
     vtl: u64,
     visibility: u64,
     list: &[u8],
-) -> u64
+) -> Result<(), Refusal>
     requires { lengths.tables ≡ length tables.now }
-    ensures { result ≡ visibility_refusal state.now (fits_in state.now lengths) tables.now vtl visibility list.now }
+    ensures { refused_by result ≡ visibility_refusal state.now (fits_in state.now lengths) tables.now vtl visibility list.now }
 {
-    let n = lent_refusal(state, lengths);
-    if n != 0 {
-        return n;
-    }
+    lent_refusal(state, lengths)?;
     if page_list::is_long(list) {
-        return refusal::LONG_LIST;
+        return Err(Refusal::LongList);
     }
     if page_list::has_repeat(list) {
-        return refusal::REPEATED_PAGE;
+        return Err(Refusal::RepeatedPage);
     }
     if !permissions::is_vtl(vtl) {
-        return refusal::UNFIT_NUMBER;
+        return Err(Refusal::UnfitNumber);
     }
     if 1 < visibility {
-        return refusal::UNFIT_NUMBER;
+        return Err(Refusal::UnfitNumber);
     }
     if page_list::is_ragged(list) {
-        return refusal::UNFIT_NUMBER;
+        return Err(Refusal::UnfitNumber);
     }
     // One test more before the walk: so far down it is compiled as a function of its own, with the registers that it needs.
     if page_list::page_count(list) == 0 {
-        return 0;
+        return Ok(());
     }
     let v = permissions::vtl_of(vtl);
     listed_refusal(state, tables, v, visibility == 1, list)
 }
 
-// Whether the operation of a phase can fail.
-fn can_fail(phase: Phase) -> bool
-    ensures { result ≡ takes phase true }
+// Whether an answer, done or failed, is one to the operation of a phase.
+fn takes(phase: Phase, failed: bool) -> bool
+    ensures { result ≡ takes phase failed }
 {
     match phase {
-        Phase::Idle => false,
-        Phase::Halted => false,
-        Phase::Wait => false,
-        Phase::FlushAll => false,
-        Phase::ProtectNone0 => true,
-        Phase::ProtectNone1 => true,
-        Phase::Invalidate => true,
-        Phase::Release => true,
-        Phase::Modify => true,
-        Phase::Accept => true,
-        Phase::Zero => true,
-        Phase::ProtectDefault0 => true,
-        Phase::ProtectDefault1 => true,
+        Phase::Idle | Phase::Halted => false,
+        Phase::Wait | Phase::FlushAll => !failed,
+        _ => true,
     }
 }
 
-fn can_fail_at(stage: Stage) -> bool
-    ensures { result ≡ takes_at stage true }
+fn takes_at(stage: Stage, failed: bool) -> bool
+    ensures { result ≡ takes_at stage failed }
 {
     match stage {
-        Stage::Idle => false,
-        Stage::Halted => false,
-        Stage::ProtectPages => true,
-        Stage::ProtectRam => true,
-        Stage::ProtectNew => true,
-        Stage::ProtectOld => true,
-        Stage::Wait => false,
-        Stage::Flush => false,
-        Stage::TlbWait => false,
+        Stage::Idle | Stage::Halted => false,
+        Stage::Wait | Stage::Flush | Stage::TlbWait => !failed,
+        _ => true,
     }
 }
 
 // Whether an answer is one to the operation outstanding: done wherever one is, a failure where it can fail.
-fn takes(state: &[u64], failed: bool) -> bool
+fn takes_in(state: &[u64], failed: bool) -> bool
     requires { length state.now ≡ state_len }
     ensures { result ≡ takes_in state.now failed }
 {
-    if !failed {
-        return status(state) == refusal::BUSY;
-    }
     if protector_state::change::is_changing(state) {
-        return can_fail_at(protector_state::change::stage(state));
+        return takes_at(protector_state::change::stage(state), failed);
     }
-    can_fail(protector_state::phase(state))
+    takes(protector_state::phase(state), failed)
 }
 
-// The number that refuses an answer: 0 where none does.
-pub fn answer_refusal(state: &[u64], lengths: Lengths, failed: bool) -> u64
-    ensures { result ≡ answer_refusal state.now (fits_in state.now lengths) failed }
+// What refuses an answer.
+#[tactic(auto, using(abi::proofs::Numbers::number_not_zero), unfolding(crate::specs::Refusals::answer_refusal))]
+pub fn answer_refusal(state: &[u64], lengths: Lengths, failed: bool) -> Result<(), Refusal>
+    ensures { refused_by result ≡ answer_refusal state.now (fits_in state.now lengths) failed }
 {
     if state.len() != STATE_WORDS {
-        return refusal::WRONG_LENGTH;
+        return Err(Refusal::WrongLength);
     }
-    if status(state) == refusal::HALTED {
-        return refusal::HALTED;
+    if status(state) == Err(Refusal::Halted) {
+        return Err(Refusal::Halted);
     }
     if !fits_in(state, lengths) {
-        return refusal::WRONG_LENGTH;
+        return Err(Refusal::WrongLength);
     }
-    if takes(state, failed) {
-        0
-    } else {
-        refusal::NOTHING_ASKED
+    if !takes_in(state, failed) {
+        return Err(Refusal::NothingAsked);
     }
+    Ok(())
 }
 
 // The lengths that a build tests: where `tracked` is unfit, no permission map has one to be tested.
@@ -297,18 +267,15 @@ fn tested(tracked: u64, lengths: Lengths) -> Lengths
     if tracked < 2 {
         return lengths;
     }
-    let maps = lengths.maps;
     Lengths {
         maps: MapLengths {
-            private: maps.private,
-            shared: maps.shared,
             read: 0,
             write: 0,
             kernel: 0,
             user: 0,
+            ..lengths.maps
         },
-        pages: lengths.pages,
-        tables: lengths.tables,
+        ..lengths
     }
 }
 
@@ -316,13 +283,12 @@ fn tested(tracked: u64, lengths: Lengths) -> Lengths
 fn build_fits(ram: &[u64], tracked: u64, state: u64, lengths: Lengths) -> bool
     ensures { result ≡ build_fits (map_len (entries_of ram.now)) tracked state lengths }
 {
-    if state != STATE_WORDS as u64 {
-        return false;
-    }
-    lengths_fit(layout::map_len(ram), tracked == 1, tested(tracked, lengths))
+    state == STATE_WORDS as u64
+        && lengths_fit(layout::map_len(ram), tracked == 1, tested(tracked, lengths))
 }
 
-// The number that refuses a build: 0 where none does.
+// What refuses a build.
+#[tactic(auto, using(abi::proofs::Numbers::number_not_zero), unfolding(crate::specs::Refusals::build_refusal))]
 pub fn build_refusal(
     ram: &[u64],
     isolation: u64,
@@ -330,24 +296,21 @@ pub fn build_refusal(
     release: u64,
     state: u64,
     lengths: Lengths,
-) -> u64
-    ensures { result ≡ build_refusal ram.now isolation tracked release (build_fits (map_len (entries_of ram.now)) tracked state lengths) }
+) -> Result<(), Refusal>
+    ensures { refused_by result ≡ build_refusal ram.now isolation tracked release (build_fits (map_len (entries_of ram.now)) tracked state lengths) }
 {
-    let n = layout::refusal(ram);
-    if n != 0 {
-        return n;
-    }
+    layout::refusal(ram)?;
     if !permissions::is_isolation(isolation) {
-        return refusal::UNFIT_ISOLATION;
+        return Err(Refusal::UnfitIsolation);
     }
     if !build_fits(ram, tracked, state, lengths) {
-        return refusal::WRONG_LENGTH;
+        return Err(Refusal::WrongLength);
     }
     if 1 < tracked {
-        return refusal::UNFIT_NUMBER;
+        return Err(Refusal::UnfitNumber);
     }
     if 1 < release {
-        return refusal::UNFIT_NUMBER;
+        return Err(Refusal::UnfitNumber);
     }
-    0
+    Ok(())
 }

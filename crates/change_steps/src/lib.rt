@@ -13,7 +13,7 @@ use permissions::{GuestVtl, HvMapGpaFlags};
 use visibility_steps::{Answer, Operation};
 
 // Nothing under way, or the operation outstanding.
-#[derive(Clone, Copy)]
+#[derive(Clone, Copy, Debug, PartialEq, Eq)]
 pub enum Stage {
     Idle,
     Halted,
@@ -42,7 +42,7 @@ pub struct Change {
 }
 
 // What becomes of the overlay entry of the change's page.
-#[derive(Clone, Copy)]
+#[derive(Clone, Copy, Debug, PartialEq, Eq)]
 pub enum Entry {
     Keep,
     Add,
@@ -69,11 +69,11 @@ fn change_of(vtl: GuestVtl, flags: u64, n: u64) -> Change
     ensures { result ≡ change_of vtl flags n }
 {
     Change {
-        vtl: vtl,
+        vtl,
         flush: GuestVtl::Vtl0,
-        n: n,
+        n,
         at: 0,
-        flags: flags,
+        flags,
         previous: 0,
         source: 0,
         count: 0,
@@ -90,14 +90,7 @@ fn no_change() -> Change
 fn is_tracked(tracked: bool, change: Change) -> bool
     ensures { result ≡ (is_vtl0 change.vtl && (tracked && change.source == 0)) }
 {
-    let vtl = change.vtl;
-    if !permissions::is_vtl0(vtl) {
-        return false;
-    }
-    if !tracked {
-        return false;
-    }
-    change.source == 0
+    permissions::is_vtl0(change.vtl) && tracked && change.source == 0
 }
 
 fn written_by(tracked: bool, change: Change, run: PageRun) -> PageRun
@@ -114,24 +107,25 @@ fn written_by(tracked: bool, change: Change, run: PageRun) -> PageRun
 fn counted(change: Change, at: u64) -> Change
     ensures { result ≡ counted change at }
 {
-    let mut next = change;
-    next.at = at;
-    next.count = std::num::wrapping_add_u64(change.count, 1);
-    next
+    Change {
+        at,
+        count: change.count.wrapping_add(1),
+        ..change
+    }
 }
 
 // A Protect is asked for.
+#[tactic(auto, unfolding(crate::specs::Changes::protect))]
 fn protect(tracked: bool, stage: Stage, change: Change, at: u64, run: PageRun) -> ChangeStep
     ensures { result ≡ protect tracked stage change at run }
 {
-    let vtl = change.vtl;
     ChangeStep {
-        stage: stage,
+        stage,
         change: counted(change, at),
         answer: Answer::Ask(Operation::Protect {
-            vtl: vtl,
+            vtl: change.vtl,
             flags: HvMapGpaFlags::from_bits(change.flags),
-            run: run,
+            run,
         }),
         written: written_by(tracked, change, run),
         entry: Entry::Keep,
@@ -139,18 +133,20 @@ fn protect(tracked: bool, stage: Stage, change: Change, at: u64, run: PageRun) -
 }
 
 // An operation on no page is asked for.
+#[tactic(auto, unfolding(crate::specs::Changes::ask))]
 fn ask(stage: Stage, change: Change, operation: Operation, entry: Entry) -> ChangeStep
     ensures { result ≡ ask stage change operation entry }
 {
     ChangeStep {
-        stage: stage,
+        stage,
         change: counted(change, change.at),
         answer: Answer::Ask(operation),
         written: no_run(),
-        entry: entry,
+        entry,
     }
 }
 
+#[tactic(auto, unfolding(crate::specs::Changes::wait))]
 fn wait(change: Change, entry: Entry) -> ChangeStep
     ensures { result ≡ wait change entry }
 {
@@ -158,24 +154,26 @@ fn wait(change: Change, entry: Entry) -> ChangeStep
 }
 
 // The call ends.
+#[tactic(auto, unfolding(crate::specs::Changes::finish))]
 fn finish(answer: Answer) -> ChangeStep
     ensures { result ≡ finish answer }
 {
     ChangeStep {
         stage: Stage::Idle,
         change: no_change(),
-        answer: answer,
+        answer,
         written: no_run(),
         entry: Entry::Keep,
     }
 }
 
+#[tactic(auto, unfolding(crate::specs::Changes::halt))]
 fn halt(change: Change) -> ChangeStep
     ensures { result ≡ halt change }
 {
     ChangeStep {
         stage: Stage::Halted,
-        change: change,
+        change,
         answer: Answer::Halted(change.count),
         written: no_run(),
         entry: Entry::Keep,
@@ -183,12 +181,13 @@ fn halt(change: Change) -> ChangeStep
 }
 
 // An answer that isn't taken: the operation is still outstanding.
+#[tactic(auto, unfolding(crate::specs::Changes::keep))]
 fn keep(stage: Stage, change: Change) -> ChangeStep
     ensures { result ≡ keep stage change }
 {
     ChangeStep {
-        stage: stage,
-        change: change,
+        stage,
+        change,
         answer: Answer::Refused(refusal::NOTHING_ASKED),
         written: no_run(),
         entry: Entry::Keep,
@@ -196,6 +195,7 @@ fn keep(stage: Stage, change: Change) -> ChangeStep
 }
 
 // The pages of a table, from the run at a place on.
+#[tactic(auto, unfolding(crate::specs::Changes::protect_pages))]
 fn protect_pages(tracked: bool, change: Change, pages: &[u64], at: u64) -> ChangeStep
     ensures { result ≡ protect_pages tracked change pages.now at }
 {
@@ -212,6 +212,7 @@ fn protect_pages(tracked: bool, change: Change, pages: &[u64], at: u64) -> Chang
 }
 
 // A piece of RAM: none where all are done.
+#[tactic(auto, unfolding(crate::specs::Changes::protect_ram))]
 fn protect_ram(tracked: bool, change: Change, piece: PageRun) -> ChangeStep
     requires { piece.first + piece.count < 2 ^ 64 }
     ensures { result ≡ protect_ram tracked change piece }
@@ -229,15 +230,13 @@ fn protect_ram(tracked: bool, change: Change, piece: PageRun) -> ChangeStep
 }
 
 // The operation outstanding is done; `next` is the next piece of a default change.
+#[tactic(auto, unfolding(crate::specs::Changes::done_of))]
 pub fn done(tracked: bool, stage: Stage, change: Change, pages: &[u64], next: PageRun) -> ChangeStep
     requires { next.first + next.count < 2 ^ 64 }
     ensures { result ≡ done_of tracked stage change pages.now next }
 {
-    let vtl = change.vtl;
-    let flush = change.flush;
     match stage {
-        Stage::Idle => keep(stage, change),
-        Stage::Halted => keep(stage, change),
+        Stage::Idle | Stage::Halted => keep(stage, change),
         Stage::ProtectPages => protect_pages(
             tracked,
             change,
@@ -247,8 +246,18 @@ pub fn done(tracked: bool, stage: Stage, change: Change, pages: &[u64], next: Pa
         Stage::ProtectRam => protect_ram(tracked, change, next),
         Stage::ProtectNew => wait(change, Entry::Add),
         Stage::ProtectOld => wait(change, Entry::Remove),
-        Stage::Wait => ask(Stage::Flush, change, Operation::Flush(flush), Entry::Keep),
-        Stage::Flush => ask(Stage::TlbWait, change, Operation::TlbWait(vtl), Entry::Keep),
+        Stage::Wait => ask(
+            Stage::Flush,
+            change,
+            Operation::Flush(change.flush),
+            Entry::Keep,
+        ),
+        Stage::Flush => ask(
+            Stage::TlbWait,
+            change,
+            Operation::TlbWait(change.vtl),
+            Entry::Keep,
+        ),
         Stage::TlbWait => finish(Answer::Done(change.count)),
     }
 }
@@ -257,17 +266,7 @@ pub fn done(tracked: bool, stage: Stage, change: Change, pages: &[u64], next: Pa
 pub fn is_flushing(stage: Stage) -> bool
     ensures { result ≡ is_flushing stage }
 {
-    match stage {
-        Stage::Idle => false,
-        Stage::Halted => false,
-        Stage::ProtectPages => false,
-        Stage::ProtectRam => false,
-        Stage::ProtectNew => false,
-        Stage::ProtectOld => false,
-        Stage::Wait => true,
-        Stage::Flush => true,
-        Stage::TlbWait => true,
-    }
+    matches!(stage, Stage::Wait | Stage::Flush | Stage::TlbWait)
 }
 
 // The one of them that follows: Idle behind the last.
@@ -275,15 +274,9 @@ pub fn flush_stage(stage: Stage) -> Stage
     ensures { result ≡ flush_stage stage }
 {
     match stage {
-        Stage::Idle => Stage::Idle,
-        Stage::Halted => Stage::Idle,
-        Stage::ProtectPages => Stage::Idle,
-        Stage::ProtectRam => Stage::Idle,
-        Stage::ProtectNew => Stage::Idle,
-        Stage::ProtectOld => Stage::Idle,
         Stage::Wait => Stage::Flush,
         Stage::Flush => Stage::TlbWait,
-        Stage::TlbWait => Stage::Idle,
+        _ => Stage::Idle,
     }
 }
 
@@ -292,15 +285,8 @@ pub fn flush_change(stage: Stage, change: Change) -> Change
     ensures { result ≡ flush_change stage change }
 {
     match stage {
-        Stage::Idle => no_change(),
-        Stage::Halted => no_change(),
-        Stage::ProtectPages => no_change(),
-        Stage::ProtectRam => no_change(),
-        Stage::ProtectNew => no_change(),
-        Stage::ProtectOld => no_change(),
-        Stage::Wait => no_change(),
-        Stage::Flush => counted(change, change.at),
-        Stage::TlbWait => counted(change, change.at),
+        Stage::Flush | Stage::TlbWait => counted(change, change.at),
+        _ => no_change(),
     }
 }
 
@@ -316,19 +302,14 @@ fn denied(change: Change) -> ChangeStep
 }
 
 // The operation outstanding failed.
+#[tactic(auto, unfolding(crate::specs::Changes::failed_of))]
 pub fn failed(stage: Stage, change: Change) -> ChangeStep
     ensures { result ≡ failed_of stage change }
 {
     match stage {
-        Stage::Idle => keep(stage, change),
-        Stage::Halted => keep(stage, change),
-        Stage::ProtectPages => halt(change),
-        Stage::ProtectRam => halt(change),
-        Stage::ProtectNew => denied(change),
-        Stage::ProtectOld => denied(change),
-        Stage::Wait => keep(stage, change),
-        Stage::Flush => keep(stage, change),
-        Stage::TlbWait => keep(stage, change),
+        Stage::ProtectPages | Stage::ProtectRam => halt(change),
+        Stage::ProtectNew | Stage::ProtectOld => denied(change),
+        _ => keep(stage, change),
     }
 }
 
@@ -336,13 +317,13 @@ fn overlay_of(vtl: GuestVtl, gpn: u64, flags: u64, previous: u64, source: u64) -
     ensures { result ≡ overlay_of vtl gpn flags previous source }
 {
     Change {
-        vtl: vtl,
+        vtl,
         flush: vtl,
         n: 0,
         at: gpn,
-        flags: flags,
-        previous: previous,
-        source: source,
+        flags,
+        previous,
+        source,
         count: 0,
     }
 }
@@ -369,6 +350,7 @@ pub fn start_ram(tracked: bool, vtl: GuestVtl, flags: u64, first: PageRun) -> Ch
 }
 
 // A new overlay page; `new` is 16 where no new flags are given.
+#[tactic(auto, unfolding(crate::specs::Changes::start_new))]
 pub fn start_new(
     tracked: bool,
     vtl: GuestVtl,
@@ -395,6 +377,7 @@ pub fn start_new(
 }
 
 // An overlay page is unregistered.
+#[tactic(auto, unfolding(crate::specs::Changes::start_old))]
 pub fn start_old(tracked: bool, vtl: GuestVtl, gpn: u64, previous: u64, source: u64) -> ChangeStep
     ensures { result ≡ start_old tracked vtl gpn previous source }
 {

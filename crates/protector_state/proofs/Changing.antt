@@ -1,23 +1,13 @@
 -- Laws of the words of a change, one for each way that the code goes. Assumes nothing.
 use native.Mathlib.Omega.{arith}
-use mathlib.Core.Bool.{Bool, false, ◌&&◌}
-use mathlib.Core.Path.{◌≡◌, refl, sym, ap, ◌∙◌}
+use mathlib.Core.Path.{◌≡◌, refl, ◌∙◌}
 use mathlib.Core.List.{List, [], ◌∷◌}
-use Prim.Native.Nat.{ℕ, ◌≤◌, ◌<◌}
-use lib.Dec.{leb, ltb}
+use Prim.Native.Nat.{ℕ, ◌≤◌}
 use lib.ListN.{length, drop, set}
-use borrow.Author.Tests.{le-leb, lt-leb}
 use Rattle.permissions.specs.Flags.{vtl_number}
 use Rattle.change_steps.specs.declared.Stage.{Stage}
 use Rattle.change_steps.specs.declared.Change.{Change}
 use Rattle.protector_state.specs.Changing.{stage_number, with_change}
-
-module _ (x : ℕ) where
-  pub before_first : x < 13 → false ≡ (leb 13 x && ltb x 20)
-  before_first h = sym (ap (λ (b : Bool). b && ltb x 20) (lt-leb 13 x h))
-
-  pub from_first : 13 ≤ x → ltb x 20 ≡ (leb 13 x && ltb x 20)
-  from_first h = sym (ap (λ (b : Bool). b && ltb x 20) (le-leb 13 x h))
 
 module _ (a0 a1 a2 a3 a4 a5 a6 a7 a8 a9 a10 a11 a12 a13 : ℕ) where
   saved : (s : List ℕ) → 14 ≤ length s → set (set (set (set (set (set (set (set (set (set (set (set (set (set s 0 a0) 1 a1) 2 a2) 3 a3) 4 a4) 5 a5) 6 a6) 7 a7) 8 a8) 9 a9) 10 a10) 11 a11) 12 a12) 13 a13 ≡ a0 ∷ a1 ∷ a2 ∷ a3 ∷ a4 ∷ a5 ∷ a6 ∷ a7 ∷ a8 ∷ a9 ∷ a10 ∷ a11 ∷ a12 ∷ a13 ∷ drop 14 s

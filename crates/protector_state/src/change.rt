@@ -22,31 +22,20 @@ fn stage_number(stage: Stage) -> u64
     }
 }
 
+#[tactic(auto, unfolding(crate::specs::Changing::stage_of))]
 fn stage_of(n: u64) -> Stage
     ensures { result ≡ stage_of n }
 {
-    if n == stage::PROTECT_PAGES {
-        return Stage::ProtectPages;
+    match n {
+        stage::PROTECT_PAGES => Stage::ProtectPages,
+        stage::PROTECT_RAM => Stage::ProtectRam,
+        stage::PROTECT_NEW => Stage::ProtectNew,
+        stage::PROTECT_OLD => Stage::ProtectOld,
+        stage::WAIT => Stage::Wait,
+        stage::FLUSH => Stage::Flush,
+        stage::TLB_WAIT => Stage::TlbWait,
+        _ => Stage::Halted,
     }
-    if n == stage::PROTECT_RAM {
-        return Stage::ProtectRam;
-    }
-    if n == stage::PROTECT_NEW {
-        return Stage::ProtectNew;
-    }
-    if n == stage::PROTECT_OLD {
-        return Stage::ProtectOld;
-    }
-    if n == stage::WAIT {
-        return Stage::Wait;
-    }
-    if n == stage::FLUSH {
-        return Stage::Flush;
-    }
-    if n == stage::TLB_WAIT {
-        return Stage::TlbWait;
-    }
-    Stage::Halted
 }
 
 pub fn stage(state: &[u64]) -> Stage
@@ -61,10 +50,7 @@ pub fn is_changing(state: &[u64]) -> bool
     requires { length state.now ≡ state_len }
     ensures { result ≡ is_changing state.now }
 {
-    if state[place::PHASE] < stage::PROTECT_PAGES {
-        return false;
-    }
-    state[place::PHASE] < stage::END
+    stage::PROTECT_PAGES <= state[place::PHASE] && state[place::PHASE] < stage::END
 }
 
 pub fn load(state: &[u64]) -> Change
@@ -87,14 +73,9 @@ pub fn save(state: &mut [u64], stage: Stage, change: Change)
     requires { length state.old ≡ state_len }
     ensures { state.new ≡ with_change stage change state.old }
 {
-    let vtl = change.vtl;
-    let flush = change.flush;
-    let g = stage_number(stage);
-    let v = permissions::vtl_number(vtl);
-    let f = permissions::vtl_number(flush);
-    state[place::PHASE] = g;
+    state[place::PHASE] = stage_number(stage);
     state[place::SHARE] = 0;
-    state[place::VTL] = v;
+    state[place::VTL] = permissions::vtl_number(change.vtl);
     state[place::USED] = change.n;
     state[place::AT] = change.at;
     state[place::STOPPED] = 0;
@@ -102,7 +83,7 @@ pub fn save(state: &mut [u64], stage: Stage, change: Change)
     state[place::INDEX] = 0;
     state[place::CODE] = 0;
     state[place::COUNT] = change.count;
-    state[place::FLUSH] = f;
+    state[place::FLUSH] = permissions::vtl_number(change.flush);
     state[place::FLAGS] = change.flags;
     state[place::PREVIOUS] = change.previous;
     state[place::SOURCE] = change.source;

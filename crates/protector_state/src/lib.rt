@@ -8,7 +8,7 @@ ghost use Rattle.visibility_steps.specs.Steps.{is_snp, or_none, operation_on};
 ghost use Rattle.visibility_steps.specs.Next.{answer_by};
 ghost use Rattle.permissions.specs.HvError.{code_of};
 ghost use Rattle.permissions.specs.Rmpadjust.{operand_of};
-ghost use Rattle.protector_state.specs.State.{state_len, phase_number, first_phases, phase_of, phase_in, request_of, with_request, option_of, option_word, defaults_of, default_word, settings_of, ram_of, built_state};
+ghost use Rattle.protector_state.specs.State.{state_len, phase_number, phase_of, phase_in, request_of, with_request, option_of, option_word, defaults_of, default_word, settings_of, ram_of, built_state};
 ghost use Rattle.protector_state.specs.Reply.{finished, plain, on_vtl, on_run, protects, modifies, asked_of, ended_of, flat_of, value};
 
 pub mod change;
@@ -49,10 +49,10 @@ pub fn finished(number: u64, code: u64, index: u64, count: u64) -> Reply
     ensures { result ≡ finished number code index count }
 {
     Reply {
-        number: number,
-        code: code,
-        index: index,
-        count: count,
+        number,
+        code,
+        index,
+        count,
         operation: 0,
         vtl: 0,
         flags: 0,
@@ -75,7 +75,7 @@ pub fn refused_value(number: u64) -> Value
     ensures { result ≡ value number (code_of number) }
 {
     Value {
-        number: number,
+        number,
         value: permissions::hv_error(number),
     }
 }
@@ -95,17 +95,8 @@ pub fn plain(operation: u64) -> Reply
     ensures { result ≡ plain operation }
 {
     Reply {
-        number: 0,
-        code: 0,
-        index: 0,
-        count: 0,
-        operation: operation,
-        vtl: 0,
-        flags: 0,
-        operand: 0,
-        first: 0,
-        pages: 0,
-        shared: 0,
+        operation,
+        ..finished(0, 0, 0, 0)
     }
 }
 
@@ -114,17 +105,8 @@ pub fn on_vtl(operation: u64, vtl: GuestVtl) -> Reply
     ensures { result ≡ on_vtl operation vtl }
 {
     Reply {
-        number: 0,
-        code: 0,
-        index: 0,
-        count: 0,
-        operation: operation,
         vtl: permissions::vtl_number(vtl),
-        flags: 0,
-        operand: 0,
-        first: 0,
-        pages: 0,
-        shared: 0,
+        ..plain(operation)
     }
 }
 
@@ -132,17 +114,9 @@ fn on_run(operation: u64, run: PageRun) -> Reply
     ensures { result ≡ on_run operation run }
 {
     Reply {
-        number: 0,
-        code: 0,
-        index: 0,
-        count: 0,
-        operation: operation,
-        vtl: 0,
-        flags: 0,
-        operand: 0,
         first: run.first,
         pages: run.count,
-        shared: 0,
+        ..plain(operation)
     }
 }
 
@@ -152,8 +126,7 @@ fn operand(isolation: IsolationType, vtl: GuestVtl, flags: HvMapGpaFlags) -> u64
 {
     match isolation {
         IsolationType::Snp => permissions::rmpadjust(vtl, flags),
-        IsolationType::Tdx => 0,
-        IsolationType::Cca => 0,
+        _ => 0,
     }
 }
 
@@ -161,17 +134,10 @@ fn protect(isolation: IsolationType, vtl: GuestVtl, flags: HvMapGpaFlags, run: P
     ensures { result ≡ protects isolation vtl flags run }
 {
     Reply {
-        number: 0,
-        code: 0,
-        index: 0,
-        count: 0,
-        operation: operation::PROTECT,
         vtl: permissions::vtl_number(vtl),
         flags: flags.into_bits(),
         operand: operand(isolation, vtl, flags),
-        first: run.first,
-        pages: run.count,
-        shared: 0,
+        ..on_run(operation::PROTECT, run)
     }
 }
 
@@ -179,20 +145,13 @@ fn modify(share: bool, n: u64) -> Reply
     ensures { result ≡ modifies share n }
 {
     Reply {
-        number: 0,
-        code: 0,
-        index: 0,
-        count: 0,
-        operation: operation::MODIFY,
-        vtl: 0,
-        flags: 0,
-        operand: 0,
-        first: 0,
         pages: n,
         shared: permissions::bool_to_u64(share),
+        ..plain(operation::MODIFY)
     }
 }
 
+#[tactic(auto, unfolding(crate::specs::Reply::asked_of))]
 fn asked(isolation: IsolationType, operation: Operation) -> Reply
     ensures { result ≡ asked_of isolation operation }
 {
@@ -222,6 +181,7 @@ fn stopped(index: u64, count: u64) -> Reply
 }
 
 // What crosses for an answer; the isolation tells whether a Protect has an operand.
+#[tactic(auto, unfolding(crate::specs::Reply::flat_of))]
 pub fn to_reply(isolation: IsolationType, answer: Answer) -> Reply
     ensures { result ≡ flat_of isolation answer }
 {
@@ -277,52 +237,25 @@ fn phase_number(phase: Phase) -> u64
     }
 }
 
-fn first_phases(n: u64) -> Phase
-    ensures { result ≡ first_phases n }
-{
-    if n == phase::IDLE {
-        return Phase::Idle;
-    }
-    if n == phase::WAIT {
-        return Phase::Wait;
-    }
-    if n == phase::FLUSH_ALL {
-        return Phase::FlushAll;
-    }
-    if n == phase::PROTECT_NONE0 {
-        return Phase::ProtectNone0;
-    }
-    if n == phase::PROTECT_NONE1 {
-        return Phase::ProtectNone1;
-    }
-    if n == phase::INVALIDATE {
-        return Phase::Invalidate;
-    }
-    Phase::Halted
-}
-
+#[tactic(auto, unfolding(crate::specs::State::first_phases, crate::specs::State::phase_of))]
 fn phase_of(n: u64) -> Phase
     ensures { result ≡ phase_of n }
 {
-    if n == phase::RELEASE {
-        return Phase::Release;
+    match n {
+        phase::IDLE => Phase::Idle,
+        phase::WAIT => Phase::Wait,
+        phase::FLUSH_ALL => Phase::FlushAll,
+        phase::PROTECT_NONE0 => Phase::ProtectNone0,
+        phase::PROTECT_NONE1 => Phase::ProtectNone1,
+        phase::INVALIDATE => Phase::Invalidate,
+        phase::RELEASE => Phase::Release,
+        phase::MODIFY => Phase::Modify,
+        phase::ACCEPT => Phase::Accept,
+        phase::ZERO => Phase::Zero,
+        phase::PROTECT_DEFAULT0 => Phase::ProtectDefault0,
+        phase::PROTECT_DEFAULT1 => Phase::ProtectDefault1,
+        _ => Phase::Halted,
     }
-    if n == phase::MODIFY {
-        return Phase::Modify;
-    }
-    if n == phase::ACCEPT {
-        return Phase::Accept;
-    }
-    if n == phase::ZERO {
-        return Phase::Zero;
-    }
-    if n == phase::PROTECT_DEFAULT0 {
-        return Phase::ProtectDefault0;
-    }
-    if n == phase::PROTECT_DEFAULT1 {
-        return Phase::ProtectDefault1;
-    }
-    first_phases(n)
 }
 
 // The phase by its number in the state block: Halted where it is the number of none.
@@ -356,19 +289,13 @@ pub fn save(state: &mut [u64], phase: Phase, request: Request)
     requires { length state.old ≡ state_len }
     ensures { state.new ≡ with_request phase request state.old }
 {
-    let vtl = request.vtl;
-    let p = phase_number(phase);
-    let v = permissions::vtl_number(vtl);
-    let share = permissions::bool_to_u64(request.share);
-    let stopped = permissions::bool_to_u64(request.stopped);
-    let failed = permissions::bool_to_u64(request.failed);
-    state[place::PHASE] = p;
-    state[place::SHARE] = share;
-    state[place::VTL] = v;
+    state[place::PHASE] = phase_number(phase);
+    state[place::SHARE] = permissions::bool_to_u64(request.share);
+    state[place::VTL] = permissions::vtl_number(request.vtl);
     state[place::USED] = request.n;
     state[place::AT] = request.at;
-    state[place::STOPPED] = stopped;
-    state[place::FAILED] = failed;
+    state[place::STOPPED] = permissions::bool_to_u64(request.stopped);
+    state[place::FAILED] = permissions::bool_to_u64(request.failed);
     state[place::INDEX] = request.index;
     state[place::CODE] = request.code;
     state[place::COUNT] = request.count;
@@ -377,11 +304,7 @@ pub fn save(state: &mut [u64], phase: Phase, request: Request)
 fn option_of(n: u64) -> Option<HvMapGpaFlags>
     ensures { result ≡ option_of n }
 {
-    if permissions::is_flags(n) {
-        Some(HvMapGpaFlags::from_bits(n))
-    } else {
-        None
-    }
+    permissions::is_flags(n).then(|| HvMapGpaFlags::from_bits(n))
 }
 
 fn option_word(flags: Option<HvMapGpaFlags>) -> u64
@@ -408,11 +331,9 @@ pub fn defaults(state: &[u64]) -> DefaultVtlPermissions
 pub fn default_word(defaults: DefaultVtlPermissions, vtl: GuestVtl) -> u64
     ensures { result ≡ default_word defaults vtl }
 {
-    let vtl0 = defaults.vtl0;
-    let vtl1 = defaults.vtl1;
     match vtl {
-        GuestVtl::Vtl0 => vtl0.into_bits(),
-        GuestVtl::Vtl1 => option_word(vtl1),
+        GuestVtl::Vtl0 => defaults.vtl0.into_bits(),
+        GuestVtl::Vtl1 => option_word(defaults.vtl1),
     }
 }
 
@@ -462,6 +383,7 @@ fn default_vtl1(state: &[u64]) -> HvMapGpaFlags
 }
 
 // What crosses for the operation of a phase. Only what it needs is read from the state.
+#[tactic(auto, unfolding(crate::specs::Reply::asked_of))]
 fn asked_at(state: &[u64], phase: Phase, request: Request, run: PageRun) -> Reply
     requires { length state.now ≡ state_len }
     ensures { result ≡ asked_of (settings_of state.now).isolation (operation_on (settings_of state.now) phase request run) }
@@ -469,9 +391,7 @@ fn asked_at(state: &[u64], phase: Phase, request: Request, run: PageRun) -> Repl
     let vtl0 = GuestVtl::Vtl0;
     let vtl1 = GuestVtl::Vtl1;
     match phase {
-        Phase::Idle => plain(operation::WAIT),
-        Phase::Halted => plain(operation::WAIT),
-        Phase::Wait => plain(operation::WAIT),
+        Phase::Idle | Phase::Halted | Phase::Wait => plain(operation::WAIT),
         Phase::FlushAll => plain(operation::FLUSH_ALL),
         Phase::ProtectNone0 => protect(isolation(state), vtl0, HvMapGpaFlags::none(), run),
         Phase::ProtectNone1 => protect(isolation(state), vtl1, HvMapGpaFlags::none(), run),
@@ -486,6 +406,7 @@ fn asked_at(state: &[u64], phase: Phase, request: Request, run: PageRun) -> Repl
 }
 
 // What crosses for what an answer leads to.
+#[tactic(auto, unfolding(crate::specs::Reply::flat_of))]
 pub fn next_reply(state: &[u64], turn: Turn, phase: Phase, request: Request, run: PageRun) -> Reply
     requires { length state.now ≡ state_len }
     ensures { result ≡ flat_of (settings_of state.now).isolation (answer_by turn (settings_of state.now) phase request run) }
@@ -514,18 +435,15 @@ pub fn build_state(state: &mut [u64], ram: &[u64], isolation: u64, tracked: u64,
 {
     let n = layout::entry_count(ram);
     let first = DefaultVtlPermissions::new();
-    let default0 = default_word(first, GuestVtl::Vtl0);
-    let default1 = default_word(first, GuestVtl::Vtl1);
     words::clear(state);
     state[place::ISOLATION] = isolation;
     state[place::TRACKED] = tracked;
     state[place::RELEASE] = release;
-    state[place::DEFAULT0] = default0;
-    state[place::DEFAULT1] = default1;
+    state[place::DEFAULT0] = default_word(first, GuestVtl::Vtl0);
+    state[place::DEFAULT1] = default_word(first, GuestVtl::Vtl1);
     state[place::ENTRIES] = n;
-    let mut i: usize = 0;
-    while i < ram.len() {
+    // Kept, not `copy_from_slice`: of the words behind the layout its proof wants three more laws, the loop none.
+    for i in 0..ram.len() {
         state[place::RAM + i] = ram[i];
-        i += 1;
     }
 }

@@ -22,7 +22,7 @@ pub struct Settings {
 }
 
 // Nothing under way, or the operation outstanding.
-#[derive(Clone, Copy)]
+#[derive(Clone, Copy, Debug, PartialEq, Eq)]
 pub enum Phase {
     Idle,
     Halted,
@@ -120,7 +120,7 @@ pub struct Marks {
 }
 
 // An operation is asked for, the call ends, or the answer isn't taken.
-#[derive(Clone, Copy)]
+#[derive(Clone, Copy, Debug, PartialEq, Eq)]
 pub enum Turn {
     Ask,
     End,
@@ -139,34 +139,19 @@ pub struct Next {
 fn is_snp(settings: Settings) -> bool
     ensures { result ≡ is_snp settings.isolation }
 {
-    let isolation = settings.isolation;
-    match isolation {
-        IsolationType::Snp => true,
-        IsolationType::Tdx => false,
-        IsolationType::Cca => false,
-    }
+    settings.isolation == IsolationType::Snp
 }
 
 fn is_cca(settings: Settings) -> bool
     ensures { result ≡ is_cca settings.isolation }
 {
-    let isolation = settings.isolation;
-    match isolation {
-        IsolationType::Snp => false,
-        IsolationType::Tdx => false,
-        IsolationType::Cca => true,
-    }
+    settings.isolation == IsolationType::Cca
 }
 
 fn is_releasing(settings: Settings) -> bool
     ensures { result ≡ releases settings.isolation settings.release }
 {
-    let isolation = settings.isolation;
-    match isolation {
-        IsolationType::Snp => false,
-        IsolationType::Tdx => settings.release,
-        IsolationType::Cca => false,
-    }
+    settings.isolation == IsolationType::Tdx && settings.release
 }
 
 fn no_writes() -> Writes
@@ -184,33 +169,25 @@ fn no_writes() -> Writes
 pub fn or_none(flags: Option<HvMapGpaFlags>) -> HvMapGpaFlags
     ensures { result ≡ or_none flags }
 {
-    match flags {
-        Some(flags) => flags,
-        None => HvMapGpaFlags::none(),
-    }
+    flags.unwrap_or(HvMapGpaFlags::none())
 }
 
 // The operation of a phase, on a run.
 fn operation_on(settings: Settings, phase: Phase, request: Request, run: PageRun) -> Operation
     ensures { result ≡ operation_on settings phase request run }
 {
-    let defaults = settings.defaults;
-    let vtl0 = defaults.vtl0;
-    let vtl1 = defaults.vtl1;
     match phase {
-        Phase::Idle => Operation::Wait,
-        Phase::Halted => Operation::Wait,
-        Phase::Wait => Operation::Wait,
+        Phase::Idle | Phase::Halted | Phase::Wait => Operation::Wait,
         Phase::FlushAll => Operation::FlushAll,
         Phase::ProtectNone0 => Operation::Protect {
             vtl: GuestVtl::Vtl0,
             flags: HvMapGpaFlags::none(),
-            run: run,
+            run,
         },
         Phase::ProtectNone1 => Operation::Protect {
             vtl: GuestVtl::Vtl1,
             flags: HvMapGpaFlags::none(),
-            run: run,
+            run,
         },
         Phase::Invalidate => Operation::Invalidate(run),
         Phase::Release => Operation::Release(run),
@@ -222,13 +199,13 @@ fn operation_on(settings: Settings, phase: Phase, request: Request, run: PageRun
         Phase::Zero => Operation::Zero(run),
         Phase::ProtectDefault0 => Operation::Protect {
             vtl: GuestVtl::Vtl0,
-            flags: vtl0,
-            run: run,
+            flags: settings.defaults.vtl0,
+            run,
         },
         Phase::ProtectDefault1 => Operation::Protect {
             vtl: GuestVtl::Vtl1,
-            flags: or_none(vtl1),
-            run: run,
+            flags: or_none(settings.defaults.vtl1),
+            run,
         },
     }
 }
@@ -237,10 +214,11 @@ fn operation_on(settings: Settings, phase: Phase, request: Request, run: PageRun
 fn counted(request: Request, at: u64) -> Request
     ensures { result ≡ counted request at }
 {
-    let mut next = request;
-    next.at = at;
-    next.count = std::num::wrapping_add_u64(request.count, 1);
-    next
+    Request {
+        at,
+        count: request.count.wrapping_add(1),
+        ..request
+    }
 }
 
 fn no_request() -> Request
@@ -280,12 +258,13 @@ fn finished(request: Request) -> Answer
 }
 
 // The marks remain as they are.
+#[tactic(auto, unfolding(crate::specs::Steps::halt))]
 fn halt(request: Request) -> Step
     ensures { result ≡ halt request }
 {
     Step {
         phase: Phase::Halted,
-        request: request,
+        request,
         answer: Answer::Halted(request.count),
         writes: Writes {
             state: true,
@@ -298,12 +277,13 @@ fn halt(request: Request) -> Step
 }
 
 // An answer that isn't taken: the operation still waits.
+#[tactic(auto, unfolding(crate::specs::Steps::keep))]
 fn keep(phase: Phase, request: Request) -> Step
     ensures { result ≡ keep phase request }
 {
     Step {
-        phase: phase,
-        request: request,
+        phase,
+        request,
         answer: Answer::Refused(refusal::NOTHING_ASKED),
         writes: no_writes(),
     }
@@ -323,7 +303,7 @@ fn with_private(old: Marks, private: u64) -> Marks
     ensures { result ≡ marks private old.from old.to }
 {
     Marks {
-        private: private,
+        private,
         from: old.from,
         to: old.to,
     }
@@ -334,9 +314,9 @@ fn asks(phase: Phase, at: u64, marks: Marks) -> Next
 {
     Next {
         turn: Turn::Ask,
-        phase: phase,
-        at: at,
-        marks: marks,
+        phase,
+        at,
+        marks,
     }
 }
 
@@ -347,7 +327,7 @@ fn ends(marks: Marks) -> Next
         turn: Turn::End,
         phase: Phase::Idle,
         at: 0,
-        marks: marks,
+        marks,
     }
 }
 
@@ -356,7 +336,7 @@ fn keeps(phase: Phase) -> Next
 {
     Next {
         turn: Turn::Keep,
-        phase: phase,
+        phase,
         at: 0,
         marks: no_marks(),
     }
@@ -365,6 +345,7 @@ fn keeps(phase: Phase) -> Next
 // Up to `done` the table is what the contracts speak of; only the end of a run is read from it.
 
 // Sharing, from the run at a place on.
+#[tactic(auto, unfolding(crate::specs::Steps::share_run, crate::specs::Next::next_step, crate::specs::Steps::ask, crate::specs::Steps::operation_of))]
 fn share_run(settings: Settings, request: Request, pages: &[u64], at: u64) -> Next
     ensures { next_step settings request pages.now result ≡ share_run settings request pages.now at }
 {
@@ -381,6 +362,7 @@ fn share_run(settings: Settings, request: Request, pages: &[u64], at: u64) -> Ne
 }
 
 // The default permissions, from the run at a place on; then the end.
+#[tactic(auto, unfolding(crate::specs::Steps::default_run, crate::specs::Next::next_step, crate::specs::Steps::ask, crate::specs::Steps::operation_of, crate::specs::Steps::end))]
 fn default_run(settings: Settings, request: Request, pages: &[u64], at: u64, marks: Marks) -> Next
     ensures { next_step settings request pages.now result ≡ default_run settings request pages.now at (marked_by marks) }
 {
@@ -391,6 +373,7 @@ fn default_run(settings: Settings, request: Request, pages: &[u64], at: u64, mar
 }
 
 // Acceptance, from the run at a place on; then the private marks.
+#[tactic(auto, unfolding(crate::specs::Steps::return_run, crate::specs::Next::next_step, crate::specs::Steps::ask, crate::specs::Steps::operation_of))]
 fn return_run(settings: Settings, request: Request, pages: &[u64], at: u64, marks: Marks) -> Next
     ensures { next_step settings request pages.now result ≡ return_run settings request pages.now at (marked_by marks) }
 {
@@ -403,6 +386,7 @@ fn return_run(settings: Settings, request: Request, pages: &[u64], at: u64, mark
     asks(Phase::Accept, at, marks)
 }
 
+#[tactic(auto, unfolding(crate::specs::Steps::after_flush, crate::specs::Next::next_step, crate::specs::Steps::ask, crate::specs::Steps::operation_of))]
 fn after_flush(settings: Settings, request: Request, pages: &[u64]) -> Next
     ensures { next_step settings request pages.now result ≡ after_flush settings request pages.now }
 {
@@ -412,6 +396,7 @@ fn after_flush(settings: Settings, request: Request, pages: &[u64]) -> Next
     asks(Phase::Modify, 0, no_marks())
 }
 
+#[tactic(auto, unfolding(crate::specs::Steps::after_wait, crate::specs::Next::next_step, crate::specs::Steps::ask, crate::specs::Steps::operation_of))]
 fn after_wait(settings: Settings, request: Request, pages: &[u64]) -> Next
     ensures { next_step settings request pages.now result ≡ after_wait settings request pages.now }
 {
@@ -421,6 +406,7 @@ fn after_wait(settings: Settings, request: Request, pages: &[u64]) -> Next
     after_flush(settings, request, pages)
 }
 
+#[tactic(auto, unfolding(crate::specs::Steps::after_modify, crate::specs::Next::next_step, crate::specs::Steps::end))]
 fn after_modify(settings: Settings, request: Request, pages: &[u64]) -> Next
     ensures { next_step settings request pages.now result ≡ after_modify settings request pages.now }
 {
@@ -434,6 +420,7 @@ fn after_modify(settings: Settings, request: Request, pages: &[u64]) -> Next
     return_run(settings, request, pages, 0, no_marks())
 }
 
+#[tactic(auto, unfolding(crate::specs::Steps::after_accept, crate::specs::Next::next_step, crate::specs::Steps::ask, crate::specs::Steps::operation_of))]
 fn after_accept(settings: Settings, request: Request, pages: &[u64]) -> Next
     ensures { next_step settings request pages.now result ≡ after_accept settings request pages.now }
 {
@@ -444,12 +431,11 @@ fn after_accept(settings: Settings, request: Request, pages: &[u64]) -> Next
     return_run(settings, request, pages, next, no_marks())
 }
 
+#[tactic(auto, unfolding(crate::specs::Next::next_step, crate::specs::Steps::ask, crate::specs::Steps::operation_of))]
 fn after_default0(settings: Settings, request: Request, pages: &[u64]) -> Next
     ensures { next_step settings request pages.now result ≡ after_default0 settings.defaults.vtl1 settings request pages.now }
 {
-    let defaults = settings.defaults;
-    let vtl1 = defaults.vtl1;
-    match vtl1 {
+    match settings.defaults.vtl1 {
         Some(_) => asks(Phase::ProtectDefault1, request.at, no_marks()),
         None => {
             let next = request_pages::run_end(pages, request.n, request.at);
@@ -459,46 +445,30 @@ fn after_default0(settings: Settings, request: Request, pages: &[u64]) -> Next
 }
 
 // The operation outstanding is done.
+#[tactic(auto, unfolding(crate::specs::Steps::done_of, crate::specs::Next::next_step, crate::specs::Steps::ask, crate::specs::Steps::operation_of, crate::specs::Steps::keep))]
 pub fn done(settings: Settings, phase: Phase, request: Request, pages: &[u64]) -> Next
     ensures { next_step settings request pages.now result ≡ done_of settings phase request pages.now }
 {
     match phase {
-        Phase::Idle => keeps(phase),
-        Phase::Halted => keeps(phase),
+        Phase::Idle | Phase::Halted => keeps(phase),
         Phase::Wait => after_wait(settings, request, pages),
         Phase::FlushAll => after_flush(settings, request, pages),
         Phase::ProtectNone0 => asks(Phase::ProtectNone1, request.at, no_marks()),
         Phase::ProtectNone1 => asks(Phase::Invalidate, request.at, no_marks()),
-        Phase::Invalidate => share_run(
-            settings,
-            request,
-            pages,
-            request_pages::run_end(pages, request.n, request.at),
-        ),
-        Phase::Release => share_run(
-            settings,
-            request,
-            pages,
-            request_pages::run_end(pages, request.n, request.at),
-        ),
+        Phase::Invalidate | Phase::Release => {
+            let next = request_pages::run_end(pages, request.n, request.at);
+            share_run(settings, request, pages, next)
+        }
         Phase::Modify => after_modify(settings, request, pages),
         Phase::Accept => after_accept(settings, request, pages),
-        Phase::Zero => return_run(
-            settings,
-            request,
-            pages,
-            request_pages::run_end(pages, request.n, request.at),
-            no_marks(),
-        ),
+        Phase::Zero => {
+            let next = request_pages::run_end(pages, request.n, request.at);
+            return_run(settings, request, pages, next, no_marks())
+        }
         Phase::ProtectDefault0 => after_default0(settings, request, pages),
         Phase::ProtectDefault1 => {
-            default_run(
-                settings,
-                request,
-                pages,
-                request_pages::run_end(pages, request.n, request.at),
-                no_marks(),
-            )
+            let next = request_pages::run_end(pages, request.n, request.at);
+            default_run(settings, request, pages, next, no_marks())
         }
     }
 }
@@ -507,42 +477,17 @@ pub fn done(settings: Settings, phase: Phase, request: Request, pages: &[u64]) -
 fn has_run(phase: Phase) -> bool
     ensures { result ≡ has_run phase }
 {
-    match phase {
-        Phase::Idle => false,
-        Phase::Halted => false,
-        Phase::Wait => false,
-        Phase::FlushAll => false,
-        Phase::ProtectNone0 => true,
-        Phase::ProtectNone1 => true,
-        Phase::Invalidate => true,
-        Phase::Release => true,
-        Phase::Modify => false,
-        Phase::Accept => true,
-        Phase::Zero => true,
-        Phase::ProtectDefault0 => true,
-        Phase::ProtectDefault1 => true,
-    }
+    !matches!(
+        phase,
+        Phase::Idle | Phase::Halted | Phase::Wait | Phase::FlushAll | Phase::Modify
+    )
 }
 
 // Whether the operation of a phase gives VTL0 its default.
 pub fn is_default0(phase: Phase) -> bool
     ensures { result ≡ is_default0 phase }
 {
-    match phase {
-        Phase::Idle => false,
-        Phase::Halted => false,
-        Phase::Wait => false,
-        Phase::FlushAll => false,
-        Phase::ProtectNone0 => false,
-        Phase::ProtectNone1 => false,
-        Phase::Invalidate => false,
-        Phase::Release => false,
-        Phase::Modify => false,
-        Phase::Accept => false,
-        Phase::Zero => false,
-        Phase::ProtectDefault0 => true,
-        Phase::ProtectDefault1 => false,
-    }
+    phase == Phase::ProtectDefault0
 }
 
 // The run that a phase asks for at a place, of the first `count` pages.
@@ -608,31 +553,28 @@ fn permitted_at(settings: Settings, phase: Phase, pages: &[u64], count: u64, at:
 fn flags_at(settings: Settings, phase: Phase) -> HvMapGpaFlags
     ensures { result ≡ flags_at settings phase }
 {
-    let defaults = settings.defaults;
-    let vtl0 = defaults.vtl0;
     if is_default0(phase) {
-        return vtl0;
+        return settings.defaults.vtl0;
     }
     HvMapGpaFlags::none()
 }
 
 // The step in full.
+#[tactic(auto, unfolding(crate::specs::Next::next_step))]
 fn step_of(settings: Settings, request: Request, pages: &[u64], next: Next) -> Step
     ensures { result ≡ next_step settings request pages.now next }
 {
-    let turn = next.turn;
-    let phase = next.phase;
-    let marks = next.marks;
+    let Next {
+        turn,
+        phase,
+        at,
+        marks,
+    } = next;
+    let run = run_in(phase, pages, request.n, at);
     Step {
-        phase: phase,
-        request: next_request(turn, request, next.at),
-        answer: next_answer(
-            turn,
-            settings,
-            phase,
-            request,
-            run_in(phase, pages, request.n, next.at),
-        ),
+        phase,
+        request: next_request(turn, request, at),
+        answer: next_answer(turn, settings, phase, request, run),
         writes: Writes {
             state: true,
             private: Places {
@@ -643,13 +585,14 @@ fn step_of(settings: Settings, request: Request, pages: &[u64], next: Next) -> S
                 from: marks.from,
                 to: marks.to,
             },
-            permissions: permitted_at(settings, phase, pages, request.n, next.at),
+            permissions: permitted_at(settings, phase, pages, request.n, at),
             flags: flags_at(settings, phase),
         },
     }
 }
 
 // Modify failed: of a return with fewer pages processed than asked for, the others are shared again.
+#[tactic(auto, unfolding(crate::specs::Steps::failed_modify))]
 fn failed_modify(
     settings: Settings,
     request: Request,
@@ -665,25 +608,24 @@ fn failed_modify(
     if request.n <= processed {
         return halt(request);
     }
-    let mut cut = request;
-    cut.n = processed;
-    cut.failed = true;
-    cut.code = code;
-    cut.index = request_pages::place_at(pages, processed);
+    let cut = Request {
+        n: processed,
+        failed: true,
+        code,
+        index: request_pages::place_at(pages, processed),
+        ..request
+    };
     let restored = Marks {
         private: 0,
         from: processed,
         to: request.n,
     };
-    step_of(
-        settings,
-        cut,
-        pages,
-        return_run(settings, cut, pages, 0, restored),
-    )
+    let next = return_run(settings, cut, pages, 0, restored);
+    step_of(settings, cut, pages, next)
 }
 
 // The operation outstanding failed.
+#[tactic(auto, unfolding(crate::specs::Steps::failed_of))]
 pub fn failed(
     settings: Settings,
     phase: Phase,
@@ -695,19 +637,9 @@ pub fn failed(
     ensures { result ≡ failed_of settings phase request pages.now code processed }
 {
     match phase {
-        Phase::Idle => keep(phase, request),
-        Phase::Halted => keep(phase, request),
-        Phase::Wait => keep(phase, request),
-        Phase::FlushAll => keep(phase, request),
-        Phase::ProtectNone0 => halt(request),
-        Phase::ProtectNone1 => halt(request),
-        Phase::Invalidate => halt(request),
-        Phase::Release => halt(request),
+        Phase::Idle | Phase::Halted | Phase::Wait | Phase::FlushAll => keep(phase, request),
         Phase::Modify => failed_modify(settings, request, pages, code, processed),
-        Phase::Accept => halt(request),
-        Phase::Zero => halt(request),
-        Phase::ProtectDefault0 => halt(request),
-        Phase::ProtectDefault1 => halt(request),
+        _ => halt(request),
     }
 }
 
@@ -715,14 +647,15 @@ pub fn failed(
 fn cleared_permissions(tracked: bool, vtl: GuestVtl, count: u64) -> u64
     ensures { result ≡ (if is_vtl0 vtl && tracked then count else 0) }
 {
-    if permissions::is_vtl0(vtl) {
-        if tracked { count } else { 0 }
+    if permissions::is_vtl0(vtl) && tracked {
+        count
     } else {
         0
     }
 }
 
 // What a taken call clears at once.
+#[tactic(auto, unfolding(crate::specs::Steps::cleared))]
 pub fn clears(tracked: bool, vtl: GuestVtl, share: bool, count: u64) -> Writes
     ensures { result ≡ cleared tracked vtl share count }
 {
@@ -753,11 +686,11 @@ pub fn asked(vtl: GuestVtl, share: bool, n: u64, stop: u64, stopped: bool) -> Re
     ensures { result ≡ asked vtl share n stop stopped }
 {
     Request {
-        share: share,
-        vtl: vtl,
-        n: n,
+        share,
+        vtl,
+        n,
         at: 0,
-        stopped: stopped,
+        stopped,
         failed: false,
         index: stop,
         code: 0,

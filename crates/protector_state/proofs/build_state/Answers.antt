@@ -29,8 +29,8 @@ pub loop-i-init : goal.loop-i-init
 loop-i-init c =
     let a = c.args in
     let first = c.new-first.ensures in
-    let default0 = c.default_word-default0.ensures ∙ ap (λ (d : DefaultVtlPermissions). default_word d Vtl0) first in
-    let default1 = c.default_word-default1.ensures ∙ ap (λ (d : DefaultVtlPermissions). default_word d Vtl1) first in
+    let default0 = c.default_word.ensures ∙ ap (λ (d : DefaultVtlPermissions). default_word d Vtl0) first in
+    let default1 = c.default_word-2.ensures ∙ ap (λ (d : DefaultVtlPermissions). default_word d Vtl1) first in
     let t = laws.filled_none a.state.now _ a.ram.now a.isolation a.tracked a.release _ _ c.entry_count-n.result c.requires.0 c.clear.ensures default0 default1 c.entry_count-n.ensures in
     (omega arith, simp length-set (c.clear.auto.t ∙ c.requires.0), c.requires.1, t)
 
