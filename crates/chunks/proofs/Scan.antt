@@ -5,18 +5,9 @@ use native.Mathlib.Decide.{dec_lt}
 use mathlib.Core.Path.{◌≡◌, refl, sym, ap, ◌∙◌}
 use mathlib.Core.Bool.{Bool, true, false, cond}
 use Prim.Native.Nat.{ℕ, zero, suc, ◌+◌, ◌-◌, ◌≤◌, ◌<◌, max}
-use Rattle.chunks.specs.Chunks.{first_not_of, first_not, Ahead}
+use Rattle.chunks.specs.Chunks.{first_not_of, first_not}
 
 module _ (P : ℕ → Bool) where
-  pub ahead_one : (c e : ℕ) → c < e → P c ≡ true → Ahead P c e 1
-  ahead_one c e h t = record { within = omega arith; holds = λ q a b. ap P (same_number q a b) ∙ t; stops = λ z. absurd (omega arith) }
-    where
-      same_number : (q : ℕ) → c ≤ q → q < c + 1 → q ≡ c
-      same_number q a b = omega arith
-
-  pub ahead_none : (c e : ℕ) → c < e → P c ≡ false → Ahead P c e 0
-  ahead_none c e h t = record { within = omega arith; holds = λ q a b. absurd (omega arith); stops = λ z. t }
-
   pub first_step : (c e : ℕ) → c < e → P c ≡ true → first_not P c e ≡ first_not P (c + 1) e
   unfolding first_not_of
   first_step c e h t =

@@ -23,15 +23,14 @@ pub fn div(n: u64, divisor: u64) -> u64
         return 0;
     }
     let k = u64::trailing_zeros(divisor);
-    if k < SHIFT_END {
-        if divisor == 1u64 << k {
-            return n >> k;
-        }
+    if k < SHIFT_END && divisor == 1u64 << k {
+        return n >> k;
     }
     n / divisor
 }
 
 // A quotient rounded up.
+// Kept: u64::div_ceil asks for a divisor above 0, and divides where `div` shifts.
 fn div_ceil(n: u64, divisor: u64) -> u64
     ensures { result ≡ up n divisor }
 {
@@ -77,47 +76,35 @@ pub fn end_chunk(granularity: u64, address: u64, len: u64) -> u64
 }
 
 // Whether a number is a power of two; 0 is none.
+#[tactic(auto, using(crate::proofs::Laws::one_bit))]
 pub fn is_power_of_two(n: u64) -> bool
     ensures { result ≡ is_power n }
 {
-    let mut k: u64 = 0;
-    while k < WORD_BITS {
-        if n == 1u64 << k {
-            return true;
-        }
-        k += 1;
-    }
-    false
+    n.is_power_of_two()
 }
 
-// The address where a chunk ends, or `end` if that comes first; 0 where the granularity is 0.
-fn chunk_end(chunk: u64, granularity: u64, end: u64) -> u64
-    ensures { result ≡ min ((chunk + 1) * granularity) end }
+// The address where a chunk ends, or the last 64-bit number if that comes first.
+fn chunk_end(chunk: u64, granularity: u64) -> u64
+    ensures { result ≡ min ((chunk + 1) * granularity) (2 ^ 64 - 1) }
 {
-    if granularity == 0 {
-        return 0;
-    }
-    if div(end, granularity) <= chunk {
-        return end;
-    }
-    (chunk + 1) * granularity
+    chunk.saturating_add(1).saturating_mul(granularity)
 }
 
 // The first RAM from an address to before `stop`: empty where there is none. No RAM lies past the last 64-bit number.
+// Kept: an empty range or entry, and no None: the clauses of next_ram, chunk_ram, aligned_subrange, unaligned_edge and entry_with
+// give one.
 fn ram_before(ram: &[u64], from: u64, stop: u64) -> MemoryRange
     ensures { (y : ℕ) → stop ≡ min y (2 ^ 64 - 1) → result ≡ first_of (pieces from y (spans (entries_of ram.now))) }
 {
     let n = layout::entry_count(ram);
     let mut i: u64 = 0;
+    // Kept: each turn passes a whole span.
     while i < n {
         let span = layout::span_at(ram, i);
         let start = numbers::max(from, span.start);
         let end = numbers::min(stop, span.end);
         if start < end {
-            return MemoryRange {
-                start: start,
-                end: end,
-            };
+            return MemoryRange { start, end };
         }
         i = span.next;
     }
@@ -131,25 +118,14 @@ pub fn next_ram(ram: &[u64], granularity: u64, chunk: u64, from: u64) -> MemoryR
     if chunk < div(from, granularity) {
         return MemoryRange { start: 0, end: 0 };
     }
-    ram_before(ram, from, chunk_end(chunk, granularity, FULL_WORD))
-}
-
-// The address `len` bytes after `start`, or the last 64-bit number if that comes first.
-fn end_from(start: u64, len: u64) -> u64
-    ensures { result ≡ min (start + len) (2 ^ 64 - 1) }
-{
-    if FULL_WORD - start < len {
-        FULL_WORD
-    } else {
-        start + len
-    }
+    ram_before(ram, from, chunk_end(chunk, granularity))
 }
 
 // The first RAM of the chunk that starts at `start`: empty where there is none.
 pub fn chunk_ram(ram: &[u64], granularity: u64, start: u64) -> MemoryRange
     ensures { result ≡ first_of (pieces start (start + granularity) (spans (entries_of ram.now))) }
 {
-    ram_before(ram, start, end_from(start, granularity))
+    ram_before(ram, start, start.saturating_add(granularity))
 }
 
 // The word whose chunks are all set, or all clear.
@@ -163,24 +139,14 @@ fn full(set: bool) -> u64
 fn is_alike(registered: &[u64], failed: &[u64], set: bool, chunk: u64) -> bool
     ensures { result ≡ alike registered.now failed.now set chunk }
 {
-    if bitmap::get(failed, chunk) {
-        return false;
-    }
-    if set {
-        return bitmap::get(registered, chunk);
-    }
-    !bitmap::get(registered, chunk)
+    !bitmap::get(failed, chunk) && bitmap::get(registered, chunk) == set
 }
 
 // Whether a whole word of chunks is alike.
 fn is_alike_word(registered: &[u64], failed: &[u64], set: bool, word: u64) -> bool
     ensures { result ≡ (eqb (get_or failed.now word 0) 0 && eqb (get_or registered.now word 0) (digit set * (2 ^ 64 - 1))) }
 {
-    if numbers::word_at(failed, word) == 0 {
-        numbers::word_at(registered, word) == full(set)
-    } else {
-        false
-    }
+    numbers::word_at(failed, word) == 0 && numbers::word_at(registered, word) == full(set)
 }
 
 // How many chunks from this one on are alike, of those before `to`: a whole word, one, or none.
@@ -188,18 +154,13 @@ fn alike_here(registered: &[u64], failed: &[u64], set: bool, chunk: u64, to: u64
     requires { chunk < to }
     ensures { Ahead (alike registered.now failed.now set) chunk to result }
 {
-    if chunk % WORD_BITS == 0 {
-        if WORD_BITS <= to - chunk {
-            if is_alike_word(registered, failed, set, chunk / WORD_BITS) {
-                return WORD_BITS;
-            }
-        }
+    if chunk % WORD_BITS == 0
+        && WORD_BITS <= to - chunk
+        && is_alike_word(registered, failed, set, chunk / WORD_BITS)
+    {
+        return WORD_BITS;
     }
-    if is_alike(registered, failed, set, chunk) {
-        1
-    } else {
-        0
-    }
+    u64::from(is_alike(registered, failed, set, chunk))
 }
 
 // Of chunks past the end of both bitmaps, none of them set: the first from this one to before `to` that is not alike.
@@ -216,6 +177,7 @@ pub fn run_end(registered: &[u64], failed: &[u64], set: bool, from: u64, to: u64
     let len = numbers::max(registered.len() as u64, failed.len() as u64);
     let stop = stop_at(len, to);
     let mut c = from;
+    // Kept: each turn passes as many chunks as it finds.
     while c < stop {
         let n = alike_here(registered, failed, set, c, stop);
         if n == 0 {
@@ -231,21 +193,22 @@ fn set_here(map: &[u64], chunk: u64, to: u64) -> u64
     requires { chunk < to }
     ensures { Ahead (bit_at word_bits map.now) chunk to result }
 {
-    if chunk % WORD_BITS == 0 {
-        if WORD_BITS <= to - chunk {
-            if numbers::word_at(map, chunk / WORD_BITS) == FULL_WORD {
-                return WORD_BITS;
-            }
-        }
+    if chunk % WORD_BITS == 0
+        && WORD_BITS <= to - chunk
+        && numbers::word_at(map, chunk / WORD_BITS) == FULL_WORD
+    {
+        return WORD_BITS;
     }
-    if bitmap::get(map, chunk) { 1 } else { 0 }
+    u64::from(bitmap::get(map, chunk))
 }
 
 // The first chunk from `from` to before `to` that is not set.
+// Kept: run_end of this map and no failed chunk is the same, but looks for failed chunks at each word.
 pub fn first_clear(map: &[u64], from: u64, to: u64) -> u64
     ensures { result ≡ first_not (bit_at word_bits map.now) from to }
 {
     let mut c = from;
+    // Kept: each turn passes as many chunks as it finds.
     while c < to {
         let n = set_here(map, c, to);
         if n == 0 {
@@ -299,25 +262,18 @@ pub fn unaligned_edge(alignment: u64, span: MemoryRange) -> MemoryRange
 fn overlaps(entry: MemoryRangeWithNode, range: MemoryRange) -> bool
     ensures { result ≡ (ltb entry.start range.end && ltb range.start entry.end) }
 {
-    if entry.start < range.end {
-        range.start < entry.end
-    } else {
-        false
-    }
+    entry.start < range.end && range.start < entry.end
 }
 
 // The first entry that has a byte of a range: zeros where none has.
 pub fn entry_with(ram: &[u64], range: MemoryRange) -> MemoryRangeWithNode
     ensures { result ≡ entry_with range (entries_of ram.now) }
 {
-    let n = layout::entry_count(ram);
-    let mut i: u64 = 0;
-    while i < n {
+    for i in 0..layout::entry_count(ram) {
         let e = layout::entry_at(ram, i);
         if overlaps(e, range) {
             return e;
         }
-        i += 1;
     }
     MemoryRangeWithNode {
         start: 0,
@@ -332,7 +288,7 @@ fn fill_word(map: &mut [u64], word: u64)
 {
     let k = word as usize;
     if k < map.len() {
-        map[k] = full(true);
+        map[k] = FULL_WORD;
     }
 }
 
@@ -341,11 +297,9 @@ fn set_some(map: &mut [u64], chunk: u64, to: u64) -> u64
     requires { chunk < to }
     ensures { (chunk < result) × (result ≤ to) × (map.new ≡ written word_bits (between chunk result) true map.old) }
 {
-    if chunk % WORD_BITS == 0 {
-        if WORD_BITS <= to - chunk {
-            fill_word(map, chunk / WORD_BITS);
-            return chunk + WORD_BITS;
-        }
+    if chunk % WORD_BITS == 0 && WORD_BITS <= to - chunk {
+        fill_word(map, chunk / WORD_BITS);
+        return chunk + WORD_BITS;
     }
     bitmap::set(map, chunk, true);
     chunk + 1
@@ -355,11 +309,7 @@ fn set_some(map: &mut [u64], chunk: u64, to: u64) -> u64
 fn stop_at(len: u64, to: u64) -> u64
     ensures { result ≡ min to (len * word_bits) }
 {
-    if to / WORD_BITS < len {
-        to
-    } else {
-        len * WORD_BITS
-    }
+    numbers::min(to, len.saturating_mul(WORD_BITS))
 }
 
 // Sets the chunks from `from` to before `to`; nothing past the end.
@@ -368,6 +318,7 @@ pub fn set_chunks(map: &mut [u64], from: u64, to: u64)
 {
     let stop = stop_at(map.len() as u64, to);
     let mut c = from;
+    // Kept: each turn sets a word of chunks or one.
     while c < stop {
         c = set_some(map, c, stop);
     }

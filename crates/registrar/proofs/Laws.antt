@@ -1,6 +1,7 @@
 -- Laws of the entries, one for each way that the code goes. Assumes nothing.
-use Rattle.std.proofs.Common.{◌≡◌, ℕ, suc, ◌+◌, ◌-◌, ◌*◌, ◌%◌, ◌^◌, ◌<◌, ◌≤◌, min, Bool, true, false, cond, not, eqb, ltb, List, ◌∷◌, ◌++◌, length, get_or, take, drop, set, replicate, sym, refl, ap, ◌∙◌, ap₂, arith, length-drop, get_or-drop, le-ltb, lt-ltb, eq-eqb, ne_eqb, eqb-true, le-leb}
-use lib.Seq.{take-length}
+use borrow.Rule.Slice.PartMut.{put_mid}
+use Rattle.std.proofs.lemmas.List.{drop-replicate}
+use Rattle.std.proofs.Common.{◌≡◌, ℕ, ◌+◌, ◌-◌, ◌*◌, ◌%◌, ◌^◌, ◌<◌, ◌≤◌, min, Bool, true, false, cond, not, eqb, ltb, List, ◌∷◌, ◌++◌, length, get_or, drop, set, replicate, sym, refl, ap, ◌∙◌, ap₂, arith, get_or-drop, eq-eqb, eqb-true, le-leb}
 use borrow.Author.Tests.{lt-leb}
 use Rattle.abi.specs.Kinds as kind
 use Rattle.abi.specs.Refusals as refusal
@@ -8,12 +9,11 @@ use Rattle.abi.specs.RegistrarPlaces as place
 use Rattle.abi.specs.Lengths.{ram_len, registrar_len, word_bits}
 use Rattle.laws.specs.Bools.{false≢true}
 use Rattle.laws.specs.Ranges.{between, between_false}
-use Rattle.laws.specs.Refusal.{unless, passed, refused, answered}
-use Rattle.words.proofs.Laws.{filled_next}
+use Rattle.laws.specs.Refusal.{unless, passed, answered}
 use Rattle.bitmap.specs.Pages.{bit_at}
 use Rattle.bitmap.proofs.Map.{none}
 use Rattle.layout.specs.declared.MemoryRange.{MemoryRange}
-use Rattle.layout.specs.Layout.{range, entries_of, spans}
+use Rattle.layout.specs.Layout.{range, entries_of}
 use Rattle.layout.proofs.Laws.{fit, entries_count}
 use Rattle.chunks.specs.Chunks.{chunk_count, first_chunk, end_chunk, empty, first_not}
 use Rattle.registrar_steps.specs.declared.Request.{Request}
@@ -22,19 +22,15 @@ use Rattle.registrar_steps.specs.declared.Plan.{Plan}
 use Rattle.registrar_steps.specs.declared.Why.{Why}
 use Rattle.registrar_steps.specs.declared.Why.TheVariants as why
 use Rattle.registrar_steps.specs.declared.Stop.{Stop}
-use Rattle.registrar_steps.specs.Steps.{idle, asked_of, asks, ends, ram_from, passes, piece_of, register_from, has_ram, stop_at, plan_at, stop_plan, all_from}
+use Rattle.registrar_steps.specs.Steps.{idle, asked_of, asks, ends, ram_from, passes, piece_of, register_from, has_ram, stop_at, plan_at, stop_plan}
 use Rattle.registrar_steps.proofs.Laws.{register_stopped, ram_plan}
 use Rattle.registrar_state.specs.declared.Reply.{Reply}
-use Rattle.registrar_state.specs.Buffers.{Buffers, buffers, Outcome, outcome, request_of, with_request, offset_of, granularity_of, entries_in, chunk_state_in, built_state, simple, flat_of, decided, build_refusal, call_refusal, chunks_fit, register_refusal, all_refusal, marked, carried_out, register_plan, is_known, answer_refusal, rest_of, has_rest, taken_to, done_plan, after_taken}
+use Rattle.registrar_state.specs.Buffers.{Buffers, buffers, Outcome, outcome, request_of, with_request, offset_of, granularity_of, entries_in, chunk_state_in, built_state, simple, flat_of, decided, build_refusal, call_refusal, chunks_fit, register_refusal, all_refusal, marked, carried_out, register_plan, is_known, rest_of, has_rest, taken_to, done_plan, after_taken}
 use Rattle.registrar_state.proofs.Laws.{build_fits_lem, known_kept}
 
 -- ---- a call refused, and one carried out
 
 module _ (w : Buffers) (n x : ℕ) (e : n ≡ x) where
-  pub call_refused : (taken : Outcome) (r : Reply) → (n ≡ 0 → ⊥) → r ≡ flat_of (Refused n) → outcome w.state w.registered w.failed r ≡ decided w x taken
-  call_refused taken r h q =
-      ap (outcome w.state w.registered w.failed) q ∙ refused n x e taken (λ k. record { buffers = w; reply = flat_of (Refused k) }) h
-
   pub call_answered : (taken : Outcome) (o : Outcome) → n ≡ 0 → o ≡ taken → o ≡ decided w x taken
   call_answered taken o h q = answered n x e taken o (λ k. record { buffers = w; reply = flat_of (Refused k) }) h q
 
@@ -75,10 +71,6 @@ module _ (w : Buffers) (n : ℕ) (z : n ≡ 0) where
   unfolding all_refusal
   all_long al ignore e = eqb-true _ _ (passed (eqb (length w.state) registrar_len) 3 _ (sym e ∙ z)).0
 
-  pub answer_long : n ≡ answer_refusal w → length w.state ≡ registrar_len
-  unfolding answer_refusal
-  answer_long e = eqb-true _ _ (passed (eqb (length w.state) registrar_len) 3 _ (sym e ∙ z)).0
-
 -- ---- a build
 
 -- a layout that is taken has 96 words at most, and the state block its length
@@ -88,25 +80,11 @@ build_lengths w ram o g n z e =
     let k = fit ram t.layout in
     (t.block, omega (arith, k.divided, k.few, entries_count ram))
 
--- the block while it is filled
-abbrev pub filled_to : List ℕ → ℕ → ℕ → ℕ → List ℕ
-filled_to ram o g i =
-    0 ∷ 0 ∷ 0 ∷ 0 ∷ 0 ∷ 0 ∷ 0 ∷ 0 ∷ 0 ∷ o ∷ g ∷ length (entries_of ram) ∷ (take i ram ++ replicate (ram_len - i) 0)
-
-pub filled_none : (s ram : List ℕ) (o g n : ℕ) → length s ≡ registrar_len → n ≡ length (entries_of ram) → set (set (set (replicate (length s) 0) place.offset o) place.granularity g) place.entries n ≡ filled_to ram o g 0
-filled_none s ram o g n h e =
-    ap₂ (λ (k m : ℕ). set (set (set (replicate k 0) place.offset o) place.granularity g) place.entries m) h e
-
-pub filled_more : (ram : List ℕ) (o g i : ℕ) → i < length ram → i < ram_len → set (filled_to ram o g i) (place.ram + i) (get_or ram i 0) ≡ filled_to ram o g (i + 1)
-filled_more ram o g i h k =
-    let d : place.ram + i ≡ suc (suc (suc (suc (suc (suc (suc (suc (suc (suc (suc (suc i))))))))))) = omega arith in
-    ap (λ (m : ℕ). set (filled_to ram o g i) m (get_or ram i 0)) d
-    ∙ ap (λ (l : List ℕ). 0 ∷ 0 ∷ 0 ∷ 0 ∷ 0 ∷ 0 ∷ 0 ∷ 0 ∷ 0 ∷ o ∷ g ∷ length (entries_of ram) ∷ l) (filled_next ram_len ram i h k)
-
-pub filled_all : (ram : List ℕ) (o g i : ℕ) → length ram ≤ i → i ≤ length ram → filled_to ram o g i ≡ built_state ram o g
-filled_all ram o g i h k =
-    let d : i ≡ length ram = omega arith in
-    ap (filled_to ram o g) d ∙ ap (λ (l : List ℕ). 0 ∷ 0 ∷ 0 ∷ 0 ∷ 0 ∷ 0 ∷ 0 ∷ 0 ∷ 0 ∷ o ∷ g ∷ length (entries_of ram) ∷ (l ++ replicate (ram_len - length ram) 0)) (take-length ram)
+pub built : (s ram : List ℕ) (o g n : ℕ) → length s ≡ registrar_len → n ≡ length (entries_of ram)
+    → put_mid place.ram (place.ram + length ram - place.ram) (set (set (set (replicate (length s) 0) place.offset o) place.granularity g) place.entries n) ram ≡ built_state ram o g
+built s ram o g n h e =
+    let k : place.ram + length ram - place.ram ≡ length ram = omega arith in
+    rw (h, e, k) (ap (λ (l : List ℕ). 0 ∷ 0 ∷ 0 ∷ 0 ∷ 0 ∷ 0 ∷ 0 ∷ 0 ∷ 0 ∷ o ∷ g ∷ length (entries_of ram) ∷ (ram ++ l)) (drop-replicate (length ram) ram_len 0))
 
 -- ---- a plan carried out
 
@@ -155,17 +133,6 @@ module _ (w : Buffers) (n count from until : ℕ) (hn : n ≡ chunk_count (granu
         go why.Ram e k = false≢true (sym k)
         go why.Failed e k = ended (ends from a.chunk (RegistrationFailed a.start count)) (sym (ap (plan_at (offset_of w.state) count from until a) e)) refl refl refl
 
-module _ (s : List ℕ) (n count until c : ℕ) (r : Reply) where
-  pub answer_asked : (x y : ℕ) → get_or s place.kind 0 ≡ kind.register → x ≡ (offset_of s + get_or s place.start 0) % 2 ^ 64 → y ≡ (offset_of s + get_or s place.end 0) % 2 ^ 64 → r ≡ simple 0 1 0 x y 0 → r ≡ answer_of s n count until c
-  answer_asked x y h hx hy q = q ∙ ap₂ (λ (x y : ℕ). simple 0 1 0 x y 0) hx hy ∙ sym (rw (eq-eqb (get_or s place.kind 0) kind.register h))
-
-  module _ (h : get_or s place.kind 0 ≡ kind.register → ⊥) (e : ℕ) (he : e ≡ min until n) where
-    pub answer_failed_lem : c < e → r ≡ simple refusal.registration_failed 0 count 0 0 (c * granularity_of s) → r ≡ answer_of s n count until c
-    answer_failed_lem l q = q ∙ sym (rw (ne_eqb (get_or s place.kind 0) kind.register h, lt-ltb c (min until n) (omega arith)))
-
-    pub answer_done_lem : e ≤ c → r ≡ simple 0 0 count 0 0 0 → r ≡ answer_of s n count until c
-    answer_done_lem l q = q ∙ sym (rw (ne_eqb (get_or s place.kind 0) kind.register h, le-ltb c (min until n) (omega arith)))
-
 -- the words after the request's stay
 kept_at : (s : List ℕ) (i : ℕ) → get_or (drop place.after_request s) i 0 ≡ get_or s (place.after_request + i) 0
 kept_at s i = get_or-drop place.after_request s i 0
@@ -200,13 +167,6 @@ module _ (w : Buffers) (n count from until : ℕ) (hn : n ≡ chunk_count (granu
       go true true h = rw (hn, h, kept_at w.state 1)
       go true false h = rw (kept_at w.state 0)
       go false y h = rw (hn, h)
-
-  -- the state block keeps its length and its granularity
-  pub go_kept : (s m : List ℕ) (c : ℕ) → Stored w plan s m c → length w.state ≡ registrar_len → (c < min until n → c * granularity_of w.state < 2 ^ 64)
-      → (length s ≡ registrar_len) × (c < min until n → c * granularity_of s < 2 ^ 64)
-  go_kept s m c h k f =
-      let same : granularity_of s ≡ granularity_of w.state = ap granularity_of h.0 ∙ kept_at w.state 1 in
-      (ap length h.0 ∙ omega (arith, length-drop place.after_request w.state), λ l. omega (arith, ap (λ (g : ℕ). c * g) same, f l))
 
   pub go_answered : (s m : List ℕ) (c : ℕ) (r : Reply) → Stored w plan s m c → r ≡ answer_of s n count until c → outcome s m w.failed r ≡ carried_out w plan
   unfolding answered_of
@@ -260,34 +220,6 @@ module _ (w : Buffers) (q : Request) (e : q ≡ request_of w.state) where
         ap (λ (q : Request). carried_out after (register_from (chunk_state_in after) (offset_of w.state) q.count q.to q.until)) e ∙ ap (carried_out after) (sym here)
         ∙ ap (λ (u : Buffers). carried_out u (done_plan u)) after_is
 
-    pub done_all : ((request_of w.state).kind ≡ kind.register → ⊥)
-        → carried_out after (all_from (chunk_state_in after) (offset_of w.state) q.count q.alignment q.ignore q.to (spans (entries_in w.state)))
-        ≡ carried_out (after_taken w) (done_plan (after_taken w))
-    done_all k =
-        let here : done_plan after ≡ all_from (chunk_state_in after) (offset_of w.state) (request_of w.state).count (request_of w.state).alignment (request_of w.state).ignore (request_of w.state).to (spans (entries_in w.state)) =
-        rw (no, ne_eqb (request_of w.state).kind kind.register k) in
-        ap (λ (q : Request). carried_out after (all_from (chunk_state_in after) (offset_of w.state) q.count q.alignment q.ignore q.to (spans (entries_in w.state)))) e
-        ∙ ap (carried_out after) (sym here) ∙ ap (λ (u : Buffers). carried_out u (done_plan u)) after_is
-
 module _ (s : List ℕ) where
   pub none_left : (rest : MemoryRange) → rest ≡ rest_of s → rest.end ≤ rest.start → (request_of s).kind ≡ kind.register → has_rest s ≡ false
   none_left rest e h k = rw (eq-eqb (request_of s).kind kind.register k) (sym (ap (λ (x : MemoryRange). not (empty x)) e) ∙ ap not (le-leb rest.end rest.start h))
-
-  pub not_register : ((request_of s).kind ≡ kind.register → ⊥) → has_rest s ≡ false
-  not_register k = rw (ne_eqb (request_of s).kind kind.register k)
-
--- an operation failed
-pub failed_made : (w : Buffers) (q i : Request) (s f : List ℕ) (r : Reply) → q ≡ request_of w.state → i ≡ idle → s ≡ with_request i w.state
-    → f ≡ marked q.from q.to w.failed → r ≡ flat_of (RegistrationFailed q.start q.count)
-    → outcome s w.registered f r
-    ≡ outcome (with_request idle w.state) w.registered (marked (request_of w.state).from (request_of w.state).to w.failed) (flat_of (RegistrationFailed (request_of w.state).start (request_of w.state).count))
-failed_made w q i s f r hq hi hs hf hr =
-    let made : Request → Request → Outcome = λ i q. outcome (with_request i w.state) w.registered (marked q.from q.to w.failed) (flat_of (RegistrationFailed q.start q.count)) in
-    let first : outcome s w.registered f r ≡ made i q = cc in
-    first ∙ ap₂ made hi hq
-
--- a build
-pub build_made : (w : Buffers) (ram : List ℕ) (o g : ℕ) (s m f : List ℕ) (r : Reply) → s ≡ built_state ram o g → m ≡ replicate (length w.registered) 0
-    → f ≡ replicate (length w.failed) 0 → r ≡ flat_of (Done 0)
-    → outcome s m f r ≡ outcome (built_state ram o g) (replicate (length w.registered) 0) (replicate (length w.failed) 0) (flat_of (Done 0))
-build_made w ram o g s m f r hs hm hf hr = cc

@@ -24,9 +24,10 @@ fn ask(state: &mut [u64], count: u64, from: u64, to: u64, until: u64, range: Mem
 {
     let offset = state[place::OFFSET];
     registrar_state::save(state, registrar_steps::piece(count, from, to, until, range));
-    let start = std::num::wrapping_add_u64(offset, range.start);
-    let end = std::num::wrapping_add_u64(offset, range.end);
-    registrar_state::asked(start, end)
+    registrar_state::asked(
+        offset.wrapping_add(range.start),
+        offset.wrapping_add(range.end),
+    )
 }
 
 // The state block of a registrar as built.
@@ -34,20 +35,16 @@ fn build_state(state: &mut [u64], ram: &[u64], offset: u64, granularity: u64)
     requires { (length state.old ≡ registrar_len) × (length ram.now ≤ ram_len) }
     ensures { state.new ≡ built_state ram.now offset granularity }
 {
-    let n = layout::entry_count(ram);
     words::clear(state);
     state[place::OFFSET] = offset;
     state[place::GRANULARITY] = granularity;
-    state[place::ENTRIES] = n;
-    let mut i: usize = 0;
-    while i < ram.len() {
-        state[place::RAM + i] = ram[i];
-        i += 1;
-    }
+    state[place::ENTRIES] = layout::entry_count(ram);
+    state[place::RAM..place::RAM + ram.len()].copy_from_slice(ram);
 }
 
 // A registrar of a layout, with no chunk registered and none failed, whatever the runs held. Nothing is asked for, and a
 // refusal changes nothing.
+#[tactic(auto, unfolding(registrar_state::specs::Buffers::build_of, registrar_state::specs::Buffers::build_refusal))]
 pub fn registrar_build(
     ram: &[u64],
     offset: u64,
@@ -92,16 +89,16 @@ fn register_from(
 {
     let at = registrar_state::register_stop(state, registered, failed, total, from, until);
     chunks::set_chunks(registered, from, at.chunk);
-    if registrar_steps::has_ram(at) {
+    let request = if registrar_steps::has_ram(at) {
         let range = MemoryRange {
             start: at.start,
             end: at.end,
         };
-        let c = at.chunk;
-        registrar_state::save(state, registrar_steps::piece(count, c, c + 1, until, range));
-        return c;
-    }
-    registrar_state::save(state, registrar_steps::idle());
+        registrar_steps::piece(count, at.chunk, at.chunk + 1, until, range)
+    } else {
+        registrar_steps::idle()
+    };
+    registrar_state::save(state, request);
     at.chunk
 }
 
@@ -111,9 +108,11 @@ fn answer(state: &[u64], total: u64, count: u64, until: u64, chunk: u64) -> Repl
     ensures { (let s : List ℕ = state.now in result ≡ (if nat_eq (slice_index s place.kind) kind.register then simple 0 1 0 ((offset_of s + slice_index s place.start) % 2 ^ 64) ((offset_of s + slice_index s place.end) % 2 ^ 64) 0 else (if nat_lt chunk (min until total) then simple refusal.registration_failed 0 count 0 0 (chunk * granularity_of s) else simple 0 0 count 0 0 0))) }
 {
     if state[place::KIND] == kind::REGISTER {
-        let start = std::num::wrapping_add_u64(state[place::OFFSET], state[place::START]);
-        let end = std::num::wrapping_add_u64(state[place::OFFSET], state[place::END]);
-        return registrar_state::asked(start, end);
+        let offset = state[place::OFFSET];
+        return registrar_state::asked(
+            offset.wrapping_add(state[place::START]),
+            offset.wrapping_add(state[place::END]),
+        );
     }
     if chunk < numbers::min(until, total) {
         return registrar_state::registration_failed(chunk * state[place::GRANULARITY], count);
@@ -123,6 +122,7 @@ fn answer(state: &[u64], total: u64, count: u64, until: u64, chunk: u64) -> Repl
 
 // The chunks that a range touches: asks for a Register of each span of RAM in those not registered, one at a time. 4, 9 and 19
 // change nothing; 23 is for a chunk that failed before, and those passed on the way to it are registered.
+#[tactic(auto, unfolding(registrar_state::specs::Buffers::register_of, registrar_state::specs::Buffers::register_refusal))]
 pub fn registrar_register(
     state: &mut [u64],
     registered: &mut [u64],
@@ -165,12 +165,12 @@ fn register_all_from(
     );
     chunks::set_chunks(registered, plan.from, plan.to);
     registrar_state::save(state, plan.request);
-    let answer = plan.answer;
-    registrar_state::to_reply(answer)
+    registrar_state::to_reply(plan.answer)
 }
 
 // The aligned part of each span: asks for a Register of each stretch not registered, one at a time. 4, 8, 9 and 19 change
 // nothing; 22, at an unaligned span, and 23, at a chunk that failed before, leave what is registered until then.
+#[tactic(auto, unfolding(registrar_state::specs::Buffers::all_of, registrar_state::specs::Buffers::all_refusal))]
 pub fn registrar_register_all_aligned(
     state: &mut [u64],
     registered: &mut [u64],
@@ -240,6 +240,7 @@ fn register_all_done(state: &mut [u64], registered: &mut [u64], failed: &[u64]) 
 
 // The Register asked for is done: its chunks are registered unless RAM of theirs is left, and the next Register is asked for or
 // the call ends. 4 and 21 change nothing.
+#[tactic(auto, unfolding(registrar_state::specs::Buffers::done_of, registrar_state::specs::Buffers::answer_refusal))]
 pub fn registrar_answer_done(state: &mut [u64], registered: &mut [u64], failed: &mut [u64]) -> Reply
     ensures { outcome state.new registered.new failed.new result ≡ done_of (buffers state.old registered.old failed.old) }
 {
@@ -255,6 +256,7 @@ pub fn registrar_answer_done(state: &mut [u64], registered: &mut [u64], failed: 
 }
 
 // The Register asked for failed: its chunks are marked as failed, and the call ends with 23. 4 and 21 change nothing.
+#[tactic(auto, unfolding(registrar_state::specs::Buffers::failed_of, registrar_state::specs::Buffers::answer_refusal))]
 pub fn registrar_answer_failed(
     state: &mut [u64],
     registered: &mut [u64],

@@ -20,6 +20,7 @@ use registrar_steps::{Answer, Plan, Request, Stop, Unaligned};
 
 // What crosses: 01's number (0 where none), whether a Register of start to before end is asked, the count of a finished
 // call, the address of 23, the fields of 22.
+// Kept: numbers for the refusal and for whether an operation is asked: this is registrar_reply of the C interface.
 #[repr(C)]
 #[derive(Clone, Copy)]
 pub struct Reply {
@@ -44,12 +45,12 @@ fn simple(number: u64, asked: u64, count: u64, start: u64, end: u64, address: u6
     ensures { result ≡ simple number asked count start end address }
 {
     Reply {
-        number: number,
-        asked: asked,
-        count: count,
-        start: start,
-        end: end,
-        address: address,
+        number,
+        asked,
+        count,
+        start,
+        end,
+        address,
         span_start: 0,
         span_end: 0,
         edge_start: 0,
@@ -99,7 +100,7 @@ fn unaligned_reply(unaligned: Unaligned, count: u64) -> Reply
     Reply {
         number: refusal::UNALIGNED_MEMORY,
         asked: 0,
-        count: count,
+        count,
         start: 0,
         end: 0,
         address: 0,
@@ -176,11 +177,7 @@ fn lengths_fit(total: u64, registered: &[u64], failed: &[u64]) -> bool
     ensures { result ≡ (eqb (length registered.now) (up total word_bits) && eqb (length failed.now) (up total word_bits)) }
 {
     let words = chunks::map_words(total);
-    if registered.len() as u64 == words {
-        failed.len() as u64 == words
-    } else {
-        false
-    }
+    registered.len() as u64 == words && failed.len() as u64 == words
 }
 
 // How many chunks there are: 0 where the state block has another length.
@@ -214,10 +211,7 @@ fn call_refusal(state: &[u64], registered: &[u64], failed: &[u64], total: u64) -
 fn chunks_fit(total: u64, first: u64, end: u64) -> bool
     ensures { result ≡ (leb end first || leb end total) }
 {
-    if end <= first {
-        return true;
-    }
-    end <= total
+    end <= first || end <= total
 }
 
 // The granularity: 0 where the state block is too short.
@@ -254,14 +248,11 @@ pub fn register_refusal(
 fn is_power_from(least: u64, n: u64) -> bool
     ensures { result ≡ (leb least n && is_power n) }
 {
-    if least <= n {
-        chunks::is_power_of_two(n)
-    } else {
-        false
-    }
+    least <= n && chunks::is_power_of_two(n)
 }
 
 // What refuses a `register_all_aligned`.
+#[tactic(auto, unfolding(crate::specs::Buffers::all_refusal))]
 pub fn all_refusal(
     state: &[u64],
     registered: &[u64],
@@ -288,6 +279,7 @@ pub fn all_refusal(
 }
 
 // What refuses an answer, done or failed.
+#[tactic(auto, unfolding(crate::specs::Buffers::answer_refusal))]
 pub fn answer_refusal(state: &[u64], registered: &[u64], failed: &[u64], total: u64) -> u64
     requires { total ≡ count_in state.now }
     ensures { result ≡ answer_refusal (buffers state.now registered.now failed.now) }
@@ -305,6 +297,7 @@ pub fn answer_refusal(state: &[u64], registered: &[u64], failed: &[u64], total: 
 }
 
 // What refuses a build: the bitmaps' 4 comes last, since their length hangs on the granularity.
+#[tactic(auto, unfolding(crate::specs::Buffers::build_refusal))]
 pub fn build_refusal(
     ram: &[u64],
     offset: u64,
@@ -346,10 +339,7 @@ pub fn is_known(state: &[u64], registered: &[u64], first: u64, end: u64) -> bool
     requires { length state.now ≡ registrar_len }
     ensures { result ≡ is_known state.now registered.now first end }
 {
-    if !registrar_steps::is_idle(load(state)) {
-        return false;
-    }
-    end <= chunks::first_clear(registered, first, end)
+    registrar_steps::is_idle(load(state)) && end <= chunks::first_clear(registered, first, end)
 }
 
 // Where `register` stops, from chunk `from` on, of a request that ends before chunk `until`.
@@ -402,6 +392,7 @@ pub fn all_plan(
 }
 
 // The first RAM of the chunk under way after what was taken: empty where none is left.
+// Kept: an empty range, and no None: the clause gives one.
 pub fn rest_of(state: &[u64], total: u64) -> MemoryRange
     requires { (length state.now ≡ registrar_len) × (total ≡ chunk_count (granularity_of state.now) (entries_in state.now)) }
     ensures { result ≡ rest_of state.now }

@@ -1,7 +1,6 @@
 -- Laws of the steps, one for each way that the code goes. Assumes nothing.
-use Rattle.std.proofs.Common.{◌≡◌, ℕ, ◌+◌, ◌-◌, ◌*◌, ◌/◌, ◌^◌, ◌<◌, ◌≤◌, min, max, Bool, true, false, cond, not, ◌&&◌, ◌||◌, eqb, ltb, List, length, get_or, drop, sym, refl, ap, ◌∙◌, ap₂, mul-le-mul_right, add-mul, arith, le-ltb, lt-ltb, le-leb}
+use Rattle.std.proofs.Common.{◌≡◌, ℕ, ◌+◌, ◌-◌, ◌*◌, ◌/◌, ◌^◌, ◌<◌, ◌≤◌, min, Bool, true, false, cond, not, ◌&&◌, ◌||◌, ltb, List, length, get_or, drop, sym, refl, ap, ◌∙◌, ap₂, mul-le-mul_right, arith, le-ltb, lt-ltb}
 use native.Mathlib.Decide.{dec_lt}
-use borrow.Author.Tests.{lt-leb}
 use Rattle.abi.specs.Lengths.{word_bits}
 use Rattle.laws.specs.Bools.{false≢true}
 use Rattle.bitmap.specs.Pages.{bit_at}
@@ -10,19 +9,17 @@ use Rattle.layout.specs.declared.MemoryRangeWithNode.{MemoryRangeWithNode}
 use Rattle.layout.specs.declared.Span.{Span}
 use Rattle.layout.specs.Layout.{range, entries_of, last_end, spans, span_at}
 use Rattle.layout.proofs.Laws.{entries_at, entries_past, spans_end}
-use Rattle.chunks.specs.Chunks.{chunk_count, empty, pieces, first_of, first_not, alike, aligned_part, edge_of}
+use Rattle.chunks.specs.Chunks.{chunk_count, empty, first_of, first_not}
 use Rattle.chunks.proofs.Laws.{below_up, pieces_past, span_step}
 use Rattle.chunks.proofs.Scan.{first_step, first_stop, first_end, first_to}
-use Rattle.registrar_steps.specs.declared.Request.{Request}
-use Rattle.registrar_steps.specs.declared.Unaligned.{Unaligned}
-use Rattle.registrar_steps.specs.declared.Answer.TheVariants.{Done, RegistrationFailed, UnalignedMemory}
+use Rattle.registrar_steps.specs.declared.Answer.TheVariants.{Done, RegistrationFailed}
 use Rattle.registrar_steps.specs.declared.Why.{Why}
 use Rattle.registrar_steps.specs.declared.Why.TheVariants as why
 use Rattle.registrar_steps.specs.declared.Stop.{Stop}
 use Rattle.registrar_steps.specs.declared.Look.{Look}
 use Rattle.registrar_steps.specs.declared.Look.TheVariants.{Nothing, Edge, FailedBefore, Stretch}
 use Rattle.registrar_steps.specs.declared.Plan.{Plan}
-use Rattle.registrar_steps.specs.Steps.{ChunkState, asks, ends, ram_from, passes, piece_of, register_from, is_end, has_ram, stop, offer_of, stop_at, plan_at, stop_plan, stretch_in, look_at, unaligned_at, stretch_of, is_nothing, found, all_from}
+use Rattle.registrar_steps.specs.Steps.{ChunkState, asks, ends, ram_from, passes, piece_of, register_from, is_end, has_ram, stop, offer_of, stop_at, plan_at, stop_plan, look_at, is_nothing, found, all_from}
 
 -- ---- register, from a chunk on
 
@@ -36,10 +33,6 @@ last_fits ws h = elim (dec_lt (length (entries_of ws) - 1) (length ws / 3)) [
 -- so the chunks below the count start at 64-bit addresses
 pub walk_fits : (ws : List ℕ) (g until n e c : ℕ) → ((j : ℕ) → get_or ws j 0 < 2 ^ 64) → n ≡ chunk_count g (entries_of ws) → e ≡ min until n → c < e → c * g < 2 ^ 64
 walk_fits ws g until n e c h q f k = omega (arith, below_up (last_end (entries_of ws)) g c (omega arith), last_fits ws h)
-
--- a chunk that ends at x or before has no RAM from there on
-pub ended_chunk : (c g x : ℕ) → c * g ≤ x → g ≤ x - c * g → (c + 1) * g ≤ x
-ended_chunk c g x h k = omega (arith, add-mul c 1 g)
 
 pub ended_rest : (es : List MemoryRangeWithNode) (g c x : ℕ) → (c + 1) * g ≤ x → range 0 0 ≡ ram_from g es c x
 ended_rest es g c x h = sym (ap first_of (pieces_past es x ((c + 1) * g) 0 (spans es) h))
@@ -82,35 +75,6 @@ pub ram_plan : (o n c until : ℕ) (a : Stop) (x : Why) → has_ram x ≡ true �
 ram_plan o n c until a why.End h = false≢true h
 ram_plan o n c until a why.Ram h = refl
 ram_plan o n c until a why.Failed h = false≢true h
-
--- what a chunk asks for, one law for each case of it
-module _ (s : ChunkState) (c : ℕ) (a : Stop) where
-  pub offer_registered : bit_at word_bits s.registered c ≡ true → a ≡ stop why.End c 0 0 → a ≡ offer_of s c
-  offer_registered t q = q ∙ sym (rw t)
-
-  module _ (t : bit_at word_bits s.registered c ≡ false) where
-    pub offer_failed : bit_at word_bits s.failed c ≡ true → a ≡ stop why.Failed c (c * s.granularity) 0 → a ≡ offer_of s c
-    offer_failed f q = q ∙ sym (rw (t, f))
-
-    module _ (f : bit_at word_bits s.failed c ≡ false) (r : MemoryRange)
-        (e : r ≡ first_of (pieces (c * s.granularity) (c * s.granularity + s.granularity) (spans s.entries))) where
-      asks_for_lem : MemoryRange → Stop
-      asks_for_lem r = cond (empty r) (stop why.End c 0 0) (stop why.Ram c r.start r.end)
-
-      ram_is : r ≡ ram_from s.granularity s.entries c (c * s.granularity)
-      ram_is = e ∙ ap (λ (y : ℕ). first_of (pieces (c * s.granularity) y (spans s.entries))) (sym (add-mul c 1 s.granularity ∙ omega arith))
-
-      offer_left : asks_for_lem r ≡ offer_of s c
-      unfolding asks_for_lem
-      offer_left = ap asks_for_lem ram_is ∙ sym (rw (t, f))
-
-      pub offer_none : r.end ≤ r.start → a ≡ stop why.End c 0 0 → a ≡ offer_of s c
-      unfolding asks_for_lem
-      offer_none h q = q ∙ sym (rw (le-leb r.end r.start h)) ∙ offer_left
-
-      pub offer_some : r.start < r.end → a ≡ stop why.Ram c r.start r.end → a ≡ offer_of s c
-      unfolding asks_for_lem
-      offer_some h q = q ∙ sym (rw (lt-leb r.end r.start h)) ∙ offer_left
 
 -- a chunk that asks for nothing
 offer_passes : (s : ChunkState) (c : ℕ) → is_end (offer_of s c).why ≡ passes s c
@@ -173,64 +137,12 @@ stop_below s c e a q h = elim (dec_lt (first_not (passes s) c e) e) [
 
 -- ---- register_all_aligned: the chunks of a span's aligned part
 
-module _ (g : ℕ) (registered failed : List ℕ) (c e a : ℕ) (ha : a ≡ first_not (alike registered failed true) c e) where
-  met : ℕ → ℕ → Look
-  met a b =
-      cond (ltb a e)
-      (cond (bit_at word_bits failed a) (FailedBefore (a * g)) (cond (ltb b e && bit_at word_bits failed b) (FailedBefore (b * g)) (Stretch a b (a * g) (b * g))))
-      Nothing
-
-  from_met : met a (first_not (alike registered failed false) a e) ≡ stretch_in g registered failed c e
-  unfolding met
-  from_met = ap (λ (k : ℕ). met k (first_not (alike registered failed false) k e)) ha
-
-  pub stretch_nothing : e ≤ a → Nothing ≡ stretch_in g registered failed c e
-  unfolding met
-  stretch_nothing h = sym (rw (le-ltb a e h)) ∙ from_met
-
-  module _ (h : a < e) where
-    pub stretch_failed : bit_at word_bits failed a ≡ true → FailedBefore (a * g) ≡ stretch_in g registered failed c e
-    unfolding met
-    stretch_failed f = sym (rw (lt-ltb a e h, f)) ∙ from_met
-
-    module _ (f : bit_at word_bits failed a ≡ false) (b : ℕ) (hb : b ≡ first_not (alike registered failed false) a e) where
-      from_both : met a b ≡ stretch_in g registered failed c e
-      from_both = ap (met a) hb ∙ from_met
-
-      pub stretch_ended : (ltb b e && bit_at word_bits failed b) ≡ true → FailedBefore (b * g) ≡ stretch_in g registered failed c e
-      unfolding met
-      stretch_ended k = sym (rw (lt-ltb a e h, f, k)) ∙ from_both
-
-      pub stretch_found : (ltb b e && bit_at word_bits failed b) ≡ false → Stretch a b (a * g) (b * g) ≡ stretch_in g registered failed c e
-      unfolding met
-      stretch_found k = sym (rw (lt-ltb a e h, f, k)) ∙ from_both
-
 -- the addresses of chunks up to e fit where that of e does
 pub chunk_below : (g c e : ℕ) → c ≤ e → e * g < 2 ^ 64 → c * g < 2 ^ 64
 chunk_below g c e h k = omega (arith, mul-le-mul_right {m = c} {n = e} g h)
 
 pub run_below : (P : ℕ → Bool) (g c e b : ℕ) → b ≡ first_not P c e → c ≤ e → e * g < 2 ^ 64 → b * g < 2 ^ 64
 run_below P g c e b q h k = chunk_below g b e (omega (arith, first_to P c e h)) k
-
--- ---- a span
-
-module _ (g : ℕ) (registered failed : List ℕ) (al ignore c : ℕ) (r edge : MemoryRange) (he : edge ≡ edge_of al r) where
-  pub look_edge : (eqb ignore 0 && not (empty edge)) ≡ true → Edge edge ≡ look_at g registered failed al ignore c r
-  unfolding look_at
-  look_edge t = rw (← he, t)
-
-  module _ (t : (eqb ignore 0 && not (empty edge)) ≡ false) (p : MemoryRange) (hp : p ≡ aligned_part al r) where
-    look_on : cond (empty p) Nothing (stretch_in g registered failed (max c (p.start / g)) (p.end / g)) ≡ look_at g registered failed al ignore c r
-    unfolding look_at
-    look_on = rw (← he, t, ← hp)
-
-    pub look_nothing : p.end ≤ p.start → Nothing ≡ look_at g registered failed al ignore c r
-    look_nothing h = sym (rw (le-leb p.end p.start h)) ∙ look_on
-
-    pub look_in : (a b : ℕ) (l : Look) → p.start < p.end → a ≡ max c (p.start / g) → b ≡ p.end / g → l ≡ stretch_in g registered failed a b
-        → l ≡ look_at g registered failed al ignore c r
-    look_in a b l h ea eb q =
-        q ∙ ap₂ (stretch_in g registered failed) ea eb ∙ sym (rw (lt-leb p.end p.start h)) ∙ look_on
 
 -- ---- the spans in turn
 
@@ -267,19 +179,3 @@ module _ (s : ChunkState) (o n al ignore c i : ℕ) where
   pub all_end : length s.entries ≤ i → all_from s o n al ignore c (spans (drop i s.entries)) ≡ ends 0 0 (Done n)
   unfolding all_from
   all_end h = ap (all_from s o n al ignore c) (spans_end s.entries i h)
-
--- what is found, one law for each case of it
-module _ (es : List MemoryRangeWithNode) (o n al ignore : ℕ) (r : MemoryRange) (l : Look) (rest p : Plan) where
-  pub act_nothing : l ≡ Nothing → p ≡ rest → p ≡ found es o n al ignore r l rest
-  act_nothing e q = q ∙ ap (λ (k : Look). found es o n al ignore r k rest) (sym e)
-
-  pub act_edge : (edge : MemoryRange) (u : Unaligned) → l ≡ Edge edge → u ≡ unaligned_at es al r edge → p ≡ ends 0 0 (UnalignedMemory u n)
-      → p ≡ found es o n al ignore r l rest
-  act_edge edge u e f q =
-      q ∙ ap (λ (v : Unaligned). ends 0 0 (UnalignedMemory v n)) f ∙ ap (λ (k : Look). found es o n al ignore r k rest) (sym e)
-
-  pub act_failed : (x : ℕ) → l ≡ FailedBefore x → p ≡ ends 0 0 (RegistrationFailed x n) → p ≡ found es o n al ignore r l rest
-  act_failed x e q = q ∙ ap (λ (k : Look). found es o n al ignore r k rest) (sym e)
-
-  pub act_stretch : (a b x y : ℕ) (q : Request) → l ≡ Stretch a b x y → q ≡ stretch_of n al ignore a b x y → p ≡ asks o 0 0 q → p ≡ found es o n al ignore r l rest
-  act_stretch a b x y q e f h = h ∙ ap (asks o 0 0) f ∙ ap (λ (k : Look). found es o n al ignore r k rest) (sym e)

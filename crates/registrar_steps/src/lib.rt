@@ -13,7 +13,9 @@ use layout::MemoryRange;
 
 // The request under way. kind: 0 nothing asked, 1 register, else register_all_aligned. The chunks from `from` to before
 // `to` are under way, of them the bytes from `start` to before `end`.
-#[derive(Clone, Copy)]
+// Kept: numbers for the kind and for whether edges are ignored: the definitions idle and request_of read the state block's words
+// as these fields.
+#[derive(Clone, Copy, PartialEq, Eq)]
 pub struct Request {
     pub kind: u64,
     pub count: u64,
@@ -56,6 +58,7 @@ pub enum Why {
 }
 
 // Where `register` stops, with the address of a chunk that failed before, or of the RAM to ask for.
+// Kept: `why` beside the places, and no enum of them: the clauses of has_ram and stop_from, and plan_at in specs, name these fields.
 #[derive(Clone, Copy)]
 pub struct Stop {
     pub why: Why,
@@ -92,78 +95,113 @@ fn stop_of(why: Why, chunk: u64, start: u64, end: u64) -> Stop
     ensures { result ≡ stop why chunk start end }
 {
     Stop {
-        why: why,
-        chunk: chunk,
-        start: start,
-        end: end,
+        why,
+        chunk,
+        start,
+        end,
     }
-}
-
-// What a chunk asks for.
-fn offer_of(ram: &[u64], granularity: u64, registered: &[u64], failed: &[u64], chunk: u64) -> Stop
-    requires { chunk * granularity < 2 ^ 64 }
-    ensures { result ≡ offer_of (chunk_state granularity (entries_of ram.now) registered.now failed.now) chunk }
-{
-    if bitmap::get(registered, chunk) {
-        return stop_of(Why::End, chunk, 0, 0);
-    }
-    let start = chunk * granularity;
-    let failed_before = bitmap::get(failed, chunk);
-    if failed_before {
-        return stop_of(Why::Failed, chunk, start, 0);
-    }
-    let first = chunks::chunk_ram(ram, granularity, start);
-    if first.end <= first.start {
-        return stop_of(Why::End, chunk, 0, 0);
-    }
-    stop_of(Why::Ram, chunk, first.start, first.end)
 }
 
 // Whether a stop is at the end.
 fn is_end(stop: Stop) -> bool
     ensures { result ≡ is_end stop.why }
 {
-    let why = stop.why;
-    match why {
-        Why::End => true,
-        Why::Ram => false,
-        Why::Failed => false,
-    }
+    matches!(stop.why, Why::End)
 }
 
 // Whether a stop is at RAM to ask for.
 pub fn has_ram(stop: Stop) -> bool
     ensures { result ≡ has_ram stop.why }
 {
-    let why = stop.why;
-    match why {
-        Why::End => false,
-        Why::Ram => true,
-        Why::Failed => false,
-    }
+    matches!(stop.why, Why::Ram)
 }
 
-// The first chunk from `from` to before `to` that asks for something, and what it asks for.
-fn walk(
-    ram: &[u64],
+// The chunks that a step looks at: the RAM in them, and which of them are registered and which have failed.
+#[derive(Clone, Copy)]
+struct View<'a> {
+    ram: &'a [u64],
     granularity: u64,
-    registered: &[u64],
-    failed: &[u64],
-    from: u64,
-    to: u64,
-) -> Stop
-    requires { (c : ℕ) → c < to → c * granularity < 2 ^ 64 }
-    ensures { result ≡ stop_at (chunk_state granularity (entries_of ram.now) registered.now failed.now) from to }
-{
-    let mut c = from;
-    while c < to {
-        let offer = offer_of(ram, granularity, registered, failed, c);
-        if !is_end(offer) {
-            return offer;
+    registered: &'a [u64],
+    failed: &'a [u64],
+}
+
+impl<'a> View<'a> {
+    // What a chunk asks for.
+    fn offer_of(&self, chunk: u64) -> Stop
+        requires { chunk * self.now.granularity < 2 ^ 64 }
+        ensures { result ≡ offer_of (chunk_state self.now.granularity (entries_of self.now.ram.now) self.now.registered.now self.now.failed.now) chunk }
+    {
+        if bitmap::get(self.registered, chunk) {
+            return stop_of(Why::End, chunk, 0, 0);
         }
-        c += 1;
+        let start = chunk * self.granularity;
+        let failed_before = bitmap::get(self.failed, chunk);
+        if failed_before {
+            return stop_of(Why::Failed, chunk, start, 0);
+        }
+        let first = chunks::chunk_ram(self.ram, self.granularity, start);
+        if first.end <= first.start {
+            return stop_of(Why::End, chunk, 0, 0);
+        }
+        stop_of(Why::Ram, chunk, first.start, first.end)
     }
-    stop_of(Why::End, c, 0, 0)
+
+    // The first chunk from `from` to before `to` that asks for something, and what it asks for.
+    fn walk(&self, from: u64, to: u64) -> Stop
+        requires { (c : ℕ) → c < to → c * self.now.granularity < 2 ^ 64 }
+        ensures { result ≡ stop_at (chunk_state self.now.granularity (entries_of self.now.ram.now) self.now.registered.now self.now.failed.now) from to }
+    {
+        for c in from..to {
+            let offer = self.offer_of(c);
+            if !is_end(offer) {
+                return offer;
+            }
+        }
+        stop_of(Why::End, numbers::max(from, to), 0, 0)
+    }
+
+    // The next unregistered stretch, or a chunk that failed before.
+    fn stretch_in(&self, from: u64, to: u64) -> Look
+        requires { to * self.now.granularity < 2 ^ 64 }
+        ensures { result ≡ stretch_in self.now.granularity self.now.registered.now self.now.failed.now from to }
+    {
+        let a = chunks::run_end(self.registered, self.failed, true, from, to);
+        if to <= a {
+            return Look::Nothing;
+        }
+        if bitmap::get(self.failed, a) {
+            return Look::FailedBefore(a * self.granularity);
+        }
+        let b = chunks::run_end(self.registered, self.failed, false, a, to);
+        if is_failed_before(self.failed, b, to) {
+            return Look::FailedBefore(b * self.granularity);
+        }
+        Look::Stretch {
+            from: a,
+            to: b,
+            start: a * self.granularity,
+            end: b * self.granularity,
+        }
+    }
+
+    // What is next in a span from a chunk on.
+    #[tactic(auto, unfolding(crate::specs::Steps::look_at))]
+    fn look_at(&self, alignment: u64, ignore: u64, chunk: u64, span: MemoryRange) -> Look
+        ensures { result ≡ look_at self.now.granularity self.now.registered.now self.now.failed.now alignment ignore chunk span }
+    {
+        let edge = chunks::unaligned_edge(alignment, span);
+        if edge_refused(ignore, edge) {
+            return Look::Edge(edge);
+        }
+        let p = chunks::aligned_subrange(alignment, span);
+        if p.end <= p.start {
+            return Look::Nothing;
+        }
+        self.stretch_in(
+            numbers::max(chunk, chunks::div(p.start, self.granularity)),
+            chunks::div(p.end, self.granularity),
+        )
+    }
 }
 
 // Where `register` stops, from chunk `from` on, of a request that ends before chunk `until`, where there are `total` chunks.
@@ -179,14 +217,13 @@ pub fn stop_from(
     requires { total ≡ chunk_count granularity (entries_of ram.now) }
     ensures { (result ≡ stop_at (chunk_state granularity (entries_of ram.now) registered.now failed.now) from (min until total)) × (result.chunk < min until total → result.chunk * granularity < 2 ^ 64) }
 {
-    walk(
+    let view = View {
         ram,
         granularity,
         registered,
         failed,
-        from,
-        numbers::min(until, total),
-    )
+    };
+    view.walk(from, numbers::min(until, total))
 }
 
 // Whether a chunk ends at an address or before it. Is false of a chunk past the last.
@@ -198,13 +235,11 @@ fn ends_by(chunk: u64, granularity: u64, total: u64, address: u64) -> bool
         return false;
     }
     let start = chunk * granularity;
-    if address < start {
-        return false;
-    }
-    granularity <= address - start
+    start <= address && granularity <= address - start
 }
 
 // The first RAM of a chunk from an address on, where there are `total` chunks: empty where there is none.
+// Kept: an empty range, and no None: the clause gives one.
 pub fn rest_of(ram: &[u64], granularity: u64, total: u64, chunk: u64, from: u64) -> MemoryRange
     requires { total ≡ chunk_count granularity (entries_of ram.now) }
     ensures { result ≡ ram_from granularity (entries_of ram.now) chunk from }
@@ -220,8 +255,8 @@ fn asked(offset: u64, request: Request) -> Answer
     ensures { result ≡ asked_of offset request }
 {
     Answer::Register(MemoryRange {
-        start: std::num::wrapping_add_u64(offset, request.start),
-        end: std::num::wrapping_add_u64(offset, request.end),
+        start: offset.wrapping_add(request.start),
+        end: offset.wrapping_add(request.end),
     })
 }
 
@@ -230,9 +265,9 @@ fn ask(offset: u64, from: u64, to: u64, request: Request) -> Plan
     ensures { result ≡ asks offset from to request }
 {
     Plan {
-        from: from,
-        to: to,
-        request: request,
+        from,
+        to,
+        request,
         answer: asked(offset, request),
     }
 }
@@ -258,31 +293,7 @@ pub fn idle() -> Request
 pub fn is_idle(request: Request) -> bool
     ensures { result ≡ is_idle request }
 {
-    if request.kind != kind::NONE {
-        return false;
-    }
-    if request.count != 0 {
-        return false;
-    }
-    if request.from != 0 {
-        return false;
-    }
-    if request.to != 0 {
-        return false;
-    }
-    if request.start != 0 {
-        return false;
-    }
-    if request.end != 0 {
-        return false;
-    }
-    if request.until != 0 {
-        return false;
-    }
-    if request.alignment != 0 {
-        return false;
-    }
-    request.ignore == 0
+    request == idle()
 }
 
 // The plan that ends a call with an answer, once the chunks from `from` to before `to` are registered.
@@ -290,10 +301,10 @@ fn end(from: u64, to: u64, answer: Answer) -> Plan
     ensures { result ≡ ends from to answer }
 {
     Plan {
-        from: from,
-        to: to,
+        from,
+        to,
         request: idle(),
-        answer: answer,
+        answer,
     }
 }
 
@@ -303,12 +314,12 @@ pub fn piece(count: u64, from: u64, to: u64, until: u64, range: MemoryRange) -> 
 {
     Request {
         kind: kind::REGISTER,
-        count: std::num::wrapping_add_u64(count, 1),
-        from: from,
-        to: to,
+        count: count.wrapping_add(1),
+        from,
+        to,
         start: range.start,
         end: range.end,
-        until: until,
+        until,
         alignment: 0,
         ignore: 0,
     }
@@ -318,75 +329,14 @@ pub fn piece(count: u64, from: u64, to: u64, until: u64, range: MemoryRange) -> 
 fn is_failed_before(failed: &[u64], chunk: u64, to: u64) -> bool
     ensures { result ≡ (nat_lt chunk to && bit_at word_bits failed.now chunk) }
 {
-    if chunk < to {
-        bitmap::get(failed, chunk)
-    } else {
-        false
-    }
-}
-
-// The next unregistered stretch, or a chunk that failed before.
-fn stretch_in(registered: &[u64], failed: &[u64], granularity: u64, from: u64, to: u64) -> Look
-    requires { to * granularity < 2 ^ 64 }
-    ensures { result ≡ stretch_in granularity registered.now failed.now from to }
-{
-    let a = chunks::run_end(registered, failed, true, from, to);
-    if to <= a {
-        return Look::Nothing;
-    }
-    if bitmap::get(failed, a) {
-        return Look::FailedBefore(a * granularity);
-    }
-    let b = chunks::run_end(registered, failed, false, a, to);
-    if is_failed_before(failed, b, to) {
-        return Look::FailedBefore(b * granularity);
-    }
-    Look::Stretch {
-        from: a,
-        to: b,
-        start: a * granularity,
-        end: b * granularity,
-    }
+    chunk < to && bitmap::get(failed, chunk)
 }
 
 // Whether an edge refuses the call: there is one, and edges aren't ignored.
 fn edge_refused(ignore: u64, edge: MemoryRange) -> bool
     ensures { result ≡ (ignore == 0 && not (empty edge)) }
 {
-    if ignore == 0 {
-        edge.start < edge.end
-    } else {
-        false
-    }
-}
-
-// What is next in a span from a chunk on.
-fn look_at(
-    granularity: u64,
-    registered: &[u64],
-    failed: &[u64],
-    alignment: u64,
-    ignore: u64,
-    chunk: u64,
-    span: MemoryRange,
-) -> Look
-    ensures { result ≡ look_at granularity registered.now failed.now alignment ignore chunk span }
-{
-    let edge = chunks::unaligned_edge(alignment, span);
-    if edge_refused(ignore, edge) {
-        return Look::Edge(edge);
-    }
-    let p = chunks::aligned_subrange(alignment, span);
-    if p.end <= p.start {
-        return Look::Nothing;
-    }
-    stretch_in(
-        registered,
-        failed,
-        granularity,
-        numbers::max(chunk, chunks::div(p.start, granularity)),
-        chunks::div(p.end, granularity),
-    )
+    ignore == 0 && edge.start < edge.end
 }
 
 // The fields of UnalignedMemory: the entry is the first that has a byte of the edge.
@@ -395,14 +345,14 @@ fn unaligned_fields(ram: &[u64], alignment: u64, span: MemoryRange, edge: Memory
 {
     let e = chunks::entry_with(ram, edge);
     Unaligned {
-        span: span,
-        edge: edge,
+        span,
+        edge,
         vnode: e.vnode,
         node_range: MemoryRange {
             start: e.start,
             end: e.end,
         },
-        alignment: alignment,
+        alignment,
     }
 }
 
@@ -410,17 +360,7 @@ fn unaligned_fields(ram: &[u64], alignment: u64, span: MemoryRange, edge: Memory
 fn is_nothing(look: Look) -> bool
     ensures { result ≡ is_nothing look }
 {
-    match look {
-        Look::Nothing => true,
-        Look::Edge(_) => false,
-        Look::FailedBefore(_) => false,
-        Look::Stretch {
-            from: _,
-            to: _,
-            start: _,
-            end: _,
-        } => false,
-    }
+    matches!(look, Look::Nothing)
 }
 
 // The request for the chunks from `from` to before `to`.
@@ -437,14 +377,14 @@ fn stretch_request(
 {
     Request {
         kind: kind::REGISTER_ALL,
-        count: std::num::wrapping_add_u64(count, 1),
-        from: from,
-        to: to,
-        start: start,
-        end: end,
+        count: count.wrapping_add(1),
+        from,
+        to,
+        start,
+        end,
         until: 0,
-        alignment: alignment,
-        ignore: ignore,
+        alignment,
+        ignore,
     }
 }
 
@@ -496,23 +436,22 @@ pub fn all_from(
 ) -> Plan
     ensures { result ≡ all_from (chunk_state granularity (entries_of ram.now) registered.now failed.now) offset count alignment ignore chunk (spans (entries_of ram.now)) }
 {
+    let view = View {
+        ram,
+        granularity,
+        registered,
+        failed,
+    };
     let n = layout::entry_count(ram);
     let mut i: u64 = 0;
+    // Kept: each turn passes a whole span.
     while i < n {
         let at = layout::span_at(ram, i);
         let span = MemoryRange {
             start: at.start,
             end: at.end,
         };
-        let look = look_at(
-            granularity,
-            registered,
-            failed,
-            alignment,
-            ignore,
-            chunk,
-            span,
-        );
+        let look = view.look_at(alignment, ignore, chunk, span);
         if !is_nothing(look) {
             return act(ram, offset, count, alignment, ignore, span, look);
         }

@@ -1,7 +1,5 @@
 use native.Mathlib.Omega.{arith}
 use mathlib.Core.Path.{sym, ◌∙◌}
-use Rattle.chunks.specs.Chunks.{alike}
-use Rattle.chunks.proofs.Scan as scan
 use Rattle.chunks.proofs.Laws as laws
 use Rattle.chunks.proofs.alike_here.Goals as goal
 
@@ -9,13 +7,3 @@ pub returns-then-is_alike_word : goal.returns-then-is_alike_word
 returns-then-is_alike_word c =
     let a = c.args in
     laws.alike_word a.registered.now a.failed.now a.set a.chunk a.to c.if-chunk-eq0.true (omega arith) (sym c.is_alike_word.ensures ∙ c.if-is_alike_word.true)
-
-pub returns-then-is_alike : goal.returns-then-is_alike
-returns-then-is_alike c =
-    let a = c.args in
-    scan.ahead_one (alike a.registered.now a.failed.now a.set) a.chunk a.to c.requires (sym c.is_alike.ensures ∙ c.if-is_alike.true)
-
-pub returns-else-is_alike : goal.returns-else-is_alike
-returns-else-is_alike c =
-    let a = c.args in
-    scan.ahead_none (alike a.registered.now a.failed.now a.set) a.chunk a.to c.requires (sym c.is_alike.ensures ∙ c.if-is_alike.false)

@@ -1,11 +1,8 @@
 use native.Mathlib.Omega.{arith}
-use mathlib.Core.Path.{refl, sym, ◌∙◌}
+use mathlib.Core.Path.{sym, ◌∙◌}
 use Rattle.layout.specs.Layout.{entries_of}
 use Rattle.chunks.proofs.Laws as laws
 use Rattle.chunks.proofs.entry_with.Goals as goal
-
-pub loop-i-init : goal.loop-i-init
-loop-i-init c = refl
 
 pub returns-then-overlaps : goal.returns-then-overlaps
 returns-then-overlaps c =

@@ -1,22 +1,13 @@
 use native.Mathlib.Omega.{arith}
-use mathlib.Core.Path.{refl, sym, ◌∙◌}
+use mathlib.Core.Path.{sym, ◌∙◌}
 use Rattle.abi.specs.Lengths.{word_bits}
 use Rattle.bitmap.specs.Pages.{bit_at}
 use Rattle.chunks.proofs.Scan as scan
 use Rattle.chunks.proofs.first_clear.Goals as goal
 
-pub loop-c-init : goal.loop-c-init
-loop-c-init c = refl
-
 pub returns-then-n-eq0 : goal.returns-then-n-eq0
 returns-then-n-eq0 c =
     sym (scan.first_stop (bit_at word_bits c.args.map.now) c.loop-c.c c.args.to (omega arith) (c.set_here-n.ensures.stops c.if-n-eq0.true)) ∙ c.loop-c.invariant
-
-pub overflow_add-c : goal.overflow_add-c
-overflow_add-c c = omega (arith, c.set_here-n.ensures.within)
-
-pub loop-c-smaller : goal.loop-c-smaller
-loop-c-smaller c = omega (arith, c.set_here-n.ensures.within)
 
 pub loop-c-preserved : goal.loop-c-preserved
 loop-c-preserved c =

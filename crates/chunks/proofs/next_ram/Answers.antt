@@ -11,6 +11,3 @@ returns-then-chunk-div c =
     let a = c.args in
     let l : a.chunk < a.from / a.granularity = omega (arith, c.div.ensures, c.if-chunk-div.true) in
     sym (ap first_of (laws.pieces_past (entries_of a.ram.now) a.from ((a.chunk + 1) * a.granularity) 0 (spans (entries_of a.ram.now)) (laws.chunk_before a.chunk a.granularity a.from l)))
-
-pub returns : goal.returns
-returns c = c.ram_before.ensures _ c.chunk_end.ensures

@@ -1,12 +1,9 @@
 use native.Mathlib.Omega.{arith}
-use mathlib.Core.Path.{refl, sym, ap, ◌∙◌}
+use mathlib.Core.Path.{sym, ap, ◌∙◌}
 use Rattle.layout.specs.Layout.{entries_of}
 use Rattle.chunks.specs.Chunks.{first_of}
 use Rattle.chunks.proofs.Laws as laws
 use Rattle.chunks.proofs.ram_before.Goals as goal
-
-pub loop-i-init : goal.loop-i-init
-loop-i-init c = λ y e. refl
 
 pub returns-then-start-end : goal.returns-then-start-end
 returns-then-start-end c =

@@ -1,24 +1,15 @@
 use native.Mathlib.Omega.{arith}
-use mathlib.Core.Path.{refl, sym, ◌∙◌}
+use mathlib.Core.Path.{sym, ◌∙◌}
 use Rattle.chunks.specs.Chunks.{alike}
 use Rattle.chunks.proofs.Laws as laws
 use Rattle.chunks.proofs.Scan as scan
 use Rattle.chunks.proofs.run_end.Goals as goal
-
-pub loop-c-init : goal.loop-c-init
-loop-c-init c = refl
 
 pub returns-then-n-eq0 : goal.returns-then-n-eq0
 returns-then-n-eq0 c =
     let a = c.args in
     let h = c.loop-c in
     sym (scan.first_stop (alike a.registered.now a.failed.now a.set) h.c a.to (omega (arith, c.stop_at-stop.ensures)) (c.alike_here-n.ensures.stops c.if-n-eq0.true)) ∙ h.invariant
-
-pub overflow_add-c : goal.overflow_add-c
-overflow_add-c c = omega (arith, c.alike_here-n.ensures.within)
-
-pub loop-c-smaller : goal.loop-c-smaller
-loop-c-smaller c = omega (arith, c.alike_here-n.ensures.within)
 
 pub loop-c-preserved : goal.loop-c-preserved
 loop-c-preserved c =

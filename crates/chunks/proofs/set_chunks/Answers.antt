@@ -10,9 +10,6 @@ use Rattle.chunks.proofs.set_chunks.Goals as goal
 pub loop-c-init : goal.loop-c-init
 loop-c-init c = let a = c.args in (omega arith, omega arith, refl, run_none word_bits true a.map.now a.from)
 
-pub loop-c-smaller : goal.loop-c-smaller
-loop-c-smaller c = omega (arith, c.set_some-c.ensures.0, c.set_some-c.ensures.1)
-
 pub loop-c-preserved : goal.loop-c-preserved
 loop-c-preserved c =
     let a = c.args in
@@ -23,9 +20,6 @@ loop-c-preserved c =
       search rules,
       laws.set_more a.map.now a.from h.c s.result h.map _ h.invariant.0 (omega (arith, s.ensures.0)) h.invariant.3 s.ensures.2,
     )
-
-pub shape_of-map : goal.shape_of-map
-shape_of-map c = c.loop-c.invariant.2
 
 pub returns : goal.returns
 returns c =

@@ -12,16 +12,6 @@ returns-then-rest c =
     let rest_of = c.rest_of-rest in
     laws.done_rest w load.result load.ensures rest_of.result _ ask.result c.requires.2 rest_of.ensures c.if-rest.true ask.ensures.0 ask.ensures.1
 
-pub answer-requires : goal.answer-requires
-answer-requires c =
-    let a = c.args in
-    let w = buffers a.state.now a.registered.now a.failed.now in
-    let v = buffers a.state.now c.set_chunks.new.map a.failed.now in
-    let o = c.register_from-chunk in
-    let load = c.load-request in
-    let given = c.requires in
-    laws.go_kept v a.total load.result.count load.result.to load.result.until given.1 _ _ o.result o.ensures.planned given.0 o.ensures.bounded
-
 pub returns : goal.returns
 returns c =
     let q = c.load-request in

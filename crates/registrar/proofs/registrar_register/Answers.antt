@@ -4,29 +4,6 @@ use Rattle.registrar_state.proofs.Laws.{count_in_lem}
 use Rattle.registrar.proofs.Laws as laws
 use Rattle.registrar.proofs.registrar_register.Goals as goal
 
-pub returns-then-number-ne0 : goal.returns-then-number-ne0
-unfolding register_of
-returns-then-number-ne0 c =
-    let a = c.args in
-    let w = buffers a.state.now a.registered.now a.failed.now in
-    let g = c.granularity-granularity in
-    let f = c.first_chunk-first in
-    let e = c.end_chunk-end in
-    let n = c.register_refusal-number in
-    let nh = laws.touched_refusal w a.address a.len g.result f.result e.result g.ensures f.ensures e.ensures n.result n.ensures in
-    laws.call_refused w n.result _ nh _ c.refused.result c.if-number-ne0.true c.refused.ensures
-
-pub is_known-requires : goal.is_known-requires
-is_known-requires c =
-    let a = c.args in
-    let w = buffers a.state.now a.registered.now a.failed.now in
-    let g = c.granularity-granularity in
-    let f = c.first_chunk-first in
-    let e = c.end_chunk-end in
-    let n = c.register_refusal-number in
-    let nh = laws.touched_refusal w a.address a.len g.result f.result e.result g.ensures f.ensures e.ensures n.result n.ensures in
-    laws.register_long w n.result c.if-number-ne0.false a.address a.len nh
-
 pub returns-then-is_known : goal.returns-then-is_known
 unfolding register_of
 returns-then-is_known c =
@@ -39,32 +16,6 @@ returns-then-is_known c =
     let nh = laws.touched_refusal w a.address a.len g.result f.result e.result g.ensures f.ensures e.ensures n.result n.ensures in
     let k = laws.touched_known w a.address a.len g.result f.result e.result g.ensures f.ensures e.ensures c.is_known.result c.is_known.ensures c.if-is_known.true in
     laws.call_known w n.result a.address a.len c.done.result nh c.if-number-ne0.false (laws.register_long w n.result c.if-number-ne0.false a.address a.len nh) k c.done.ensures
-
-pub register_from-chunk-requires : goal.register_from-chunk-requires
-register_from-chunk-requires c =
-    let a = c.args in
-    let w = buffers a.state.now a.registered.now a.failed.now in
-    let g = c.granularity-granularity in
-    let f = c.first_chunk-first in
-    let e = c.end_chunk-end in
-    let n = c.register_refusal-number in
-    let nh = laws.touched_refusal w a.address a.len g.result f.result e.result g.ensures f.ensures e.ensures n.result n.ensures in
-    let long = laws.register_long w n.result c.if-number-ne0.false a.address a.len nh in
-    (long, count_in_lem a.state.now _ c.chunk_count-total.ensures long)
-
-pub answer-requires : goal.answer-requires
-answer-requires c =
-    let a = c.args in
-    let w = buffers a.state.now a.registered.now a.failed.now in
-    let g = c.granularity-granularity in
-    let f = c.first_chunk-first in
-    let e = c.end_chunk-end in
-    let n = c.register_refusal-number in
-    let nh = laws.touched_refusal w a.address a.len g.result f.result e.result g.ensures f.ensures e.ensures n.result n.ensures in
-    let long = laws.register_long w n.result c.if-number-ne0.false a.address a.len nh in
-    let o = c.register_from-chunk in
-    let chunk_count = c.chunk_count-total in
-    laws.go_kept w chunk_count.result 0 f.result e.result (count_in_lem a.state.now _ chunk_count.ensures long) _ _ o.result o.ensures.planned long o.ensures.bounded
 
 pub returns : goal.returns
 unfolding register_of

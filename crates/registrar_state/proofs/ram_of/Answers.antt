@@ -1,5 +1,0 @@
-use Rattle.registrar_state.proofs.Laws as laws
-use Rattle.registrar_state.proofs.ram_of.Goals as goal
-
-pub returns : goal.returns
-returns c = laws.ram_is c.args.state.now c.min-n.result c.requires c.min-n.ensures
