@@ -1,17 +1,18 @@
 -- Laws of the split at an overlay page: the search, what falls, and the piece of each return. Assumes nothing.
 use mathlib.Core.Bool.{Bool, true, false, not, cond, ◌||◌}
 use mathlib.Core.List.{List, [], ◌∷◌}
-use mathlib.Core.Path.{◌≡◌, refl, sym, ap, ap₂, subst, ◌∙◌}
-use Prim.Native.Nat.{ℕ, zero, suc, ◌+◌, ◌-◌, ◌*◌, ◌≤◌, ◌<◌}
+use mathlib.Core.Path.{◌≡◌, refl, sym, ap, subst, ◌∙◌}
+use Prim.Native.Nat.{ℕ, zero, suc, ◌+◌, ◌-◌, ◌≤◌, ◌<◌}
 use native.Mathlib.Omega.{arith}
 use native.Mathlib.Decide.{dec_lt}
-use lib.Dec.{eqb, leb}
-use lib.ListN.{length, get_or}
-use borrow.Author.Tests.{ne_eqb, lt-ltb, le-ltb, le-leb, lt-leb, not-true}
+use lib.Dec.{eqb}
+use lib.ListN.{get_or}
+use borrow.Author.Tests.{eq-eqb, eqb-true, ne_eqb, lt-ltb, le-ltb, le-leb, lt-leb, not-true}
+use Rattle.std.specs.Prelude.{Some, None, find}
+use Rattle.laws.specs.Bools.{or_right}
 use Rattle.page_list.specs.Pages.{among}
-use Rattle.page_list.proofs.Laws.{among_at}
 use Rattle.overlay_table.specs.Overlays.{used, place_from, is_overlay}
-use Rattle.default_change.specs.Pieces.{non, start_of, len_of, free, pages_from, overlay_pages, outside, stop_at, how_many, inside}
+use Rattle.default_change.specs.Pieces.{non, start_of, len_of, free, pages_from, overlay_pages, outside, how_many, inside}
 use Rattle.default_change.proofs.Spans as laws
 
 -- in or out of the run
@@ -38,17 +39,6 @@ false_in a k p h = elim (dec_lt p a) [
 
 -- ---- the pages of the entries
 
-pub length_pages : (t : List ℕ) (k o : ℕ) → length (pages_from t k o) ≡ k
-unfolding pages_from
-length_pages t zero o = refl
-length_pages t (suc k) o = ap suc (length_pages t k (o + 5))
-
-pages_at : (t : List ℕ) (k o i : ℕ) → i < k → get_or (pages_from t k o) i 0 ≡ get_or t (o + 5 * i) 0
-unfolding pages_from
-pages_at t zero o i h = absurd (omega arith)
-pages_at t (suc k) o zero h = let d : o ≡ o + 5 * 0 = omega arith in ap (λ (j : ℕ). get_or t j 0) d
-pages_at t (suc k) o (suc i) h = let d : o + 5 + 5 * i ≡ o + 5 * suc i = omega arith in pages_at t k (o + 5) i (omega arith) ∙ ap (λ (j : ℕ). get_or t j 0) d
-
 among_pages : (t : List ℕ) (q k o : ℕ) → 0 < o → not (eqb (place_from t k o q) 0) ≡ among (pages_from t k o) q
 unfolding pages_from place_from among
 among_pages t q zero o h = refl
@@ -64,61 +54,43 @@ overlay_among t q = among_pages t q (used t) 1 (omega arith)
 
 -- ---- the search, one turn at a time
 
-module _ (P : ℕ → Bool) (t : List ℕ) (p : ℕ) where
-  stop_hit : (k o : ℕ) → 0 < k → p ≡ get_or t o 0 → P p ≡ false → stop_at P (pages_from t k o) ≡ 0
-  unfolding stop_at pages_from
-  stop_hit zero o h e f = absurd (omega arith)
-  stop_hit (suc k) o h e f = rw (sym e, f)
+module _ (Q : ℕ → Bool) (t : List ℕ) (p : ℕ) where
+  pub find_hit : (k o : ℕ) → 0 < k → p ≡ get_or t o 0 → Q p ≡ true → find Q (pages_from t k o) ≡ Some p
+  unfolding pages_from
+  find_hit zero o h e f = absurd (omega arith)
+  find_hit (suc k) o h e f = rw (sym e, f) refl
 
-  stop_miss : (k o : ℕ) → 0 < k → p ≡ get_or t o 0 → P p ≡ true → stop_at P (pages_from t k o) ≡ suc (stop_at P (pages_from t (k - 1) (o + 5)))
-  unfolding stop_at pages_from
-  stop_miss zero o h e f = absurd (omega arith)
-  stop_miss (suc k) o h e f = let d : suc k - 1 ≡ k = omega arith in rw (sym e, f, d) refl
+  pub find_miss : (k o : ℕ) → 0 < k → p ≡ get_or t o 0 → Q p ≡ false → find Q (pages_from t k o) ≡ find Q (pages_from t (k - 1) (o + 5))
+  unfolding pages_from
+  find_miss zero o h e f = absurd (omega arith)
+  find_miss (suc k) o h e f = let d : suc k - 1 ≡ k = omega arith in rw (sym e, f, d) refl
 
-  stop_end : (k o : ℕ) → k ≤ 0 → stop_at P (pages_from t k o) ≡ 0
-  unfolding stop_at pages_from
-  stop_end zero o h = refl
-  stop_end (suc k) o h = absurd (omega arith)
+pub find_end : (Q : ℕ → Bool) (t : List ℕ) (k o : ℕ) → k ≤ 0 → find Q (pages_from t k o) ≡ None
+unfolding pages_from
+find_end Q t zero o h = refl
+find_end Q t (suc k) o h = absurd (omega arith)
 
-  module _ (n i : ℕ) where
-    pub find_start : n ≡ used t → i ≡ 0 → stop_at P (overlay_pages t) ≡ i + stop_at P (pages_from t (n - i) (1 + 5 * i))
-    find_start e z =
-        let a : used t ≡ n - i = omega arith in
-        let b : 1 ≡ 1 + 5 * i = omega arith in
-        let d = ap₂ (λ (k o : ℕ). stop_at P (pages_from t k o)) a b in
-        omega (arith, d, z)
-
-    pub find_hit : i < n → p ≡ get_or t (1 + 5 * i) 0 → P p ≡ false → stop_at P (pages_from t (n - i) (1 + 5 * i)) ≡ 0
-    find_hit h e f = stop_hit (n - i) (1 + 5 * i) (omega arith) e f
-
-    pub find_miss : i < n → p ≡ get_or t (1 + 5 * i) 0 → P p ≡ true → stop_at P (pages_from t (n - i) (1 + 5 * i)) ≡ suc (stop_at P (pages_from t (n - (i + 1)) (1 + 5 * (i + 1))))
-    find_miss h e f =
-        let a : n - i - 1 ≡ n - (i + 1) = omega arith in
-        let b : 1 + 5 * i + 5 ≡ 1 + 5 * (i + 1) = omega arith in
-        stop_miss (n - i) (1 + 5 * i) (omega arith) e f ∙ ap₂ (λ (k o : ℕ). suc (stop_at P (pages_from t k o))) a b
-
-    pub find_end : n ≤ i → stop_at P (pages_from t (n - i) (1 + 5 * i)) ≡ 0
-    find_end h = stop_end (n - i) (1 + 5 * i) (omega arith)
-
-pub stop_false : (P : ℕ → Bool) (l : List ℕ) → stop_at P l < length l → P (get_or l (stop_at P l) 0) ≡ false
-unfolding stop_at
-stop_false P [] h = absurd (omega arith)
-stop_false P (x ∷ l) h = go (P x) refl (stop_false P l) h
+-- what is found is inside the run, and a page of the list
+found_inside : (a k : ℕ) (l : List ℕ) (p : ℕ) → find (non (outside a k)) l ≡ Some p → (outside a k p ≡ false) × (among l p ≡ true)
+unfolding among
+found_inside a k [] p e = cc
+found_inside a k (x ∷ l) p e = go (outside a k x) refl e (found_inside a k l p)
   where
-    go : (b : Bool) → P x ≡ b → (stop_at P l < length l → P (get_or l (stop_at P l) 0) ≡ false) → cond b (suc (stop_at P l)) 0 < suc (length l)
-        → P (get_or (x ∷ l) (cond b (suc (stop_at P l)) 0) 0) ≡ false
-    go true e m g = m (omega arith)
-    go false e m g = e
+    go : (b : Bool) → outside a k x ≡ b → cond (not b) (Some x) (find (non (outside a k)) l) ≡ Some p → (find (non (outside a k)) l ≡ Some p → (outside a k p ≡ false) × (among l p ≡ true))
+        → (outside a k p ≡ false) × ((eqb p x || among l p) ≡ true)
+    go false o e m = let d : p ≡ x = cc in (ap (outside a k) d ∙ o, rw (eq-eqb p x d) refl)
+    go true o e m = let r = m e in (r.0, or_right (eqb p x) (among l p) r.1)
 
-pub none_inside : (a k : ℕ) (l : List ℕ) → length l ≤ stop_at (outside a k) l → (q : ℕ) → a ≤ q → q < a + k → not (among l q) ≡ true
-unfolding stop_at among
+-- where nothing is found, none of the list is inside
+none_inside : (a k : ℕ) (l : List ℕ) → find (non (outside a k)) l ≡ None → (q : ℕ) → a ≤ q → q < a + k → not (among l q) ≡ true
+unfolding among
 none_inside a k [] h q x y = refl
 none_inside a k (p ∷ l) h q x y = go (outside a k p) refl h (λ g. none_inside a k l g q x y)
   where
-    go : (b : Bool) → outside a k p ≡ b → suc (length l) ≤ cond b (suc (stop_at (outside a k) l)) 0 → (length l ≤ stop_at (outside a k) l → not (among l q) ≡ true)
+    go : (b : Bool) → outside a k p ≡ b → cond (not b) (Some p) (find (non (outside a k)) l) ≡ None → (find (non (outside a k)) l ≡ None → not (among l q) ≡ true)
         → not (eqb q p || among l q) ≡ true
-    go false e g m = absurd (omega arith)
-    go true e g m = rw (ne_eqb q p (λ d. true_false (sym e ∙ ap (outside a k) (sym d) ∙ in_false a k q x y))) (m (omega arith))
+    go false e g m = cc
+    go true e g m = rw (ne_eqb q p (λ d. true_false (sym e ∙ ap (outside a k) (sym d) ∙ in_false a k q x y))) (m g)
 
 -- the measure: fewer are picked where one less is picked and no other is added
 le_many : (P Q : ℕ → Bool) → ((x : ℕ) → P x ≡ true → Q x ≡ true) → (l : List ℕ) → how_many P l ≤ how_many Q l
@@ -132,38 +104,41 @@ le_many P Q f (x ∷ l) = go (P x) (Q x) (f x) (le_many P Q f l)
     go true true e m = omega arith
     go true false e m = true_false (sym (e refl))
 
-pub fewer : (P Q : ℕ → Bool) → ((x : ℕ) → P x ≡ true → Q x ≡ true) → (l : List ℕ) (i : ℕ) → i < length l → P (get_or l i 0) ≡ false → Q (get_or l i 0) ≡ true → how_many P l < how_many Q l
-unfolding how_many
-fewer P Q f [] i h e d = absurd (omega arith)
-fewer P Q f (x ∷ l) zero h e d = rw (e, d) (omega (arith, le_many P Q f l))
-fewer P Q f (x ∷ l) (suc i) h e d = go (P x) (Q x) (f x) (fewer P Q f l i (omega arith) e d)
+fewer : (P Q : ℕ → Bool) → ((x : ℕ) → P x ≡ true → Q x ≡ true) → (p : ℕ) → P p ≡ false → Q p ≡ true → (l : List ℕ) → among l p ≡ true → how_many P l < how_many Q l
+unfolding how_many among
+fewer P Q f p e d [] h = cc
+fewer P Q f p e d (x ∷ l) h = go (eqb p x) refl h (fewer P Q f p e d l)
   where
-    go : (b c : Bool) → (b ≡ true → c ≡ true) → how_many P l < how_many Q l → cond b (suc (how_many P l)) (how_many P l) < cond c (suc (how_many Q l)) (how_many Q l)
-    go false false e m = m
-    go false true e m = omega arith
-    go true true e m = omega arith
-    go true false e m = true_false (sym (e refl))
+    rest : (b c : Bool) → (b ≡ true → c ≡ true) → how_many P l < how_many Q l → cond b (suc (how_many P l)) (how_many P l) < cond c (suc (how_many Q l)) (how_many Q l)
+    rest false false e m = m
+    rest false true e m = omega arith
+    rest true true e m = omega arith
+    rest true false e m = true_false (sym (e refl))
 
--- what the recursion knows: the run has k pages from a on, and entry i is the first whose page is inside it
-module _ (t : List ℕ) (a k i : ℕ) (found : i ≡ stop_at (outside a k) (overlay_pages t)) where
-  none_there : used t ≤ i → (q : ℕ) → a ≤ q → q < a + k → free t q ≡ true
-  none_there h q x y = ap not (overlay_among t q) ∙ none_inside a k (overlay_pages t) (omega (arith, found, length_pages t (used t) 1)) q x y
+    go : (b : Bool) → eqb p x ≡ b → (b || among l p) ≡ true → (among l p ≡ true → how_many P l < how_many Q l)
+        → cond (P x) (suc (how_many P l)) (how_many P l) < cond (Q x) (suc (how_many Q l)) (how_many Q l)
+    go true s h m = let y = sym (eqb-true p x s) in rw (ap P y ∙ e, ap Q y ∙ d) (omega (arith, le_many P Q f l))
+    go false s h m = rest (P x) (Q x) (f x) (m h)
 
-  pub piece_start_all : used t ≤ i → a ≡ start_of (free t) a k
-  piece_start_all h = sym (laws.all_start (free t) a k (none_there h))
+-- what the recursion knows: the run has k pages from a on
+module _ (t : List ℕ) (a k : ℕ) where
+  module _ (none : find (non (outside a k)) (overlay_pages t) ≡ None) where
+    none_there : (q : ℕ) → a ≤ q → q < a + k → free t q ≡ true
+    none_there q x y = ap not (overlay_among t q) ∙ none_inside a k (overlay_pages t) none q x y
 
-  pub piece_len_all : used t ≤ i → k ≡ len_of (free t) a k
-  piece_len_all h = sym (laws.all_len (free t) a k (none_there h))
+    pub piece_start_all : a ≡ start_of (free t) a k
+    piece_start_all = sym (laws.all_start (free t) a k none_there)
 
-  module _ (below : i < used t) (p : ℕ) (read : p ≡ get_or t (1 + 5 * i) 0) where
-    short : i < length (overlay_pages t)
-    short = omega (arith, below, length_pages t (used t) 1)
+    pub piece_len_all : k ≡ len_of (free t) a k
+    piece_len_all = sym (laws.all_len (free t) a k none_there)
 
-    page : get_or (overlay_pages t) i 0 ≡ p
-    page = pages_at t (used t) 1 i below ∙ sym read
-
+  -- and p is the first overlay page inside it
+  module _ (p : ℕ) (some : find (non (outside a k)) (overlay_pages t) ≡ Some p) where
     is_in : outside a k p ≡ false
-    is_in = ap (outside a k) (sym page ∙ ap (λ (j : ℕ). get_or (overlay_pages t) j 0) found) ∙ stop_false (outside a k) (overlay_pages t) (omega (arith, found, short))
+    is_in = (found_inside a k (overlay_pages t) p some).0
+
+    listed : among (overlay_pages t) p ≡ true
+    listed = (found_inside a k (overlay_pages t) p some).1
 
     pub p_low : a ≤ p
     p_low = (false_in a k p is_in).0
@@ -172,24 +147,20 @@ module _ (t : List ℕ) (a k i : ℕ) (found : i ≡ stop_at (outside a k) (over
     p_high = (false_in a k p is_in).1
 
     hole : free t p ≡ false
-    hole = ap not (overlay_among t p ∙ ap (among (overlay_pages t)) (sym page) ∙ among_at (overlay_pages t) i short)
+    hole = ap not (overlay_among t p ∙ listed)
 
     hole' : free t (a + (p - a)) ≡ false
     hole' = let e : a + (p - a) ≡ p = omega (arith, p_low) in ap (free t) e ∙ hole
 
     -- the number of overlays inside falls on both sides
     pub left_falls : inside (overlay_pages t) a (p - a) < inside (overlay_pages t) a k
-    left_falls = fewer (non (outside a (p - a))) (non (outside a k)) wider (overlay_pages t) i short
-        (ap (non (outside a (p - a))) page ∙ ap not (high_true a (p - a) p (omega (arith, p_low))))
-        (ap (non (outside a k)) page ∙ ap not is_in)
+    left_falls = fewer (non (outside a (p - a))) (non (outside a k)) wider p (ap not (high_true a (p - a) p (omega (arith, p_low)))) (ap not is_in) (overlay_pages t) listed
       where
         wider : (x : ℕ) → non (outside a (p - a)) x ≡ true → non (outside a k) x ≡ true
         wider x e = let w = false_in a (p - a) x (not-true _ e) in ap not (in_false a k x w.0 (omega (arith, w.1, p_low, p_high)))
 
     pub right_falls : inside (overlay_pages t) (p + 1) (a + k - (p + 1)) < inside (overlay_pages t) a k
-    right_falls = fewer (non (outside (p + 1) (a + k - (p + 1)))) (non (outside a k)) wider (overlay_pages t) i short
-        (ap (non (outside (p + 1) (a + k - (p + 1)))) page ∙ ap not (low_true (p + 1) (a + k - (p + 1)) p (omega arith)))
-        (ap (non (outside a k)) page ∙ ap not is_in)
+    right_falls = fewer (non (outside (p + 1) (a + k - (p + 1)))) (non (outside a k)) wider p (ap not (low_true (p + 1) (a + k - (p + 1)) p (omega arith))) (ap not is_in) (overlay_pages t) listed
       where
         wider : (x : ℕ) → non (outside (p + 1) (a + k - (p + 1))) x ≡ true → non (outside a k) x ≡ true
         wider x e = let w = false_in (p + 1) (a + k - (p + 1)) x (not-true _ e) in ap not (in_false a k x (omega (arith, w.0, p_low)) (omega (arith, w.0, w.1, p_high)))
@@ -214,6 +185,3 @@ module _ (t : List ℕ) (a k i : ℕ) (found : i ≡ stop_at (outside a k) (over
 
       pub from_right_len : c ≡ 0 → (c' : ℕ) → c' ≡ len_of (free t) (p + 1) (a + k - (p + 1)) → c' ≡ len_of (free t) a k
       from_right_len h c' e = e ∙ sym (ap (len_of (free t) a) cut ∙ laws.right_len (free t) a (p - a) (a + k - (p + 1)) hole' (sym g ∙ h) ∙ ap (λ (m : ℕ). len_of (free t) m (a + k - (p + 1))) after)
-
-pub not_low : (a k p : ℕ) → a ≤ p → leb k (p - a) ≡ outside a k p
-not_low a k p h = rw (le-ltb p a h) refl

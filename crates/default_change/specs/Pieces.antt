@@ -75,11 +75,6 @@ overlay_pages t = pages_from t (used t) 1
 abbrev pub outside : ℕ → ℕ → ℕ → Bool
 outside a k p = cond (ltb p a) true (leb k (p - a))
 
--- how many of a list come before the first that P does not hold of
-unfoldable pub stop_at : (ℕ → Bool) → List ℕ → ℕ
-stop_at P [] = 0
-stop_at P (p ∷ ps) = cond (P p) (suc (stop_at P ps)) 0
-
 -- how many of a list P holds of
 unfoldable pub how_many : (ℕ → Bool) → List ℕ → ℕ
 how_many P [] = 0

@@ -1,11 +1,11 @@
 // What a default change looks at: its pieces, which are runs of private RAM pages split at the overlay pages inside them.
 #![tactic(auto)]
 
-ghost use Rattle.std.specs.Prelude.{◌≡◌, true, false, cond, ◌+◌, ◌-◌, ◌/◌, ◌<◌, ◌≤◌, ◌^◌, ltb, length, get_or};
+ghost use Rattle.std.specs.Prelude.{◌≡◌, true, false, cond, ◌+◌, ◌-◌, ◌/◌, ◌<◌, ◌≤◌, ◌^◌, ltb, length, get_or, find};
 ghost use Rattle.bitmap.specs.Pages.{bit_at};
 ghost use Rattle.layout.specs.Layout.{entries_of};
 ghost use Rattle.page_list.specs.Runs.{part};
-ghost use Rattle.default_change.specs.Pieces.{span, start_of, len_of, piece_of, next_piece, free, wanted, private_ram, is, overlay_pages, outside, stop_at};
+ghost use Rattle.default_change.specs.Pieces.{span, start_of, len_of, piece_of, next_piece, free, wanted, private_ram, is, overlay_pages, non, outside};
 ghost use Rattle.default_change.specs.Barred.{barring, any_of, barred};
 ghost use Rattle.default_change.specs.Renewed.{renewed_at, renewed};
 
@@ -16,23 +16,20 @@ use page_list::PageRun;
 fn is_outside(first: u64, count: u64, p: u64) -> bool
     ensures { result ≡ outside first count p }
 {
-    if p < first { true } else { count <= p - first }
+    p < first || count <= p - first
 }
 
-// How many overlay entries come before the first whose page is inside a run.
-fn find_inside(overlays: &[u64], first: u64, count: u64) -> u64
-    ensures { result ≡ stop_at (outside first count) (overlay_pages overlays.now) }
+// The page of the first overlay entry whose page is inside a run.
+fn find_inside(overlays: &[u64], first: u64, count: u64) -> Option<u64>
+    ensures { result ≡ find (non (outside first count)) (overlay_pages overlays.now) }
 {
-    let n = overlay_table::entry_count(overlays);
-    let mut i: u64 = 0;
-    while i < n {
+    for i in 0..overlay_table::entry_count(overlays) {
         let p = numbers::word_at(overlays, 1 + overlay::WORDS * i);
         if !is_outside(first, count, p) {
-            return i;
+            return Some(p);
         }
-        i += 1;
     }
-    i
+    None
 }
 
 // Of a run of pages, the leftmost stretch without an overlay page; the run's end and 0 where there is none. Where there is an overlay
@@ -41,14 +38,9 @@ fn first_piece(overlays: &[u64], first: u64, count: u64) -> PageRun
     requires { first + count < 2 ^ 64 }
     ensures { (result.first ≡ start_of (free overlays.now) first count) × (result.count ≡ len_of (free overlays.now) first count) }
 {
-    let i = find_inside(overlays, first, count);
-    if overlay_table::entry_count(overlays) <= i {
-        return PageRun {
-            first: first,
-            count: count,
-        };
-    }
-    let p = numbers::word_at(overlays, 1 + overlay::WORDS * i);
+    let Some(p) = find_inside(overlays, first, count) else {
+        return PageRun { first, count };
+    };
     let left = first_piece(overlays, first, p - first);
     if left.count != 0 {
         return left;
@@ -60,17 +52,13 @@ fn first_piece(overlays: &[u64], first: u64, count: u64) -> PageRun
 fn byte_at(map: &[u8], i: u64) -> u8
     ensures { result ≡ get_or map.now i 0 }
 {
-    let k = i as usize;
-    if k < map.len() { map[k] } else { 0 }
+    map.get(i as usize).copied().unwrap_or(0)
 }
 
 fn is_state(map: &[u8], state: bool, p: u64) -> bool
     ensures { result ≡ is state map.now p }
 {
-    if state {
-        return bitmap::page_state(map, p);
-    }
-    !bitmap::page_state(map, p)
+    bitmap::page_state(map, p) == state
 }
 
 // Whether the eight pages from p on are a byte before the end, and all have the state.
@@ -78,13 +66,7 @@ fn is_alike_byte(map: &[u8], state: bool, p: u64, end: u64) -> bool
     requires { p < end }
     ensures { result ≡ true → (p + 8 ≤ end) × (span (is state map.now) p 8 ≡ 8) }
 {
-    if byte_at(map, p / 8) != bitmap::full(state) {
-        return false;
-    }
-    if p % 8 != 0 {
-        return false;
-    }
-    8 <= end - p
+    byte_at(map, p / 8) == bitmap::full(state) && p % 8 == 0 && 8 <= end - p
 }
 
 // How many pages are passed where the eight of a byte have the state: these, or all that are left where the byte is past the map.
@@ -101,18 +83,19 @@ fn step(map: &[u8], state: bool, p: u64, end: u64) -> u64
     ensures { (p + result ≤ end) × (span (is state map.now) p result ≡ result) × (result ≡ 0 → is state map.now p ≡ false) }
 {
     if is_alike_byte(map, state, p, end) {
-        return byte_step(map, p, end);
+        byte_step(map, p, end)
+    } else if is_state(map, state, p) {
+        1
+    } else {
+        0
     }
-    if is_state(map, state, p) {
-        return 1;
-    }
-    0
 }
 
 // The first page from `from` on and before the end that does not have the state; the end where there is none.
 fn scan(map: &[u8], state: bool, from: u64, end: u64) -> u64
     ensures { result ≡ from + span (is state map.now) from (end - from) }
 {
+    // Kept: each turn passes a byte, a page or all that are left.
     let mut p = from;
     while p < end {
         let k = step(map, state, p, end);
@@ -141,6 +124,7 @@ fn next_private_run(private: &[u8], from: u64, end: u64) -> PageRun
 fn piece_between(private: &[u8], overlays: &[u64], from: u64, end: u64) -> PageRun
     ensures { result ≡ piece_of (wanted private.now overlays.now) from end }
 {
+    // Kept: each turn passes all up to the next overlay page.
     let mut at = from;
     while at < end {
         let gap = first_piece(overlays, at, end - at);
@@ -162,16 +146,13 @@ pub fn next_piece(private: &[u8], overlays: &[u64], ram: &[u64], at: u64) -> Pag
     ensures value { result ≡ next_piece private.now overlays.now (entries_of ram.now) at }
     ensures count_bound { result.first + result.count < 2 ^ 64 }
 {
-    let n = layout::entry_count(ram);
-    let mut i: u64 = 0;
-    while i < n {
+    for i in 0..layout::entry_count(ram) {
         let e = layout::entry_at(ram, i);
         let from = numbers::max(layout::page_up(e.start), at);
         let piece = piece_between(private, overlays, from, layout::page_up(e.end));
         if piece.count != 0 {
             return piece;
         }
-        i += 1;
     }
     PageRun { first: 0, count: 0 }
 }
@@ -179,20 +160,14 @@ pub fn next_piece(private: &[u8], overlays: &[u64], ram: &[u64], at: u64) -> Pag
 fn is_private_ram(private: &[u8], ram: &[u64], p: u64) -> bool
     ensures { result ≡ private_ram private.now (entries_of ram.now) p }
 {
-    if !layout::is_in_guest_memory(ram, p) {
-        return false;
-    }
-    bitmap::page_state(private, p)
+    layout::is_in_guest_memory(ram, p) && bitmap::page_state(private, p)
 }
 
 // Whether a page is protected by a default change, and so must not be locked.
 fn is_barring(private: &[u8], overlays: &[u64], ram: &[u64], p: u64) -> bool
     ensures { result ≡ barring private.now overlays.now (entries_of ram.now) p }
 {
-    if !is_private_ram(private, ram, p) {
-        return false;
-    }
-    !overlay_table::is_overlay(overlays, p)
+    is_private_ram(private, ram, p) && !overlay_table::is_overlay(overlays, p)
 }
 
 // Whether one of the pages at the places from `from` to before `to` is.
@@ -207,13 +182,10 @@ fn is_any_barring(
     ensures { result ≡ any_of (barring private.now overlays.now (entries_of ram.now)) (part locks.now to from) }
 {
     let end = numbers::min(to, locks.len() as u64);
-    let mut i = from;
-    while i < end {
-        let p = numbers::word_at(locks, i);
-        if is_barring(private, overlays, ram, p) {
+    for i in from..end {
+        if is_barring(private, overlays, ram, numbers::word_at(locks, i)) {
             return true;
         }
-        i += 1;
     }
     false
 }
@@ -240,11 +212,8 @@ fn update_previous_at(overlays: &mut [u64], private: &[u8], ram: &[u64], place: 
 pub fn update_previous_permissions(overlays: &mut [u64], private: &[u8], ram: &[u64], bits: u64)
     ensures { overlays.new ≡ renewed private.now (entries_of ram.now) bits overlays.old }
 {
-    let mut left = overlay_table::entry_count(overlays);
-    let mut place: u64 = 1;
-    while 0 < left {
+    for index in 0..overlay_table::entry_count(overlays) {
+        let place = 1 + overlay::WORDS * index;
         update_previous_at(overlays, private, ram, place, bits);
-        place += overlay::WORDS;
-        left -= 1;
     }
 }

@@ -1,7 +1,6 @@
 -- Laws of the loops over lists and pages, how they end and go on, and of what lock and unlock return. Assumes nothing.
 use mathlib.Core.Bool.{Bool, true, false, cond, not, ◌&&◌, ◌||◌}
 use mathlib.Core.List.{List, [], ◌∷◌}
-use mathlib.Core.Logic.{⊎_elim}
 use mathlib.Core.Path.{◌≡◌, refl, sym, ap, ap₂, ◌∙◌}
 use Prim.Native.Nat.{ℕ, zero, suc, ◌+◌, ◌-◌, ◌≤◌, ◌<◌, min, max}
 use native.Mathlib.Numerals.{add-one}
@@ -9,8 +8,8 @@ use native.Mathlib.Omega.{arith}
 use lib.Dec.{eqb, ltb, leb}
 use lib.ListN.{length, get_or, set, take, drop, length-take, length-drop, drop_of_length-le}
 use lib.Seq.{drop-cons, get_or-take, sets}
-use borrow.Author.Tests.{eq-eqb, ne_eqb, lt-ltb, le-ltb, le-leb, lt-leb, leb-true, not-true, not-false}
-use Rattle.laws.specs.Bools.{and_true, and_false, and_right, lt_or_le}
+use borrow.Author.Tests.{eq-eqb, ne_eqb, le-leb, lt-leb, leb-true, not-true, not-false}
+use Rattle.laws.specs.Bools.{and_false, and_right}
 use Rattle.words.specs.Words.{closed_to, swapped}
 use Rattle.words.proofs.Laws.{swapped_none}
 use Rattle.page_list.specs.Runs.{part}
@@ -44,18 +43,6 @@ end_none t (suc k) h = absurd (omega arith)
 pub end_some : (t : List ℕ) (k : ℕ) → 0 < k → end_of t k ≡ min 1024 (get_or t k 0)
 end_some t zero h = absurd (omega arith)
 end_some t (suc k) h = refl
-
-pub room_lists : (c sum n : ℕ) → 64 ≤ c → false ≡ (ltb c 64 && leb (sum + n) 1024)
-room_lists c sum n h = rw (le-ltb c 64 h) refl
-
-pub room_pages : (c sum n : ℕ) → 1024 < sum → false ≡ (ltb c 64 && leb (sum + n) 1024)
-room_pages c sum n h = sym (and_false (ltb c 64) (leb (sum + n) 1024) (lt-leb (sum + n) 1024 (omega arith)))
-
-pub room_left : (c sum n : ℕ) → c < 64 → sum ≤ 1024 → leb n (1024 - sum) ≡ (ltb c 64 && leb (sum + n) 1024)
-room_left c sum n h g =
-    ⊎_elim (λ (d : 1024 - sum < n). lt-leb n (1024 - sum) d ∙ sym (and_false (ltb c 64) (leb (sum + n) 1024) (lt-leb (sum + n) 1024 (omega arith))))
-    (λ (d : n ≤ 1024 - sum). le-leb n (1024 - sum) d ∙ sym (and_true (ltb c 64) (leb (sum + n) 1024) (lt-ltb c 64 h) (le-leb (sum + n) 1024 (omega arith))))
-    (lt_or_le (1024 - sum) n)
 
 pub room_sum : (b : Bool) (c sum n : ℕ) → b ≡ (ltb c 64 && leb (sum + n) 1024) → b ≡ true → sum + n ≤ 1024
 room_sum b c sum n e h = leb-true (sum + n) 1024 (and_right (ltb c 64) (leb (sum + n) 1024) (sym e ∙ h))

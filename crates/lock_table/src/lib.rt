@@ -1,7 +1,7 @@
 // The locked page lists of one VTL in a lent run of words: how many, then how many pages the first k of them have together, then the pages of all.
 #![tactic(auto)]
 
-ghost use Rattle.std.specs.Prelude.{◌≡◌, ◌&&◌, ◌+◌, ◌-◌, ◌≤◌, ◌<◌, min, max, ltb, leb, get_or};
+ghost use Rattle.std.specs.Prelude.{◌≡◌, ◌&&◌, ◌+◌, ◌-◌, ◌≤◌, ◌<◌, min, max, ltb, leb, get_or, MatchOption};
 ghost use Rattle.std.proofs.lemmas.List.Edits.{sets};
 ghost use Rattle.abi.specs.Limits as limit;
 ghost use Rattle.words.specs.Words.{swapped};
@@ -33,10 +33,7 @@ fn end_of(table: &[u64], k: u64) -> u64
     ensures value { result ≡ end_of table.now k }
     ensures upper_bound { result ≤ limit.locked_pages }
 {
-    if k == 0 {
-        return 0;
-    }
-    end_at(table, k)
+    if k == 0 { 0 } else { end_at(table, k) }
 }
 
 // The place after the last locked page.
@@ -51,13 +48,10 @@ fn is_among(table: &[u64], from: u64, to: u64, gpn: u64) -> bool
     ensures { result ≡ among (part table.now to from) gpn }
 {
     let end = numbers::min(to, table.len() as u64);
-    let mut i = from;
-    while i < end {
-        let p = numbers::word_at(table, i);
-        if gpn == p {
+    for i in from..end {
+        if gpn == numbers::word_at(table, i) {
             return true;
         }
-        i += 1;
     }
     false
 }
@@ -73,25 +67,15 @@ pub fn holds(table: &[u64], gpn: u64) -> bool
 fn has_room(c: u64, sum: u64, n: u64) -> bool
     ensures { result ≡ (ltb c limit.locked_lists && leb (sum + n) limit.locked_pages) }
 {
-    if limit::LOCKED_LISTS <= c {
-        return false;
-    }
-    if limit::LOCKED_PAGES < sum {
-        return false;
-    }
-    n <= limit::LOCKED_PAGES - sum
+    c < limit::LOCKED_LISTS && sum <= limit::LOCKED_PAGES && n <= limit::LOCKED_PAGES - sum
 }
 
 // The pages of a list, written from a place on.
 fn put_pages(table: &mut [u64], place: u64, list: &[u8])
     ensures { table.new ≡ sets table.old place (pages_of list.now) }
 {
-    let n = page_list::page_count(list);
-    let mut i: u64 = 0;
-    while i < n {
-        let p = page_list::page_at(list, i);
-        words::put_after(table, place, i, p);
-        i += 1;
+    for i in 0..page_list::page_count(list) {
+        words::put_after(table, place, i, page_list::page_at(list, i));
     }
 }
 
@@ -120,33 +104,27 @@ fn is_same(table: &[u64], from: u64, to: u64, list: &[u8]) -> bool
     if numbers::saturating_sub(end, from) != n {
         return false;
     }
-    let mut i: u64 = 0;
-    while i < n {
-        let p = page_list::page_at(list, i);
-        let w = numbers::word_at(table, from + i);
-        if w != p {
+    for i in 0..n {
+        if numbers::word_at(table, from + i) != page_list::page_at(list, i) {
             return false;
         }
-        i += 1;
     }
     true
 }
 
-// The first of n lists with the same pages: n where there is none.
-fn find(table: &[u64], n: u64, list: &[u8]) -> u64
-    ensures { result ≡ equal_from table.now n 0 (pages_of list.now) }
+// The first of n lists with the same pages.
+fn find(table: &[u64], n: u64, list: &[u8]) -> Option<u64>
+    ensures { MatchOption result (equal_from table.now n 0 (pages_of list.now) ≡ n) (λ k. (k ≡ equal_from table.now n 0 (pages_of list.now)) × (k < n)) }
 {
     let mut from = FIRST_PAGE;
-    let mut k: u64 = 0;
-    while k < n {
+    for k in 0..n {
         let to = FIRST_PAGE + end_at(table, k + 1);
         if is_same(table, from, to, list) {
-            return k;
+            return Some(k);
         }
         from = to;
-        k += 1;
     }
-    k
+    None
 }
 
 // Of what stands from `end` on, the last list, from `last` to before `to`, comes first.
@@ -163,11 +141,9 @@ fn move_ends(table: &mut [u64], from: u64, to: u64, less: u64, more: u64)
     requires { more ≤ limit.locked_pages + limit.locked_pages }
     ensures { table.new ≡ moved table.old (to - from) from less more }
 {
-    let mut k = from;
-    while k < to {
+    for k in from..to {
         let end = end_at(table, k);
         words::put(table, k, numbers::saturating_sub(end, less) + more);
-        k += 1;
     }
 }
 
@@ -203,10 +179,9 @@ pub fn unlock(table: &mut [u64], list: &[u8]) -> u64
     ensures { (result ≡ unlock_code table.old (pages_of list.now)) × (table.new ≡ unlock_words table.old (pages_of list.now)) }
 {
     let c = list_count(table);
-    let i = find(table, c, list);
-    if c <= i {
+    let Some(i) = find(table, c, list) else {
         return refusal::NOT_LOCKED;
-    }
+    };
     remove_list(table, c, i);
     0
 }

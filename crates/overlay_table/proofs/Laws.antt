@@ -1,19 +1,18 @@
--- Laws of the search, how it ends and goes on, of entries that are loaded, and of what is added. Assumes nothing.
+-- Laws of the search, how it ends and goes on, and of entries that are loaded. Assumes nothing.
 use mathlib.Core.Bool.{Bool, true, false, cond}
 use mathlib.Core.List.{List, [], ◌∷◌}
 use mathlib.Core.Path.{◌≡◌, refl, sym, ap, ap₂, subst, ◌∙◌}
 use Prim.Native.Nat.{ℕ, zero, suc, ◌+◌, ◌-◌, ◌*◌, ◌≤◌, ◌<◌}
 use native.Mathlib.Omega.{arith}
-use lib.Dec.{eqb, ltb}
-use lib.ListN.{length, get_or, set, take, length-take}
-use lib.Seq.{sets}
-use borrow.Author.Tests.{eq-eqb, ne_eqb, lt-ltb, le-ltb}
-use Rattle.overlay_table.specs.declared.OverlayPage.{OverlayPage}
+use lib.Dec.{eqb}
+use lib.ListN.{length, get_or, take, length-take}
+use borrow.Author.Tests.{eq-eqb, ne_eqb}
 use Rattle.overlay_table.specs.declared.OverlayKey.{OverlayKey}
-use Rattle.overlay_table.specs.declared.Found.{Found}
-use Rattle.overlay_table.specs.declared.Found.TheVariants.{At, Nothing}
-use Rattle.overlay_table.specs.Search.{is_of, pick, find_from, key_of, key_at, keys_from, loaded, place_for}
-use Rattle.overlay_table.specs.Overlays.{words_of, used, place_from, entry, entry_at, add_code, add_words}
+use Rattle.std.specs.Prelude.{Option, Some, None, position}
+use Rattle.std.proofs.lemmas.Iterator.Adapters.{position_from-zero}
+use Rattle.std.specs.List.{position_from}
+use Rattle.overlay_table.specs.Search.{is_of, find_from, key_of, key_at, keys_from, loaded, place_for}
+use Rattle.overlay_table.specs.Overlays.{place_from}
 
 module _ (t : List ℕ) (o p q : ℕ) where
   pub place_hit : (k : ℕ) → 0 < k → q ≡ get_or t o 0 → p ≡ q → place_from t k o p ≡ o
@@ -71,16 +70,25 @@ module _ (t : List ℕ) (x : OverlayKey) where
           let b : o + 5 + 5 * f ≡ o + 5 * suc f = omega arith in
           m z ∙ ap₂ (λ (y w : ℕ). place_for t y w x) a b
 
+-- ---- the first of entries, by the library's word
+positions : (es : List OverlayKey) (x : OverlayKey) (i : ℕ) → position_from (λ e. is_of e x) i es ≡ find_from es x i
+unfolding find_from
+positions [] x i = refl
+positions (e ∷ es) x i = ap (cond (is_of e x) (Some i)) (positions es x (i + 1))
+
+pub first : (es : List OverlayKey) (x : OverlayKey) (r : Option ℕ) → r ≡ position (λ e. is_of e x) es → r ≡ find_from es x 0
+first es x r h = h ∙ position_from-zero (λ e. is_of e x) es ∙ positions es x 0
+
 -- ---- entries that are loaded
 
 -- where an entry that was found stands, and which of them it is
-abbrev place_in : ℕ → Found → ℕ
-place_in o (At i) = o + 5 * i
-place_in o Nothing = 0
+abbrev place_in : ℕ → Option ℕ → ℕ
+place_in o (Some i) = o + 5 * i
+place_in o None = 0
 
-abbrev index : Found → ℕ
-index (At i) = i
-index Nothing = 0
+abbrev index : Option ℕ → ℕ
+index (Some i) = i
+index None = 0
 
 -- the search of words and the search of entries
 listed : (t : List ℕ) (x : OverlayKey) (o k i : ℕ) → place_for t k (o + 5 * i) x ≡ place_in o (find_from (keys_from t k (o + 5 * i)) x i)
@@ -89,7 +97,7 @@ listed t x o zero i = refl
 listed t x o (suc k) i = go (is_of (key_at t (o + 5 * i)) x) (listed t x o k (i + 1))
   where
     go : (b : Bool) → place_for t k (o + 5 * (i + 1)) x ≡ place_in o (find_from (keys_from t k (o + 5 * (i + 1))) x (i + 1))
-        → cond b (o + 5 * i) (place_for t k (o + 5 * i + 5) x) ≡ place_in o (pick b (At i) (find_from (keys_from t k (o + 5 * i + 5)) x (i + 1)))
+        → cond b (o + 5 * i) (place_for t k (o + 5 * i + 5) x) ≡ place_in o (cond b (Some i) (find_from (keys_from t k (o + 5 * i + 5)) x (i + 1)))
     go true m = refl
     go false m = let d : o + 5 * i + 5 ≡ o + 5 * (i + 1) = omega arith in rw d m
 
@@ -98,7 +106,7 @@ unfolding find_from
 few_index [] x i = omega arith
 few_index (e ∷ es) x i = go (is_of e x) (few_index es x (i + 1))
   where
-    go : (b : Bool) → index (find_from es x (i + 1)) ≤ i + 1 + length es → index (pick b (At i) (find_from es x (i + 1))) ≤ i + suc (length es)
+    go : (b : Bool) → index (find_from es x (i + 1)) ≤ i + 1 + length es → index (cond b (Some i) (find_from es x (i + 1))) ≤ i + suc (length es)
     go true m = omega arith
     go false m = omega arith
 
@@ -128,42 +136,17 @@ module _ (t : List ℕ) (o : ℕ) where
   taken (suc (suc (suc (suc zero)))) h = more _ _ _ _ e0 (more _ _ _ _ e1 (more _ _ _ _ e2 (more _ _ _ _ e3 refl)))
   taken (suc (suc (suc (suc (suc k))))) h = absurd (omega arith)
 
-  module _ (x : OverlayKey) (few : ℕ) (es : List OverlayKey) (r : Found) (h : few ≤ 4) (is : es ≡ loaded t o few) (f : r ≡ find_from (take few es) x 0) where
+  module _ (x : OverlayKey) (few : ℕ) (es : List OverlayKey) (r : Option ℕ) (h : few ≤ 4) (is : es ≡ loaded t o few) (f : r ≡ find_from (take few es) x 0) where
     few_place : place_in o r ≡ place_for t few o x
     few_place =
         ap (place_in o) (f ∙ ap (λ (zs : List OverlayKey). find_from (take few zs) x 0) is ∙ ap (λ (zs : List OverlayKey). find_from zs x 0) (taken few h))
         ∙ subst (λ (k : ℕ). place_in o (find_from (keys_from t few k) x 0) ≡ place_for t few k x) e0 (sym (listed t x o few 0))
 
-    pub few_at : (i : ℕ) → r ≡ At i → o + 5 * i ≡ place_for t few o x
+    pub few_at : (i : ℕ) → r ≡ Some i → o + 5 * i ≡ place_for t few o x
     few_at i e = ap (place_in o) (sym e) ∙ few_place
 
-    pub few_none : r ≡ Nothing → 0 ≡ place_for t few o x
+    pub few_none : r ≡ None → 0 ≡ place_for t few o x
     few_none e = ap (place_in o) (sym e) ∙ few_place
 
-    pub few_fits : (i : ℕ) → r ≡ At i → i ≤ few
-    few_fits i e = subst (λ (y : Found). index y ≤ few) (sym f ∙ e) (omega (arith, few_index (take few es) x 0, length-take few es))
-
--- ---- one entry more, by the code's writes
-module _ (t : List ℕ) (e : OverlayPage) (n : ℕ) (is : n ≡ used t) where
-  pub add_full : 128 ≤ n → (17 ≡ add_code t) × (t ≡ add_words t e)
-  add_full h = let b : ltb (used t) 128 ≡ false = le-ltb (used t) 128 (omega arith) in (rw b refl, rw b refl)
-
-  pub add_made : n < 128 → (o : ℕ) (t1 t2 t3 t4 t5 t6 : List ℕ) → o ≡ 1 + 5 * n
-      → t1 ≡ set t o e.gpn → t2 ≡ set t1 (o + 1) e.previous_permissions → t3 ≡ set t2 (o + 2) e.overlay_permissions → t4 ≡ set t3 (o + 3) e.ref_count
-      → t5 ≡ set t4 (o + 4) e.gpn_source → t6 ≡ set t5 0 (n + 1) → (0 ≡ add_code t) × (t6 ≡ add_words t e)
-  add_made h o t1 t2 t3 t4 t5 t6 at a b c d f g =
-      let y : ltb (used t) 128 ≡ true = lt-ltb (used t) 128 (omega arith) in
-      let all : t5 ≡ sets t o (words_of e) = rw (f, d, c, b, a) (five o) in
-      (rw y refl, rw y (g ∙ rw (all, at, is) refl))
-    where
-      five : (o : ℕ) → set (set (set (set (set t o e.gpn) (o + 1) e.previous_permissions) (o + 2) e.overlay_permissions) (o + 3) e.ref_count) (o + 4) e.gpn_source ≡ sets t o (words_of e)
-      five o =
-          let p : o + 1 ≡ suc o = omega arith in
-          let q : o + 2 ≡ suc (suc o) = omega arith in
-          let r : o + 3 ≡ suc (suc (suc o)) = omega arith in
-          let s : o + 4 ≡ suc (suc (suc (suc o))) = omega arith in
-          rw (p, q, r, s) refl
-
-pub entry_read : (t : List ℕ) (o a b c d e : ℕ) → a ≡ get_or t o 0 → b ≡ get_or t (o + 1) 0 → c ≡ get_or t (o + 2) 0 → d ≡ get_or t (o + 3) 0 → e ≡ get_or t (o + 4) 0
-    → entry a b c d e ≡ entry_at t o
-entry_read t o a b c d e p q r s u = rw (p, q, r, s, u) refl
+    pub few_fits : (i : ℕ) → r ≡ Some i → i ≤ few
+    few_fits i e = subst (λ (y : Option ℕ). index y ≤ few) (sym f ∙ e) (omega (arith, few_index (take few es) x 0, length-take few es))

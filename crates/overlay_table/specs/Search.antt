@@ -1,24 +1,18 @@
 -- The first of a list of overlay entries that a key is of, and the entries that are loaded from a table's words.
 -- What tells entries apart is said in `is_of` and `key_at` alone.
 -- Assumes nothing.
-use Rattle.std.specs.Prelude.{ℕ, zero, suc, ◌+◌, ◌*◌, List, [], ◌∷◌, Bool, true, false, cond, eqb, ltb, get_or}
+use Rattle.std.specs.Prelude.{ℕ, zero, suc, ◌+◌, ◌*◌, List, [], ◌∷◌, Bool, cond, Option, Some, None, eqb, ltb, get_or}
 use Rattle.abi.specs.Overlay as overlay
 use Rattle.overlay_table.specs.declared.OverlayKey.{OverlayKey}
-use Rattle.overlay_table.specs.declared.Found.{Found}
-use Rattle.overlay_table.specs.declared.Found.TheVariants.{At, Nothing}
 
 -- whether an entry is the one that is looked for
 abbrev pub is_of : OverlayKey → OverlayKey → Bool
 is_of entry key = eqb key.gpn entry.gpn
 
-abbrev pub pick : Bool → Found → Found → Found
-pick true a b = a
-pick false a b = b
-
 -- the search in what is left of the list, whose first element stands at i
-unfoldable pub find_from : List OverlayKey → OverlayKey → ℕ → Found
-find_from [] key i = Nothing
-find_from (e ∷ es) key i = pick (is_of e key) (At i) (find_from es key (i + 1))
+unfoldable pub find_from : List OverlayKey → OverlayKey → ℕ → Option ℕ
+find_from [] key i = None
+find_from (e ∷ es) key i = cond (is_of e key) (Some i) (find_from es key (i + 1))
 
 -- the key of a page
 abbrev pub key_of : ℕ → OverlayKey

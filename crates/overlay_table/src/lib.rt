@@ -1,7 +1,7 @@
 // The overlay pages of one VTL in a lent run of words: how many, then five words for each in order of registration.
 #![tactic(auto)]
 
-ghost use Rattle.std.specs.Prelude.{◌≡◌, ◌+◌, ◌*◌, ◌≤◌, ◌<◌, length, take};
+ghost use Rattle.std.specs.Prelude.{◌≡◌, ◌+◌, ◌*◌, ◌≤◌, ◌<◌, length, take, position};
 ghost use Rattle.abi.specs.Overlay as overlay;
 ghost use Rattle.overlay_table.specs.Search.{is_of, find_from, key_in, loaded, place_for};
 ghost use Rattle.overlay_table.specs.Overlays.{used, place_of, is_overlay, entry_at, add_code, add_words, previous_words, count_words, remove_words};
@@ -24,43 +24,26 @@ pub struct OverlayPage {
     pub gpn_source: u64,
 }
 
-// Where a page stands among entries.
-#[derive(Clone, Copy)]
-pub enum Found {
-    At(usize),
-    Nothing,
-}
-
-// What tells entries apart: what a search reads of an entry, and what it looks for.
-#[derive(Clone, Copy)]
+// What tells entries apart: what a search reads of an entry, and compares with what it looks for.
+#[derive(Clone, Copy, PartialEq, Eq)]
 pub struct OverlayKey {
     pub gpn: u64,
 }
 
-// Whether an entry is the one that is looked for.
-fn is_of(entry: OverlayKey, key: OverlayKey) -> bool
-    ensures { result ≡ is_of entry key }
-{
-    key.gpn == entry.gpn
-}
-
 // Of the first entries of a lent run, the first of a key.
-fn find_in(entries: &[OverlayKey], used: usize, key: OverlayKey) -> Found
+fn find_in(entries: &[OverlayKey], used: usize, key: OverlayKey) -> Option<usize>
     requires { used ≤ length entries.now }
-    ensures { result ≡ find_from (take used entries.now) key 0 }
+    ensures { result ≡ position (λ e. is_of e key) (take used entries.now) }
 {
-    let mut index = 0;
-    while index < used {
-        if is_of(entries[index], key) {
-            return Found::At(index);
-        }
-        index += 1;
-    }
-    Found::Nothing
+    entries[..used].iter().position(|entry| *entry == key)
 }
 
 // The same of entries by value, which are lent to it.
-fn find_loaded(entries: [OverlayKey; LOADED as usize], used: usize, key: OverlayKey) -> Found
+fn find_loaded(
+    entries: [OverlayKey; LOADED as usize],
+    used: usize,
+    key: OverlayKey,
+) -> Option<usize>
     requires { used ≤ 4 }
     ensures { result ≡ find_from (take used entries) key 0 }
 {
@@ -78,15 +61,11 @@ pub fn entry_count(table: &[u64]) -> u64
 fn find(table: &[u64], gpn: u64) -> u64
     ensures { result ≡ place_of table.now gpn }
 {
-    let mut left = entry_count(table);
-    let mut place: u64 = 1;
-    while 0 < left {
-        let page = numbers::word_at(table, place);
-        if gpn == page {
+    for index in 0..entry_count(table) {
+        let place = 1 + overlay::WORDS * index;
+        if gpn == numbers::word_at(table, place) {
             return place;
         }
-        place += overlay::WORDS;
-        left -= 1;
     }
     0
 }
@@ -123,8 +102,8 @@ fn find_few(table: &[u64], place: u64, few: u64, key: OverlayKey) -> u64
 {
     let entries = load(table, place, few);
     match find_loaded(entries, few as usize, key) {
-        Found::At(index) => place + overlay::WORDS * (index as u64),
-        Found::Nothing => 0,
+        Some(index) => place + overlay::WORDS * (index as u64),
+        None => 0,
     }
 }
 
@@ -133,15 +112,11 @@ fn find_left(table: &[u64], from: u64, count: u64, key: OverlayKey) -> u64
     requires { (0 < from) × (from + overlay.words * count ≤ length table.now) }
     ensures { result ≡ place_for table.now count from key }
 {
-    let mut rest = count;
-    let mut place = from;
-    while 0 < rest {
-        let found = find_few(table, place, 1, key);
+    for index in 0..count {
+        let found = find_few(table, from + overlay::WORDS * index, 1, key);
         if found != 0 {
             return found;
         }
-        place += overlay::WORDS;
-        rest -= 1;
     }
     0
 }
@@ -154,17 +129,16 @@ pub fn find_entry(table: &[u64], gpn: u64) -> u64
         return find(table, gpn);
     }
     let key = OverlayKey { gpn: gpn };
-    let mut left = entry_count(table);
-    let mut place: u64 = 1;
-    while LOADED <= left {
-        let found = find_few(table, place, LOADED, key);
+    let count = entry_count(table);
+    let loads = count / LOADED;
+    for load in 0..loads {
+        let found = find_few(table, 1 + LOADED * overlay::WORDS * load, LOADED, key);
         if found != 0 {
             return found;
         }
-        place += LOADED * overlay::WORDS;
-        left -= LOADED;
     }
-    find_left(table, place, left, key)
+    let place = 1 + LOADED * overlay::WORDS * loads;
+    find_left(table, place, count % LOADED, key)
 }
 
 pub fn is_overlay(table: &[u64], gpn: u64) -> bool

@@ -57,25 +57,19 @@ pub fn ram_before(ram: &[u64], list: &[u8]) -> u64
     ensures { result ≡ stop_at (is_ram (entries_of ram.now)) (pages_of list.now) }
 {
     let count = page_list::page_count(list);
-    let mut i: u64 = 0;
-    while i < count {
+    for i in 0..count {
         let gpn = page_list::page_at(list, i);
         if !layout::is_in_guest_memory(ram, gpn) {
             return i;
         }
-        i += 1;
     }
-    i
+    count
 }
 
 fn shared_byte(shared: &[u8], gpn: u64) -> u8
     ensures { result ≡ digit (bit_at 8 shared.now gpn) }
 {
-    if bitmap::page_state(shared, gpn) {
-        1
-    } else {
-        0
-    }
+    u8::from(bitmap::page_state(shared, gpn))
 }
 
 // A byte for each page of a list, as far as the output goes.
@@ -83,9 +77,7 @@ pub fn fill(out: &mut [u8], shared: &[u8], list: &[u8])
     ensures { out.new ≡ filled_by (visibilities shared.now (pages_of list.now)) out.old }
 {
     let end = numbers::min(page_list::page_count(list), out.len() as u64) as usize;
-    let mut i: usize = 0;
-    while i < end {
+    for i in 0..end {
         out[i] = shared_byte(shared, page_list::page_at(list, i as u64));
-        i += 1;
     }
 }

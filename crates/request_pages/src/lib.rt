@@ -30,25 +30,19 @@ pub fn stop_at(read: &[u8], write: &[u8], asked: bool, list: &[u8]) -> u64
     if !asked {
         return n;
     }
-    let mut i: u64 = 0;
-    while i < n {
+    for i in 0..n {
         if !is_readable_and_writable(read, write, page_list::page_at(list, i)) {
             return i;
         }
-        i += 1;
     }
-    i
+    n
 }
 
 // Whether a page's shared mark isn't yet as asked.
 fn is_wanted(shared: &[u8], share: bool, gpn: u64) -> bool
     ensures { result ≡ wanted shared.now share gpn }
 {
-    if bitmap::page_state(shared, gpn) {
-        !share
-    } else {
-        share
-    }
+    bitmap::page_state(shared, gpn) != share
 }
 
 // A page stored with its place behind those stored before, where it is kept; how many are stored then.
@@ -60,9 +54,10 @@ fn store_one(pages: &mut [u64], stored: u64, gpn: u64, place: u64, keep: bool) -
         let i = stored as usize;
         pages[i] = gpn;
         pages[PLACES_START + i] = place;
-        return stored + 1;
+        stored + 1
+    } else {
+        stored
     }
-    stored
 }
 
 // The pages before place `stop` of a list that are wanted, with their places; how many they are.
@@ -72,11 +67,9 @@ pub fn store(pages: &mut [u64], shared: &[u8], share: bool, list: &[u8], stop: u
 {
     let n = numbers::min(stop, page_list::page_count(list));
     let mut stored: u64 = 0;
-    let mut i: u64 = 0;
-    while i < n {
+    for i in 0..n {
         let gpn = page_list::page_at(list, i);
         stored = store_one(pages, stored, gpn, i, is_wanted(shared, share, gpn));
-        i += 1;
     }
     stored
 }
@@ -86,12 +79,8 @@ pub fn store_all(pages: &mut [u64], list: &[u8])
     requires { (length pages.old ≡ pages_len) × (length list.now ≤ limit.list_bytes) }
     ensures { pages.new ≡ table_of (λ p. true) (pages_of list.now) pages.old }
 {
-    let n = page_list::page_count(list);
-    let mut i: u64 = 0;
-    while i < n {
-        let gpn = page_list::page_at(list, i);
-        let _ = store_one(pages, i, gpn, i, true);
-        i += 1;
+    for i in 0..page_list::page_count(list) {
+        let _ = store_one(pages, i, page_list::page_at(list, i), i, true);
     }
 }
 
@@ -138,6 +127,7 @@ pub fn set_places(map: &mut [u8], pages: &[u64], from: u64, to: u64, state: bool
     ensures { map.new ≡ put pages.now from to state map.old }
 {
     let stop = numbers::min(to, pages.len() as u64);
+    // Kept: each turn passes as many pages as the run at `i` has.
     let mut i = from;
     while i < stop {
         let end = run_end(pages, to, i);
@@ -165,6 +155,7 @@ pub fn update_permissions(
     ensures { perms read.new write.new kernel.new user.new ≡ put_flags pages.now from to flags (perms read.old write.old kernel.old user.old) }
 {
     let stop = numbers::min(to, pages.len() as u64);
+    // Kept: each turn passes as many pages as the run at `i` has.
     let mut i = from;
     while i < stop {
         let end = run_end(pages, to, i);

@@ -2,60 +2,58 @@
 #![tactic(auto)]
 
 ghost use Rattle.std.specs.Prelude.{◌≡◌};
+ghost use Rattle.abi.specs.Refusals.{refused_by};
 ghost use Rattle.setting_entries.specs.Calls.{enable_refusal, enabled, enable_of, enabled_in, default_in};
 
-use abi::{place, refusal};
+use abi::place;
+use abi::refusal::Refusal;
 use protector_state::{Reply, Value};
 
-// The number that refuses the setter: 0 where none does.
-fn enable_refusal(state: &[u64]) -> u64
-    ensures { result ≡ enable_refusal state.now }
+// What refuses the setter.
+#[tactic(auto, using(abi::proofs::Numbers::number_not_zero, call_refusals::proofs::Laws::is_ready), unfolding(crate::specs::Calls::enable_refusal, call_refusals::specs::Refusals::ready))]
+fn enable_refusal(state: &[u64]) -> Result<(), Refusal>
+    ensures { refused_by result ≡ enable_refusal state.now }
 {
-    let n = call_refusals::state_refusal(state);
-    if n != 0 {
-        return n;
-    }
+    call_refusals::state_refusal(state)?;
     if state[place::TRACKED] != 1 {
-        return refusal::UNTRACKED;
+        return Err(Refusal::Untracked);
     }
-    0
+    Ok(())
 }
 
 // VTL1's protections are enabled: 24 where permissions aren't tracked. No operation is asked for, and a refusal changes
 // nothing.
+#[tactic(auto, using(abi::proofs::Numbers::number_not_zero, call_refusals::proofs::Laws::is_ready), unfolding(crate::specs::Calls::enable_of, crate::specs::Calls::enable_refusal))]
 pub fn protector_set_vtl1_protections_enabled(state: &mut [u64]) -> Reply
     ensures { enabled state.new result ≡ enable_of state.old }
 {
-    let n = enable_refusal(state);
-    if n != 0 {
-        return protector_state::refused(n);
+    if let Err(refusal) = enable_refusal(state) {
+        return protector_state::refused(refusal.number());
     }
     state[place::ENABLED] = 1;
     protector_state::finished(0, 0, 0, 0)
 }
 
 // Whether VTL1's protections are enabled, 1 or 0. Nothing is written, and no operation is asked for.
+#[tactic(auto, using(abi::proofs::Numbers::number_not_zero, call_refusals::proofs::Laws::is_ready), unfolding(crate::specs::Calls::enabled_in))]
 pub fn protector_vtl1_protections_enabled(state: &[u64]) -> Value
     ensures { result ≡ enabled_in state.now }
 {
-    let n = call_refusals::state_refusal(state);
-    if n != 0 {
-        return protector_state::refused_value(n);
+    if let Err(refusal) = call_refusals::state_refusal(state) {
+        return protector_state::refused_value(refusal.number());
     }
-    let set = protector_state::settings(state);
-    protector_state::ok_value(permissions::bool_to_u64(set.enabled))
+    let enabled = protector_state::settings(state).enabled;
+    protector_state::ok_value(permissions::bool_to_u64(enabled))
 }
 
 // The flags of VTL0's default. Nothing is written, and no operation is asked for.
+#[tactic(auto, using(abi::proofs::Numbers::number_not_zero, call_refusals::proofs::Laws::is_ready), unfolding(crate::specs::Calls::default_in))]
 pub fn protector_default_vtl0_protections(state: &[u64]) -> Value
     ensures { result ≡ default_in state.now }
 {
-    let n = call_refusals::state_refusal(state);
-    if n != 0 {
-        return protector_state::refused_value(n);
+    if let Err(refusal) = call_refusals::state_refusal(state) {
+        return protector_state::refused_value(refusal.number());
     }
-    let set = protector_state::settings(state);
-    let defaults = set.defaults;
-    let flags = defaults.vtl0;
+    let flags = protector_state::settings(state).defaults.vtl0;
     protector_state::ok_value(flags.into_bits())
 }

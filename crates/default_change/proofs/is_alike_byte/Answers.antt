@@ -1,21 +1,19 @@
 use native.Mathlib.Omega.{arith}
 use mathlib.Core.Path.{sym, ◌∙◌}
-use Prim.Native.Nat.{◌-◌}
-use borrow.Author.Tests.{leb-true}
-use Rattle.default_change.proofs.Split.{true_false}
+use Prim.Native.Nat.{◌-◌, ◌%◌}
+use borrow.Author.Tests.{leb-true, eqb-true}
 use Rattle.default_change.proofs.Bytes as laws
 use Rattle.default_change.proofs.is_alike_byte.Goals as goal
+use Rattle.default_change.proofs.is_alike_byte.Goals.{then-byte_at-full, else-byte_at-full}
 
-pub returns-then-byte_at-full : goal.returns-then-byte_at-full
-returns-then-byte_at-full c = λ e. true_false (sym e)
-
-pub returns-then-p-ne0 : goal.returns-then-p-ne0
-returns-then-p-ne0 c = λ e. true_false (sym e)
-
-pub returns : goal.returns
-returns c =
+pub returns-then-p-eq0 : goal.returns-then-p-eq0
+returns-then-p-eq0 c =
     λ e.
-    let a = c.args in (
-      omega (arith, leb-true 8 (a.end - a.p) e, c.requires),
-      laws.byte_span a.state a.map.now a.p c.if-p-ne0.false (sym c.byte_at.ensures ∙ c.if-byte_at-full.false ∙ c.full.ensures),
-    )
+    let a = c.args in
+    elim c.if-byte_at-full.branch [
+      | then-byte_at-full w ↦ (
+        omega (arith, leb-true 8 (a.end - a.p) e),
+        laws.byte_span a.state a.map.now a.p (eqb-true (a.p % 8) 0 (sym w.value-is ∙ c.if-p-eq0.true)) (sym c.byte_at.ensures ∙ w.if-byte_at-full.true ∙ c.full.ensures),
+      )
+      | else-byte_at-full w ↦ absurd (w.if-byte_at-full.false (eqb-true c.byte_at.result c.full.result (sym w.value-is ∙ c.if-p-eq0.true)))
+    ]

@@ -12,6 +12,6 @@ pub returns-then-is_state : goal.returns-then-is_state
 returns-then-is_state c =
     let a = c.args in (omega (arith, c.requires), laws.one_span (is a.state a.map.now) a.p (sym c.is_state.ensures ∙ c.if-is_state.true), λ e. absurd (omega (arith, e)))
 
-pub returns : goal.returns
-returns c =
+pub returns-else-is_state : goal.returns-else-is_state
+returns-else-is_state c =
     let a = c.args in (omega (arith, c.requires), laws.no_span (is a.state a.map.now) a.p, λ e. sym c.is_state.ensures ∙ c.if-is_state.false)

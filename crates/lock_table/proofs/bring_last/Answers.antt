@@ -1,10 +1,5 @@
 use Rattle.lock_table.proofs.Laws as laws
 use Rattle.lock_table.proofs.bring_last.Goals as goal
 
-pub returns-then-end-last : goal.returns-then-end-last
-returns-then-end-last c =
-    let a = c.args in
-    laws.last_brought a.table.now a.end a.last a.to c.if-end-last.true _ _ c.saturating_sub.ensures c.swap_runs.ensures
-
 pub returns-else-end-last : goal.returns-else-end-last
 returns-else-end-last c = let a = c.args in laws.last_there a.table.now a.end a.last a.to c.if-end-last.false

@@ -7,6 +7,3 @@ use Rattle.lock_table.proofs.find.Given as goal
 abbrev pub invariant-loop-k : goal.invariant-loop-k
 invariant-loop-k l =
     (l.from ≡ 65 + end_of l.table l.k) × (equal_from l.table (l.n - l.k) l.k (pages_of l.list) ≡ equal_from l.table l.n 0 (pages_of l.list))
-
-abbrev pub decreases-loop-k : goal.decreases-loop-k
-decreases-loop-k l = l.n - l.k

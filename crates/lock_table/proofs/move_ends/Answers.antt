@@ -1,14 +1,8 @@
 use borrow.Author.Rules.{rules}
 use native.Mathlib.Omega.{arith}
-use mathlib.Core.Path.{refl, sym, ◌∙◌}
+use mathlib.Core.Path.{sym, ◌∙◌}
 use Rattle.lock_table.proofs.Laws as laws
 use Rattle.lock_table.proofs.move_ends.Goals as goal
-
-pub loop-k-init : goal.loop-k-init
-loop-k-init c = (refl, refl)
-
-pub overflow_add-saturating_sub : goal.overflow_add-saturating_sub
-overflow_add-saturating_sub c = omega (arith, c.end_at-end.ensures, c.saturating_sub.ensures, c.requires)
 
 pub loop-k-preserved : goal.loop-k-preserved
 loop-k-preserved c =

@@ -7,6 +7,3 @@ use Rattle.lock_table.proofs.move_ends.Given as goal
 abbrev pub invariant-loop-k : goal.invariant-loop-k
 invariant-loop-k l =
     (length l.table ≡ length l.initial.table) × (moved l.table (l.to - l.k) l.k l.less l.more ≡ moved l.initial.table (l.to - l.from) l.from l.less l.more)
-
-abbrev pub decreases-loop-k : goal.decreases-loop-k
-decreases-loop-k l = l.to - l.k

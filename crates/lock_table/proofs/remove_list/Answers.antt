@@ -1,12 +1,5 @@
-use native.Mathlib.Omega.{arith}
 use Rattle.lock_table.proofs.Laws as laws
 use Rattle.lock_table.proofs.remove_list.Goals as goal
-
-pub overflow_add-start-2 : goal.overflow_add-start-2
-overflow_add-start-2 c = omega (arith, c.saturating_sub-2.ensures, c.end_of-to.ensures.upper_bound, c.end_of-start.ensures.upper_bound)
-
-pub move_ends-requires : goal.move_ends-requires
-move_ends-requires c = omega (arith, c.saturating_sub-2.ensures, c.end_of-to.ensures.upper_bound, c.end_of-start.ensures.upper_bound)
 
 pub returns : goal.returns
 returns c =

@@ -1,28 +1,28 @@
 use native.Mathlib.Omega.{arith}
-use mathlib.Core.Path.{sym, ap, ◌∙◌}
-use Prim.Native.Nat.{ℕ}
-use Rattle.overlay_table.specs.Overlays.{place_from}
+use mathlib.Core.Path.{◌≡◌, sym, ap₂, ◌∙◌}
+use Prim.Native.Nat.{ℕ, ◌+◌, ◌-◌, ◌*◌}
+use Rattle.overlay_table.specs.Overlays.{used, place_from}
 use Rattle.overlay_table.proofs.Laws as laws
 use Rattle.overlay_table.proofs.find.Goals as goal
 
-pub loop-left-init : goal.loop-left-init
-loop-left-init c =
-    (omega (arith, c.entry_count-left.ensures), ap (λ (k : ℕ). place_from c.args.table.now k 1 c.args.gpn) c.entry_count-left.ensures)
-
-pub returns-then-gpn-page : goal.returns-then-gpn-page
-returns-then-gpn-page c =
+pub returns-then-gpn-word_at : goal.returns-then-gpn-word_at
+returns-then-gpn-word_at c =
     let a = c.args in
-    let h = c.loop-left in
-    sym (laws.place_hit a.table.now h.place a.gpn _ h.left (omega arith) c.word_at-page.ensures c.if-gpn-page.true) ∙ h.invariant.1
+    let h = c.loop-index in
+    sym (laws.place_hit a.table.now (1 + 5 * h.index) a.gpn _ (used a.table.now - h.index) (omega arith) c.word_at.ensures c.if-gpn-word_at.true) ∙ h.invariant
 
-pub loop-left-preserved : goal.loop-left-preserved
-loop-left-preserved c =
+pub loop-index-preserved : goal.loop-index-preserved
+loop-index-preserved c =
     let a = c.args in
-    let h = c.loop-left in
-    (omega arith, sym (laws.place_miss a.table.now h.place a.gpn _ h.left (omega arith) c.word_at-page.ensures c.if-gpn-page.false) ∙ h.invariant.1)
+    let h = c.loop-index in
+    let left : used a.table.now - (h.index + 1) ≡ used a.table.now - h.index - 1 = omega arith in
+    let next : 1 + 5 * (h.index + 1) ≡ 1 + 5 * h.index + 5 = omega arith in
+    ap₂ (λ (k o : ℕ). place_from a.table.now k o a.gpn) left next
+    ∙ sym (laws.place_miss a.table.now (1 + 5 * h.index) a.gpn _ (used a.table.now - h.index) (omega arith) c.word_at.ensures c.if-gpn-word_at.false)
+    ∙ h.invariant
 
 pub returns : goal.returns
 returns c =
     let a = c.args in
-    let h = c.loop-left in
-    sym (laws.place_end a.table.now h.place a.gpn 0 h.left (omega arith)) ∙ h.invariant.1
+    let h = c.loop-index in
+    sym (laws.place_end a.table.now (1 + 5 * h.index) a.gpn 0 (used a.table.now - h.index) (omega arith)) ∙ h.invariant

@@ -1,10 +1,7 @@
 use mathlib.Core.Path.{◌≡◌}
-use Prim.Native.Nat.{◌+◌, ◌*◌, ◌≤◌}
-use Rattle.overlay_table.specs.Overlays.{place_from, place_of}
+use Prim.Native.Nat.{◌+◌, ◌-◌, ◌*◌}
+use Rattle.overlay_table.specs.Overlays.{used, place_from, place_of}
 use Rattle.overlay_table.proofs.find.Given as goal
 
-abbrev pub invariant-loop-left : goal.invariant-loop-left
-invariant-loop-left l = (l.place + 5 * l.left ≤ 641) × (place_from l.table l.left l.place l.gpn ≡ place_of l.table l.gpn)
-
-abbrev pub decreases-loop-left : goal.decreases-loop-left
-decreases-loop-left l = l.left
+abbrev pub invariant-loop-index : goal.invariant-loop-index
+invariant-loop-index l = place_from l.table (used l.table - l.index) (1 + 5 * l.index) l.gpn ≡ place_of l.table l.gpn

@@ -1,45 +1,35 @@
 use native.Mathlib.Omega.{arith}
-use mathlib.Core.Path.{sym, ap, ◌∙◌}
-use Prim.Native.Nat.{ℕ}
+use mathlib.Core.Path.{◌≡◌, sym, ap, ap₂, ◌∙◌}
+use Prim.Native.Nat.{ℕ, ◌+◌, ◌-◌, ◌*◌}
 use Rattle.overlay_table.specs.Overlays.{place_from}
-use Rattle.overlay_table.specs.Search.{key_of}
+use Rattle.overlay_table.specs.Search.{key_of, place_for}
 use Rattle.overlay_table.proofs.Laws as laws
 use Rattle.overlay_table.proofs.find_entry.Goals as goal
 
-pub returns-then-table-lt-TABLE_WORDS : goal.returns-then-table-lt-TABLE_WORDS
-returns-then-table-lt-TABLE_WORDS c = c.find.ensures
-
-pub loop-left-init : goal.loop-left-init
-loop-left-init c =
-    let a = c.args in (
-      omega arith,
-      omega (arith, c.entry_count-left.ensures),
-      laws.agrees a.table.now a.gpn c.entry_count-left.result 1 ∙ ap (λ (k : ℕ). place_from a.table.now k 1 a.gpn) c.entry_count-left.ensures,
-    )
-
-pub find_few-found-requires : goal.find_few-found-requires
-find_few-found-requires c = (omega arith, omega arith)
+pub loop-load-init : goal.loop-load-init
+loop-load-init c =
+    let a = c.args in
+    let n = c.entry_count-count.result in
+    let all : n - 4 * 0 ≡ n = omega arith in
+    let start : 1 + 20 * 0 ≡ 1 = omega arith in
+    ap₂ (λ (k o : ℕ). place_for a.table.now k o (key_of a.gpn)) all start
+    ∙ laws.agrees a.table.now a.gpn n 1 ∙ ap (λ (k : ℕ). place_from a.table.now k 1 a.gpn) c.entry_count-count.ensures
 
 pub returns-then-found-ne0 : goal.returns-then-found-ne0
 returns-then-found-ne0 c =
     let a = c.args in
-    let h = c.loop-left in
-    c.find_few-found.ensures ∙ laws.split_hit a.table.now (key_of a.gpn) 4 h.left h.place (omega arith) (λ z. c.if-found-ne0.true (c.find_few-found.ensures ∙ z)) ∙ h.invariant.2
+    let h = c.loop-load in
+    c.find_few-found.ensures
+    ∙ laws.split_hit a.table.now (key_of a.gpn) 4 (c.entry_count-count.result - 4 * h.load) (1 + 20 * h.load) (omega arith) (λ z. c.if-found-ne0.true (c.find_few-found.ensures ∙ z))
+    ∙ h.invariant
 
-pub overflow_add-place : goal.overflow_add-place
-overflow_add-place c = record { fits = omega arith }
-
-pub loop-left-preserved : goal.loop-left-preserved
-loop-left-preserved c =
+pub loop-load-preserved : goal.loop-load-preserved
+loop-load-preserved c =
     let a = c.args in
-    let h = c.loop-left in (
-      omega arith,
-      omega arith,
-      sym (laws.split_miss a.table.now (key_of a.gpn) 4 h.left h.place (omega arith) h.invariant.0 (sym c.find_few-found.ensures ∙ c.if-found-ne0.false)) ∙ h.invariant.2,
-    )
-
-pub find_left-requires : goal.find_left-requires
-find_left-requires c = (omega arith, omega arith)
-
-pub returns : goal.returns
-returns c = c.find_left.ensures ∙ c.loop-left.invariant.2
+    let h = c.loop-load in
+    let n = c.entry_count-count.result in
+    let left : n - 4 * (h.load + 1) ≡ n - 4 * h.load - 4 = omega arith in
+    let next : 1 + 20 * (h.load + 1) ≡ 1 + 20 * h.load + 5 * 4 = omega arith in
+    ap₂ (λ (k o : ℕ). place_for a.table.now k o (key_of a.gpn)) left next
+    ∙ sym (laws.split_miss a.table.now (key_of a.gpn) 4 (n - 4 * h.load) (1 + 20 * h.load) (omega arith) (omega arith) (sym c.find_few-found.ensures ∙ c.if-found-ne0.false))
+    ∙ h.invariant

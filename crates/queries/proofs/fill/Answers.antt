@@ -1,7 +1,6 @@
 use native.Mathlib.Omega.{arith}
-use mathlib.Core.Path.{refl, sym, ap, ◌∙◌}
+use mathlib.Core.Path.{sym, ap, ◌∙◌}
 use Prim.Native.Nat.{ℕ}
-use lib.ListN.{length-set}
 use Rattle.page_list.specs.Pages.{pages_of}
 use Rattle.queries.specs.Queries.{visibilities}
 use Rattle.laws.specs.Bools.{digit}
@@ -10,10 +9,7 @@ use Rattle.queries.proofs.Laws as laws
 use Rattle.queries.proofs.fill.Goals as goal
 
 pub loop-i-init : goal.loop-i-init
-loop-i-init c = let a = c.args in (omega arith, refl, laws.filled_none (visibilities a.shared.now (pages_of a.list.now)) a.out.now)
-
-pub bounds-out-i : goal.bounds-out-i
-bounds-out-i c = let h = c.loop-i in omega (arith, h.invariant.1, c.min-end.ensures)
+loop-i-init c = let a = c.args in laws.filled_none (visibilities a.shared.now (pages_of a.list.now)) a.out.now
 
 pub loop-i-preserved : goal.loop-i-preserved
 loop-i-preserved c =
@@ -23,16 +19,9 @@ loop-i-preserved c =
     let h = c.loop-i in
     let n = c.page_count.ensures in
     let l = c.min-end.ensures in
-    let g = laws.count_visibilities a.shared.now ps in (
-      omega arith,
-      simp length-set h.invariant.1,
-      laws.filled_more bs a.out.now h.out h.i _ h.invariant.2 (omega (arith, n, l, g)) (omega (arith, l))
-          (c.shared_byte.ensures ∙ ap (λ (p : ℕ). digit (bit_at 8 a.shared.now p)) c.page_at.ensures ∙ sym
-          (laws.visibility_at a.shared.now ps h.i (omega (arith, n, l)))),
-    )
-
-pub shape_of-out : goal.shape_of-out
-shape_of-out c = c.loop-i.invariant.1
+    let g = laws.count_visibilities a.shared.now ps in
+    laws.filled_more bs a.out.now h.out h.i _ h.invariant (omega (arith, n, l, g)) (omega (arith, l))
+    (c.shared_byte.ensures ∙ ap (λ (p : ℕ). digit (bit_at 8 a.shared.now p)) c.page_at.ensures ∙ sym (laws.visibility_at a.shared.now ps h.i (omega (arith, n, l))))
 
 pub returns : goal.returns
 returns c =
@@ -43,4 +32,4 @@ returns c =
     let n = c.page_count.ensures in
     let l = c.min-end.ensures in
     let g = laws.count_visibilities a.shared.now ps in
-    h.invariant.2 ∙ laws.filled_all bs a.out.now h.i (omega (arith, n, l, g))
+    h.invariant ∙ laws.filled_all bs a.out.now h.i (omega (arith, n, l, g))

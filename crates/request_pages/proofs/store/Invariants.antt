@@ -1,5 +1,4 @@
 use mathlib.Core.Path.{◌≡◌}
-use Prim.Native.Nat.{◌-◌, ◌≤◌}
 use lib.ListN.{length, take}
 use Rattle.page_list.specs.Pages.{pages_of}
 use Rattle.request_pages.specs.Request.{pick, table_of, wanted}
@@ -7,7 +6,4 @@ use Rattle.request_pages.proofs.store.Given as goal
 
 abbrev pub invariant-loop-i : goal.invariant-loop-i
 invariant-loop-i l =
-    (l.i ≤ l.n) × (l.stored ≡ length (pick (wanted l.shared l.share) (take l.i (pages_of l.list)))) × (l.pages ≡ table_of (wanted l.shared l.share) (take l.i (pages_of l.list)) l.initial.pages)
-
-abbrev pub decreases-loop-i : goal.decreases-loop-i
-decreases-loop-i l = l.n - l.i
+    (l.stored ≡ length (pick (wanted l.shared l.share) (take l.i (pages_of l.list)))) × (l.pages ≡ table_of (wanted l.shared l.share) (take l.i (pages_of l.list)) l.initial.pages)

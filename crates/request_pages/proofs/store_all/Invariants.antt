@@ -1,13 +1,9 @@
 use mathlib.Core.Path.{◌≡◌}
 use mathlib.Core.Bool.{true}
-use Prim.Native.Nat.{◌-◌, ◌≤◌}
 use lib.ListN.{take}
 use Rattle.page_list.specs.Pages.{pages_of}
 use Rattle.request_pages.specs.Request.{table_of}
 use Rattle.request_pages.proofs.store_all.Given as goal
 
 abbrev pub invariant-loop-i : goal.invariant-loop-i
-invariant-loop-i l = (l.i ≤ l.n) × (l.pages ≡ table_of (λ p. true) (take l.i (pages_of l.list)) l.initial.pages)
-
-abbrev pub decreases-loop-i : goal.decreases-loop-i
-decreases-loop-i l = l.n - l.i
+invariant-loop-i l = (l.pages ≡ table_of (λ p. true) (take l.i (pages_of l.list)) l.initial.pages)
