@@ -16,15 +16,16 @@ use Rattle.permissions.specs.Flags.{fit_vtl, vtl_of, fit_bool, bool_of, no_flags
 use Rattle.permissions.specs.HvError.{code_of}
 use Rattle.mapping.specs.Maps.{Maps, maps_fit, lengths_of, in_maps}
 use Rattle.mapping.proofs.Past.{past_not_private, past_not_shared, past_no_flags}
-use Rattle.access.specs.declared.PermissionsAnswer.{PermissionsAnswer}
-use Rattle.access.specs.declared.PermissionsAnswer.TheVariants as permissions
+use Rattle.std.specs.Prelude.{Result, Ok, Err}
+use Rattle.permissions.specs.declared.HvMapGpaFlags.{HvMapGpaFlags}
 use Rattle.access.specs.Query.{answer, access_refusal, access_permission, is_tracked, lower_vtl_permissions, permissions_number}
 use Rattle.access.proofs.Answers.{access_number, lower_number}
 use Rattle.fault.specs.declared.GuestValidMemoryType.{GuestValidMemoryType}
 use Rattle.fault.specs.declared.GuestValidMemoryType.TheVariants.{Encrypted, Shared}
 use Rattle.fault.specs.declared.PageFaultAction.{PageFaultAction}
 use Rattle.fault.specs.declared.PageFaultAction.TheVariants as fault
-use Rattle.fault.specs.Fault.{GuestMemoryViewReadType, fit_mapping, mapping_of, fit_view, view_of, unmarked, fault_of, fault_refusal, page_fault, fault_number}
+use Rattle.fault.specs.declared.GuestMemoryViewReadType.{GuestMemoryViewReadType}
+use Rattle.fault.specs.Fault.{fit_mapping, mapping_of, fit_view, view_of, unmarked, fault_of, fault_refusal, page_fault, fault_number}
 use Rattle.fault.proofs.Answers.{fault_number_lem}
 use Rattle.protector_state.specs.State.{state_len, settings_of, entries_in}
 use Rattle.protector_state.specs.Reply.{value}
@@ -49,11 +50,11 @@ module _ (state : List ℕ) (m : Maps) (lent : Lent state m) where
   on_page Shared view p write true past = rw (past_not_shared es m tracked p lent.fits past)
 
   fault_at : (mapping view address write failure : ℕ) → Named mapping view write failure → in_maps es (address / page_size) ≡ false
-      → fault_in state m mapping view address write failure ≡ fault_value_of (cond (bool_of failure) (unmarked (mapping_of mapping)) fault.NotMapped)
+      → fault_in state m mapping view address write failure ≡ fault_value_of (Ok (cond (bool_of failure) (unmarked (mapping_of mapping)) fault.NotMapped))
   unfolding fault_in page_fault fault_refusal
   fault_at mapping view address write failure n past =
       rw (eq-eqb (length state) state_len lent.long, lent.fits, n.of_mapping, n.of_view, n.of_write, n.of_failure)
-      (ap fault_value_of (on_page (mapping_of mapping) (view_of view) (address / page_size) (bool_of write) (bool_of failure) past))
+      (ap (λ (a : PageFaultAction). fault_value_of (Ok a)) (on_page (mapping_of mapping) (view_of view) (address / page_size) (bool_of write) (bool_of failure) past))
 
   access_at : (p : ℕ) → in_maps es p ≡ false → access_in state m p ≡ cond tracked (value 0 0) (value refusal.untracked 0)
   unfolding access_in access_permission
@@ -95,11 +96,11 @@ in_a_hole true true true true e = absurd (omega arith)
 in_a_hole true true true false e = (refl, refl)
 
 -- a state block of another length is 4
-fault_of_lem : (b : Bool) (x : PageFaultAction) → (fault_number x ≡ 7 → ⊥) → fault_number (cond b x (fault.Refused 4)) ≡ 7 → ⊥
+fault_of_lem : (b : Bool) (x : Result PageFaultAction ℕ) → (fault_number x ≡ 7 → ⊥) → fault_number (cond b x (Err 4)) ≡ 7 → ⊥
 fault_of_lem true x h e = h e
 fault_of_lem false x h e = absurd (omega arith)
 
-answer_of_lem : {X : Type 0} (b : Bool) (x : PermissionsAnswer) → (permissions_number x ≡ 7 → X) → permissions_number (cond b x (permissions.Refused 4)) ≡ 7 → X
+answer_of_lem : {X : Type 0} (b : Bool) (x : Result HvMapGpaFlags ℕ) → (permissions_number x ≡ 7 → X) → permissions_number (cond b x (Err 4)) ≡ 7 → X
 answer_of_lem true x h e = h e
 answer_of_lem false x h e = absurd (omega arith)
 

@@ -1,5 +1,5 @@
 -- What faults and permission queries give past the last byte of the maps, and which page refuses one by 7 (02, (vi)): of any state block and any maps. Proved in `proofs/Past.antt`.
-use Rattle.std.specs.Prelude.{true, false, cond, List, ◌≡◌, ℕ, ◌/◌, length}
+use Rattle.std.specs.Prelude.{true, false, cond, List, ◌≡◌, ℕ, Ok, ◌/◌, length}
 use Rattle.abi.specs.Lengths.{page_size}
 use Rattle.abi.specs.Refusals as refusal
 use Rattle.layout.specs.Layout.{is_ram, map_len}
@@ -28,7 +28,7 @@ pub record Named (mapping view write failure : ℕ) : Type 0 where
 pub record Past (state : List ℕ) (m : Maps) : Type 0 where
   pub fault_past : Lent state m → (mapping view address write failure : ℕ) → Named mapping view write failure
       → in_maps (entries_in state) (address / page_size) ≡ false
-      → fault_in state m mapping view address write failure ≡ fault_value_of (cond (bool_of failure) (unmarked (mapping_of mapping)) NotMapped)
+      → fault_in state m mapping view address write failure ≡ fault_value_of (Ok (cond (bool_of failure) (unmarked (mapping_of mapping)) NotMapped))
   pub access_past : Lent state m → (p : ℕ) → in_maps (entries_in state) p ≡ false
       → access_in state m p ≡ cond (settings_of state).tracked (value 0 0) (value refusal.untracked 0)
   pub lower_past : Lent state m → (vtl p : ℕ) → fit_vtl vtl ≡ true → in_maps (entries_in state) p ≡ false

@@ -1,18 +1,16 @@
 -- Faults and queries of the protector's block (01, "Bitmaps", "From the input" 4, 5, 7 and 8, "From the state" 24; 02, (vi)). A fault and the permission
 -- queries look at no request: they have no 19 and no 20.
-use Rattle.std.specs.Prelude.{cond, List, [], ◌∷◌, ℕ, eqb, ltb, length}
+use Rattle.std.specs.Prelude.{cond, List, [], ◌∷◌, ℕ, Result, Err, eqb, ltb, length}
 use Rattle.abi.specs.Refusals as refusal
 use Rattle.laws.specs.Bools.{digit}
 use Rattle.laws.specs.Refusal.{when}
 use Rattle.bitmap.specs.Pages.{bit_at}
 use Rattle.layout.specs.Layout.{is_ram, map_len}
+use Rattle.permissions.specs.declared.HvMapGpaFlags.{HvMapGpaFlags}
 use Rattle.permissions.specs.HvError.{code_of}
 use Rattle.mapping.specs.Maps.{Maps}
-use Rattle.access.specs.declared.PermissionsAnswer.{PermissionsAnswer}
-use Rattle.access.specs.declared.PermissionsAnswer.TheVariants as permissions
 use Rattle.access.specs.Query.{access_permission, lower_vtl_permissions, permissions_number, permissions_value}
 use Rattle.fault.specs.declared.PageFaultAction.{PageFaultAction}
-use Rattle.fault.specs.declared.PageFaultAction.TheVariants as fault
 use Rattle.fault.specs.Fault.{page_fault, fault_number, fault_value}
 use Rattle.page_list.specs.Pages.{pages_of, is_long, is_ragged}
 use Rattle.request_pages.specs.Request.{stop_at}
@@ -66,23 +64,23 @@ query_of state shared list out =
 
 -- ---- faults and permissions: 4 for a state block of another length, else as the maps have it
 
-abbrev pub fault_value_of : PageFaultAction → Value
+abbrev pub fault_value_of : Result PageFaultAction ℕ → Value
 fault_value_of a = value (fault_number a) (fault_value a)
 
-abbrev pub permissions_value_of : PermissionsAnswer → Value
+abbrev pub permissions_value_of : Result HvMapGpaFlags ℕ → Value
 permissions_value_of a = value (permissions_number a) (permissions_value a)
 
 unfoldable pub fault_in : List ℕ → Maps → ℕ → ℕ → ℕ → ℕ → ℕ → Value
 fault_in state maps mapping view address write failure =
     fault_value_of
     (cond (eqb (length state) state_len) (page_fault (entries_in state) maps (settings_of state).tracked mapping view address write failure)
-    (fault.Refused refusal.wrong_length))
+    (Err refusal.wrong_length))
 
 unfoldable pub lower_in : List ℕ → Maps → ℕ → ℕ → Value
 lower_in state maps vtl gpn =
     permissions_value_of
-    (cond (eqb (length state) state_len) (lower_vtl_permissions (entries_in state) maps (settings_of state).tracked vtl gpn) (permissions.Refused refusal.wrong_length))
+    (cond (eqb (length state) state_len) (lower_vtl_permissions (entries_in state) maps (settings_of state).tracked vtl gpn) (Err refusal.wrong_length))
 
 unfoldable pub access_in : List ℕ → Maps → ℕ → Value
 access_in state maps gpn =
-    permissions_value_of (cond (eqb (length state) state_len) (access_permission (entries_in state) maps (settings_of state).tracked gpn) (permissions.Refused refusal.wrong_length))
+    permissions_value_of (cond (eqb (length state) state_len) (access_permission (entries_in state) maps (settings_of state).tracked gpn) (Err refusal.wrong_length))

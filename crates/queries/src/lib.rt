@@ -3,19 +3,20 @@
 
 ghost use Rattle.std.specs.Prelude.{◌≡◌};
 ghost use Rattle.laws.specs.Bools.{digit};
+ghost use Rattle.abi.specs.Refusals.{refused_by, numbered};
 ghost use Rattle.bitmap.specs.Pages.{bit_at};
 ghost use Rattle.layout.specs.Layout.{entries_of, is_ram};
 ghost use Rattle.page_list.specs.Pages.{pages_of};
 ghost use Rattle.request_pages.specs.Request.{stop_at};
 ghost use Rattle.queries.specs.Queries.{query_refusal, visibilities, filled_by, fault_value_of, permissions_value_of};
 
-use abi::refusal;
-use access::PermissionsAnswer;
+use abi::refusal::Refusal;
 use fault::PageFaultAction;
+use permissions::HvMapGpaFlags;
 use protector_state::Value;
 
-pub fn fault_value(a: PageFaultAction) -> Value
-    ensures { result ≡ fault_value_of a }
+pub fn fault_value(a: Result<PageFaultAction, Refusal>) -> Value
+    ensures { result ≡ fault_value_of (numbered a) }
 {
     Value {
         number: fault::fault_number(a),
@@ -23,8 +24,8 @@ pub fn fault_value(a: PageFaultAction) -> Value
     }
 }
 
-pub fn permissions_value(a: PermissionsAnswer) -> Value
-    ensures { result ≡ permissions_value_of a }
+pub fn permissions_value(a: Result<HvMapGpaFlags, Refusal>) -> Value
+    ensures { result ≡ permissions_value_of (numbered a) }
 {
     Value {
         number: access::permissions_number(a),
@@ -32,24 +33,22 @@ pub fn permissions_value(a: PermissionsAnswer) -> Value
     }
 }
 
-// The number that refuses a query of visibilities, but for 7: 0 where none does.
-pub fn query_refusal(state: &[u64], shared: u64, list: &[u8]) -> u64
-    ensures { result ≡ query_refusal state.now shared list.now }
+// What refuses a query of visibilities, but for a page that isn't RAM.
+#[tactic(auto, using(abi::proofs::Numbers::number_not_zero, call_refusals::proofs::Laws::is_ready), unfolding(crate::specs::Queries::query_refusal, call_refusals::specs::Refusals::ready))]
+pub fn query_refusal(state: &[u64], shared: u64, list: &[u8]) -> Result<(), Refusal>
+    ensures { refused_by result ≡ query_refusal state.now shared list.now }
 {
-    let n = call_refusals::state_refusal(state);
-    if n != 0 {
-        return n;
-    }
+    call_refusals::state_refusal(state)?;
     if shared != layout::map_len(protector_state::ram_of(state)) {
-        return refusal::WRONG_LENGTH;
+        return Err(Refusal::WrongLength);
     }
     if page_list::is_long(list) {
-        return refusal::LONG_LIST;
+        return Err(Refusal::LongList);
     }
     if page_list::is_ragged(list) {
-        return refusal::UNFIT_NUMBER;
+        return Err(Refusal::UnfitNumber);
     }
-    0
+    Ok(())
 }
 
 // How many pages of a list come before the first that isn't RAM.
