@@ -158,6 +158,11 @@ module _ (w x k : ℕ) (h : k < w) where
       (λ j l. xor_bit (bit_or x (2 ^ k)) (2 ^ k) j ∙ ap₂ unlike (or_bit x (2 ^ k) j) (pow_bit k j)
       ∙ ap (λ (b : Bool). unlike (bit x j || b) (eqb j k)) (pow_bit k j) ∙ off (bit x j) (eqb j k))
 
+  -- either without a branch: what is taken off again is nothing, or the bit
+  pub put_bit : (s : Bool) (off : ℕ) → off ≡ cond s 0 ((1 * 2 ^ k) % 2 ^ w) → bit_xor (bit_or x ((1 * 2 ^ k) % 2 ^ w)) off ≡ word w (λ j. cond (eqb j k) s (bit x j)) x
+  put_bit true off e = ap (bit_xor (bit_or x ((1 * 2 ^ k) % 2 ^ w))) e ∙ xor_zero_r (bit_or x ((1 * 2 ^ k) % 2 ^ w)) ∙ set_bit
+  put_bit false off e = ap (bit_xor (bit_or x ((1 * 2 ^ k) % 2 ^ w))) e ∙ clear_bit
+
 -- the word of w bits that are all set
 ones_suc : (w : ℕ) → 2 ^ suc w - 1 ≡ (2 ^ w - 1) * 2 + 1
 ones_suc w = ap (λ (n : ℕ). n - 1) (pow-suc 2 w) ∙ dbl_pred (pow_pos w)

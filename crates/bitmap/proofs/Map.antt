@@ -1,14 +1,14 @@
 -- The laws of `written`: a page of it, its length, one after another, none, and a store of one word. For every width.
 -- Assumes nothing.
 use mathlib.Core.Bool.{Bool, true, false, cond, ◌||◌, ◌&&◌}
-use mathlib.Core.List.{List, [], ◌∷◌}
+use mathlib.Core.List.{List, [], ◌∷◌, map}
+use Rattle.std.proofs.lemmas.List.{map-set, get_or-map, length-map}
 use mathlib.Core.Path.{◌≡◌, refl, sym, ap, ap₂, ◌∙◌, subst}
 use Prim.Native.Nat.{ℕ, zero, suc, ◌+◌, ◌-◌, ◌*◌, ◌/◌, ◌%◌, ◌^◌, ◌≤◌, ◌<◌}
 use native.Mathlib.Nat.{mod-lt, zero-div, not-suc-le-zero, le_of_suc-le-suc, add-zero, zero-add, add-suc, suc-add, div-add-mod', add_left_cancel, div-eq_of_lt, lt_irrefl, lt_of_lt_of_le}
 use native.Mathlib.Omega.{arith}
 use native.Mathlib.Decide.{ℕ_discrete, dec_lt}
 use lib.Dec.{eqb, ltb}
-use lib.Bits.{bit_or, bit_xor, xor_zero_r}
 use lib.Arith.{digits_div, digits_mod}
 use lib.ListN.{length, get_or, set, replicate, length-set, length-replicate, get_or-replicate, get_or-eq_default}
 use lib.Seq.{ext_get_or, get_or-set_same, get_or-set_other}
@@ -16,7 +16,7 @@ use borrow.Author.Tests.{eq-eqb, ne_eqb, lt-ltb, le-ltb}
 use Rattle.laws.specs.Bools.{digit}
 use Rattle.laws.specs.Ranges.{between, between_true, between_false}
 use Rattle.bitmap.specs.Pages.{bit, bit_at, word, written_from, written, one, words}
-use Rattle.bitmap.proofs.Bit.{bits_ext, bit_word, word_is, word_high, bit_of_zero, word_lt, set_bit, clear_bit, full_bit, full_lt}
+use Rattle.bitmap.proofs.Bit.{bits_ext, bit_word, word_is, word_high, bit_of_zero, word_lt, full_bit, full_lt}
 
 -- word i of the map, of which x was
 pub at : ℕ → (ℕ → Bool) → Bool → ℕ → ℕ → ℕ
@@ -208,7 +208,7 @@ module _ (w p : ℕ) (pos : zero < w) where
   one_past s m h = none w (one p) s m (λ j k l d. other_word j k (λ e. lt_irrefl j (lt_of_lt_of_le l (subst (λ (n : ℕ). length m ≤ n) (sym e) h))) d)
 
   module _ (m : List ℕ) (h : p / w < length m) where
-    -- any code form: what is stored is the word with s for p's bit
+    -- what is stored is the word with s for p's bit
     pub one_stored : (s : Bool) (y : ℕ) → y ≡ word w (λ j. cond (eqb j (p % w)) s (bit (get_or m (p / w) 0) j)) (get_or m (p / w) 0) → set m (p / w) y ≡ written w (one p) s m
     one_stored s y e =
         let x : ℕ = get_or m (p / w) 0 in
@@ -217,24 +217,21 @@ module _ (w p : ℕ) (pos : zero < w) where
         ∙ stored w (one p) s m (p / w) (word w f x) h (word_high w f x)
         (λ k d. bit_word w f x k d ∙ ap (λ (b : Bool). cond b s (bit x k)) (same_bit k)) (λ j k n d. other_word j k n d)
 
-    -- what the code stores, `x | (1 << k)` and `(x | (1 << k)) ^ (1 << k)`
-    abbrev pub shifted : ℕ
-    shifted = (1 * 2 ^ (p % w)) % 2 ^ w
+-- the same of words of any type, each read as a number
+module _ {X : Type 0} (f : X → ℕ) (w p b : ℕ) (pos : zero < w) (e : b ≡ w) (s : Bool) (l : List X) where
+  word_of : p / b ≡ p / w
+  word_of = ap (λ (n : ℕ). p / n) e
 
-    pub one_set : (s : Bool) → s ≡ true → set m (p / w) (bit_or (get_or m (p / w) 0) shifted) ≡ written w (one p) s m
-    one_set s e =
-        one_stored true (bit_or (get_or m (p / w) 0) shifted) (set_bit w (get_or m (p / w) 0) (p % w) (mod-lt p pos))
-        ∙ ap (λ (b : Bool). written w (one p) b m) (sym e)
+  pub place_past : length l ≤ p / b → map f l ≡ written w (one p) s (map f l)
+  place_past h = one_past w p pos s (map f l) (omega (arith, word_of, length-map l f))
 
-    pub one_clear : (s : Bool) → s ≡ false → set m (p / w) (bit_xor (bit_or (get_or m (p / w) 0) shifted) shifted) ≡ written w (one p) s m
-    one_clear s e =
-        one_stored false (bit_xor (bit_or (get_or m (p / w) 0) shifted) shifted) (clear_bit w (get_or m (p / w) 0) (p % w) (mod-lt p pos))
-        ∙ ap (λ (b : Bool). written w (one p) b m) (sym e)
-
-    -- the same without a branch: what is taken off again is nothing, or the bit
-    pub one_put : (s : Bool) (off : ℕ) → off ≡ cond s 0 shifted → set m (p / w) (bit_xor (bit_or (get_or m (p / w) 0) shifted) off) ≡ written w (one p) s m
-    one_put true off e = ap (λ (y : ℕ). set m (p / w) (bit_xor (bit_or (get_or m (p / w) 0) shifted) y)) e ∙ ap (set m (p / w)) (xor_zero_r (bit_or (get_or m (p / w) 0) shifted)) ∙ one_set true refl
-    one_put false off e = ap (λ (y : ℕ). set m (p / w) (bit_xor (bit_or (get_or m (p / w) 0) shifted) y)) e ∙ one_clear false refl
+  pub place_stored : (x y : X) → p / b < length l → x ≡ get_or l (p / b) x → f y ≡ word w (λ k. cond (eqb k (p % w)) s (bit (f x) k)) (f x)
+      → map f (set l (p / b) y) ≡ written w (one p) s (map f l)
+  place_stored x y h d g =
+      let i : p / w < length l = omega (arith, word_of) in
+      let read : f x ≡ get_or (map f l) (p / w) 0 = ap f (d ∙ ap (λ (n : ℕ). get_or l n x) word_of) ∙ sym (get_or-map f l (p / w) x 0 i) in
+      map-set f l (p / b) y ∙ ap (λ (n : ℕ). set (map f l) n (f y)) word_of
+      ∙ one_stored w p pos (map f l) (omega (arith, length-map l f)) s (f y) (g ∙ ap (λ (n : ℕ). word w (λ k. cond (eqb k (p % w)) s (bit n k)) n) read)
 
 -- ---- a map is its pages: two maps of one length, in words below 2 ^ w, whose pages agree
 pub map_ext : (w : ℕ) (l m : List ℕ) → zero < w → length l ≡ length m → ((j : ℕ) → get_or l j 0 < 2 ^ w) → ((j : ℕ) → get_or m j 0 < 2 ^ w)

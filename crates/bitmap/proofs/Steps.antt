@@ -1,12 +1,17 @@
 -- The turns of the two loops: a run of pages one page after the other, and a run of words one word after the other. For every width.
 -- Assumes nothing.
 use mathlib.Core.Bool.{Bool}
-use mathlib.Core.List.{List}
-use mathlib.Core.Path.{◌≡◌, sym, ap, ◌∙◌, subst}
-use Prim.Native.Nat.{ℕ, zero, ◌+◌, ◌-◌, ◌*◌, ◌/◌, ◌^◌, ◌≤◌, ◌<◌, min, max}
+use mathlib.Core.List.{List, []}
+use mathlib.Core.Path.{◌≡◌, refl, sym, ap, ap₂, ◌∙◌, subst}
+use Prim.Native.Nat.{ℕ, zero, suc, ◌+◌, ◌-◌, ◌*◌, ◌/◌, ◌^◌, ◌≤◌, ◌<◌, min, max}
 use native.Mathlib.Omega.{arith}
 use lib.Arith.{digits_div}
-use lib.ListN.{length, get_or, set}
+use lib.ListN.{length, get_or, set, replicate, take, drop, length-take, length-drop, length-replicate}
+use lib.Seq.{paste}
+use native.Mathlib.Numerals.{add-one}
+use borrow.Rule.Slice.PartMut.{put_mid}
+use Rattle.std.proofs.lemmas.Slice.{put_mid-paste}
+use Rattle.std.proofs.lemmas.List.Edits.{paste_none, fill_from_more}
 use Rattle.laws.specs.Bools.{or_swap}
 use Rattle.laws.specs.Bools.{digit}
 use Rattle.laws.specs.Ranges.{between, between_false, between_same, between_join}
@@ -47,13 +52,29 @@ module _ (w : ℕ) (s : Bool) (m : List ℕ) where
       ∙ full_stored w s (written w P s m) i (subst (λ (n : ℕ). i < n) (sym (length_written w P s m)) d) (written_lt w P s m i d u)
       ∙ both w (words w i (i + 1)) P (words w a (i + 1)) s m (λ q. between_join a i (i + 1) (q / w) h (omega arith))
 
-  -- the words stop at the map's end
-  pub words_end : (a b i : ℕ) → min b (length m) ≤ i → i ≤ max a (min b (length m)) → written w (words w a i) s m ≡ written w (words w a b) s m
-  words_end a b i h u =
-      alike w (words w a i) (words w a b) s m
+  -- as many words stored whole
+  pub words_filled : (a k : ℕ) → a + k ≤ length m → ((j : ℕ) → get_or m j 0 < 2 ^ w)
+      → paste m a (replicate k (digit s * (2 ^ w - 1))) k ≡ written w (words w a (a + k)) s m
+  words_filled a zero h u = let e : a ≡ a + 0 = omega arith in sym (paste_none m a []) ∙ words_none a ∙ ap (λ (p : ℕ). written w (words w a p) s m) e
+  words_filled a (suc k) h u =
+      let v : ℕ = digit s * (2 ^ w - 1) in
+      let e : a + k + 1 ≡ a + suc k = omega arith in
+      ap (λ (n : ℕ). paste m a (replicate n v) n) (sym (add-one k)) ∙ sym (fill_from_more m a k v (omega arith))
+      ∙ words_step a (a + k) (paste m a (replicate k v) k) (omega arith) (omega arith) (u (a + k)) (words_filled a k (omega arith) u)
+      ∙ ap (λ (p : ℕ). written w (words w a p) s m) e
+
+  -- the words from a to before b, as many as the map has
+  pub words_stored : (a b from to v : ℕ) (ys : List ℕ) → to ≡ min b (length m) → from ≡ min a to → ((j : ℕ) → get_or m j 0 < 2 ^ w) → v ≡ digit s * (2 ^ w - 1)
+      → ys ≡ replicate (length (take (to - from) (drop from m))) v → put_mid from (to - from) m ys ≡ written w (words w a b) s m
+  words_stored a b from to v ys e f u g h =
+      let n : ℕ = to - from in
+      let len : length (take n (drop from m)) ≡ n = omega (arith, length-take n (drop from m), length-drop from m) in
+      put_mid-paste from n m ys (replicate n (digit s * (2 ^ w - 1))) n (h ∙ ap₂ (λ (k x : ℕ). replicate k x) len g) refl (sym (length-replicate n (digit s * (2 ^ w - 1))))
+      ∙ words_filled from n (omega arith) u
+      ∙ alike w (words w from (from + n)) (words w a b) s m
       (λ j k l d.
-      let e = digits_div j d in
-      between_same a i ((j * w + k) / w) a b ((j * w + k) / w) (λ x y. (x, omega arith)) (λ x y. (x, omega arith)))
+      let i = digits_div j d in
+      between_same from (from + n) ((j * w + k) / w) a b ((j * w + k) / w) (λ x y. (omega arith, omega arith)) (λ x y. (omega arith, omega arith)))
 
 -- ---- a run as its edges and the words that it fills: either order gives the same map
 

@@ -2,10 +2,11 @@
 // each chunk in 64-bit words.
 #![tactic(auto)]
 
-ghost use Rattle.std.specs.Prelude.{◌≡◌, cond, ◌+◌, ◌*◌, ◌/◌, ◌≤◌};
+ghost use Rattle.std.specs.Prelude.{◌≡◌, ℕ, cond, ◌+◌, ◌*◌, ◌/◌, ◌%◌, ◌≤◌, ◌<◌, eqb, map};
+ghost use Rattle.std.proofs.Common.{rules};
 ghost use Rattle.laws.specs.Bools.{digit};
 ghost use Rattle.laws.specs.Ranges.{between};
-ghost use Rattle.bitmap.specs.Pages.{bit_at, written, one, words, filled, edges, bit, tally};
+ghost use Rattle.bitmap.specs.Pages.{bit_at, written, one, word, words, filled, edges, bit, tally};
 
 // The byte whose pages all have the state.
 pub fn full(state: bool) -> u8
@@ -18,39 +19,121 @@ pub fn full(state: bool) -> u8
 pub fn fill_bytes(map: &mut [u8], from: u64, to: u64, state: bool)
     ensures { map.new ≡ written 8 (words 8 from to) state map.old }
 {
-    let v = full(state);
-    let stop = numbers::min(to, map.len() as u64) as usize;
-    let mut i = from as usize;
-    while i < stop {
-        map[i] = v;
-        i += 1;
-    }
+    let end = to.min(map.len() as u64);
+    let start = from.min(end);
+    map[start as usize..end as usize].fill(full(state));
 }
 
-// Of a mask that was set, what is taken off again.
-fn cleared(mask: u8, state: bool) -> u8
-    ensures { result ≡ cond state 0 mask }
+// A word of a map: a bit for each of `BITS` places, the lowest first.
+trait Word: Copy {
+    ghost BITS: { ℕ };
+
+    ghost number: { Self → ℕ };
+
+    const BITS: u64;
+
+    // Whether the bit of a place is set.
+    fn has(self, place: u64) -> bool
+        ensures { result ≡ bit (number self) (place % BITS) };
+
+    // The word with the bit of a place written, and every other as it is.
+    fn with(self, place: u64, state: bool) -> Self
+        ensures { number result ≡ word BITS (λ k. cond (eqb k (place % BITS)) state (bit (number self) k)) (number self) };
+
+    ghost some: { 0 < BITS };
+}
+
+impl Word for u8 {
+    ghost BITS = { 8 };
+
+    ghost number = { λ x. x };
+
+    const BITS: u64 = 8;
+
+    fn has(self, place: u64) -> bool {
+        (self >> (place % 8)) % 2 == 1
+    }
+
+    fn with(self, place: u64, state: bool) -> u8 {
+        let mask = 1u8 << (place % 8);
+        let off = if state { 0 } else { mask };
+        (self | mask) ^ off
+    }
+
+    ghost some = { Prim.search rules };
+}
+
+impl Word for u64 {
+    ghost BITS = { 64 };
+
+    ghost number = { λ x. x };
+
+    const BITS: u64 = 64;
+
+    fn has(self, place: u64) -> bool {
+        (self >> (place % 64)) % 2 == 1
+    }
+
+    fn with(self, place: u64, state: bool) -> u64 {
+        let mask = 1u64 << (place % 64);
+        let off = if state { 0 } else { mask };
+        (self | mask) ^ off
+    }
+
+    ghost some = { Prim.search rules };
+}
+
+// The bit of a place: not set past the end.
+fn place_state<W: Word>(words: &[W], place: u64) -> bool
+    ensures { result ≡ bit_at W.BITS (map W.number words.now) place }
 {
-    if state { 0 } else { mask }
+    let i = (place / W::BITS) as usize;
+    i < words.len() && words[i].has(place)
+}
+
+// The bit of one place written; nothing past the end.
+fn set_place<W: Word>(words: &mut [W], place: u64, state: bool)
+    ensures { map W.number words.new ≡ written W.BITS (one place) state (map W.number words.old) }
+{
+    let i = (place / W::BITS) as usize;
+    if i < words.len() {
+        words[i] = words[i].with(place, state);
+    }
 }
 
 // One page written; nothing past the end.
 pub fn set_page(map: &mut [u8], gpn: u64, state: bool)
     ensures { map.new ≡ written 8 (one gpn) state map.old }
 {
-    let i = (gpn / 8) as usize;
-    if i < map.len() {
-        let m = 1u8 << (gpn % 8);
-        let x = map[i];
-        map[i] = (x | m) ^ cleared(m, state);
-    }
+    set_place(map, gpn, state);
+}
+
+// The state of a page: not set past the end.
+pub fn page_state(map: &[u8], gpn: u64) -> bool
+    ensures { result ≡ bit_at 8 map.now gpn }
+{
+    place_state(map, gpn)
+}
+
+// One chunk written; nothing past the end.
+pub fn set(map: &mut [u64], chunk: u64, value: bool)
+    ensures { map.new ≡ written 64 (one chunk) value map.old }
+{
+    set_place(map, chunk, value);
+}
+
+// The state of a chunk: not set past the end.
+pub fn get(map: &[u64], chunk: u64) -> bool
+    ensures { result ≡ bit_at 64 map.now chunk }
+{
+    place_state(map, chunk)
 }
 
 // The first byte whose pages begin at `gpn` or after it.
 fn byte_up(gpn: u64) -> u64
     ensures { result ≡ (gpn + 7) / 8 }
 {
-    if gpn % 8 == 0 { gpn / 8 } else { gpn / 8 + 1 }
+    gpn.div_ceil(8)
 }
 
 // The byte after those whose pages end at `gpn` or before it.
@@ -69,10 +152,8 @@ fn update_edge(map: &mut [u8], first: u64, last: u64, state: bool)
     if count == 8 {
         return;
     }
-    let mut k: u64 = 0;
-    while k < count {
+    for k in 0..count {
         set_page(map, first + k, state);
-        k += 1;
     }
 }
 
@@ -81,7 +162,7 @@ fn update_edges(map: &mut [u8], first: u64, last: u64, state: bool)
     requires { first ≤ last }
     ensures { map.new ≡ written 8 (edges 8 first (last + 1)) state map.old }
 {
-    let end = numbers::min(last, first / 8 * 8 + 7);
+    let end = last.min(first / 8 * 8 + 7);
     update_edge(map, first, end, state);
     if last <= end {
         return;
@@ -117,49 +198,9 @@ pub fn update(map: &mut [u8], first: u64, last: u64, state: bool)
     update_run(map, first, last, state);
 }
 
-// The state of a page: not set past the end.
-pub fn page_state(map: &[u8], gpn: u64) -> bool
-    ensures { result ≡ bit_at 8 map.now gpn }
-{
-    let i = (gpn / 8) as usize;
-    if i < map.len() {
-        (map[i] >> (gpn % 8)) % 2 == 1
-    } else {
-        false
-    }
-}
-
 // How many pages of a byte are set.
 pub fn count_byte(x: u8) -> u32
     ensures { result ≡ tally 8 (bit x) }
 {
     u8::count_ones(x)
-}
-
-// The state of a chunk: not set past the end.
-pub fn get(map: &[u64], chunk: u64) -> bool
-    ensures { result ≡ bit_at 64 map.now chunk }
-{
-    let i = (chunk / 64) as usize;
-    if i < map.len() {
-        (map[i] >> (chunk % 64)) % 2 == 1
-    } else {
-        false
-    }
-}
-
-// One chunk written; nothing past the end.
-pub fn set(map: &mut [u64], chunk: u64, value: bool)
-    ensures { map.new ≡ written 64 (one chunk) value map.old }
-{
-    let i = (chunk / 64) as usize;
-    if i < map.len() {
-        let m = 1u64 << (chunk % 64);
-        let x = map[i];
-        if value {
-            map[i] = x | m;
-        } else {
-            map[i] = (x | m) ^ m;
-        }
-    }
 }

@@ -181,14 +181,6 @@ span_stop es i first end next h q r t a b =
     let z : s ≡ made first = cc in
     z ∙ ap made q ∙ sym (span_here es i h)
 
--- ---- the last end
-
-pub last_none : (es : List MemoryRangeWithNode) → length es ≡ 0 → last_end es ≡ 0
-last_none es h = ap (λ (e : MemoryRangeWithNode). e.end) (get_or-eq_default es (entry 0 0 0) (omega arith))
-
-pub last_at : (es : List MemoryRangeWithNode) (n : ℕ) (e : MemoryRangeWithNode) → n ≡ length es → e ≡ entry_at es (n - 1) → e.end ≡ last_end es
-last_at es n e h q = ap (λ (e : MemoryRangeWithNode). e.end) q ∙ ap (λ (n : ℕ). (entry_at es (n - 1)).end) h
-
 -- ---- pages from 2^52 on
 
 pub past_all : (e : MemoryRangeWithNode) (p : ℕ) → e.end < 2 ^ 64 → 2 ^ 52 ≤ p → holds_page e p ≡ false

@@ -36,11 +36,7 @@ pub struct Span {
 pub fn page_up(address: u64) -> u64
     ensures { result ≡ page_up address }
 {
-    if address % PAGE_SIZE == 0 {
-        address / PAGE_SIZE
-    } else {
-        address / PAGE_SIZE + 1
-    }
+    address.div_ceil(PAGE_SIZE)
 }
 
 pub fn entry_count(ram: &[u64]) -> u64
@@ -73,31 +69,19 @@ pub fn entry_at(ram: &[u64], i: u64) -> MemoryRangeWithNode
 fn follows_on(e: MemoryRangeWithNode, from: u64) -> bool
     ensures { result ≡ follows from e }
 {
-    if e.start < from {
-        return false;
-    }
-    if e.end <= e.start {
-        return false;
-    }
-    if 0x10_0000_0000_0000 < e.end {
-        return false;
-    }
-    e.vnode < 0x1_0000_0000
+    from <= e.start && e.start < e.end && e.end <= 0x10_0000_0000_0000 && e.vnode < 0x1_0000_0000
 }
 
 fn is_ordered(ram: &[u64]) -> bool
     ensures { result ≡ ordered 0 (entries_of ram.now) }
 {
-    let n = entry_count(ram);
-    let mut from: u64 = 0;
-    let mut i: u64 = 0;
-    while i < n {
+    let mut from = 0;
+    for i in 0..entry_count(ram) {
         let e = entry_at(ram, i);
         if !follows_on(e, from) {
             return false;
         }
         from = e.end;
-        i += 1;
     }
     true
 }
@@ -105,24 +89,16 @@ fn is_ordered(ram: &[u64]) -> bool
 fn is_on_bytes(e: MemoryRangeWithNode) -> bool
     ensures { result ≡ on_bytes e }
 {
-    if e.start % RAM_ALIGNMENT == 0 {
-        e.end % RAM_ALIGNMENT == 0
-    } else {
-        false
-    }
+    e.start % RAM_ALIGNMENT == 0 && e.end % RAM_ALIGNMENT == 0
 }
 
 fn is_aligned(ram: &[u64]) -> bool
     ensures { result ≡ aligned (entries_of ram.now) }
 {
-    let n = entry_count(ram);
-    let mut i: u64 = 0;
-    while i < n {
-        let e = entry_at(ram, i);
-        if !is_on_bytes(e) {
+    for i in 0..entry_count(ram) {
+        if !is_on_bytes(entry_at(ram, i)) {
             return false;
         }
-        i += 1;
     }
     true
 }
@@ -160,11 +136,7 @@ pub fn refusal(ram: &[u64]) -> Result<(), Refusal>
 fn holds(e: MemoryRangeWithNode, address: u64) -> bool
     ensures { result ≡ between e.start e.end address }
 {
-    if e.start <= address {
-        address < e.end
-    } else {
-        false
-    }
+    e.start <= address && address < e.end
 }
 
 // The place of the first entry that holds a page, or the number of entries.
@@ -176,15 +148,12 @@ pub fn entry_of(ram: &[u64], gpn: u64) -> u64
         return n;
     }
     let address = gpn * PAGE_SIZE;
-    let mut i: u64 = 0;
-    while i < n {
-        let e = entry_at(ram, i);
-        if holds(e, address) {
+    for i in 0..n {
+        if holds(entry_at(ram, i), address) {
             return i;
         }
-        i += 1;
     }
-    i
+    n
 }
 
 // Whether a page is RAM.
@@ -198,12 +167,7 @@ pub fn is_in_guest_memory(ram: &[u64], gpn: u64) -> bool
 pub fn last_end(ram: &[u64]) -> u64
     ensures { result ≡ last_end (entries_of ram.now) }
 {
-    let n = entry_count(ram);
-    if n == 0 {
-        return 0;
-    }
-    let last = entry_at(ram, n - 1);
-    last.end
+    entry_at(ram, entry_count(ram).saturating_sub(1)).end
 }
 
 // The length of a page map in bytes.
@@ -227,22 +191,20 @@ pub fn span_at(ram: &[u64], i: u64) -> Span
     }
     let first = entry_at(ram, i);
     let mut end = first.end;
-    let mut next = i + 1;
-    while next < n {
+    for next in i + 1..n {
         let e = entry_at(ram, next);
         if e.start != end {
             return Span {
                 start: first.start,
-                end: end,
-                next: next,
+                end,
+                next,
             };
         }
         end = e.end;
-        next += 1;
     }
     Span {
         start: first.start,
-        end: end,
-        next: next,
+        end,
+        next: n,
     }
 }

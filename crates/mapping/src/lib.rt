@@ -25,10 +25,7 @@ pub struct MapLengths {
 fn marks_fit(len: u64, lengths: MapLengths) -> bool
     ensures { result ≡ marks_fit len lengths }
 {
-    if lengths.private != len {
-        return false;
-    }
-    lengths.shared == len
+    lengths.private == len && lengths.shared == len
 }
 
 // The length of a permission map.
@@ -42,26 +39,14 @@ fn permission_len(len: u64, tracked: bool) -> u64
 fn permissions_fit(len: u64, lengths: MapLengths) -> bool
     ensures { result ≡ permissions_fit len lengths }
 {
-    if lengths.read != len {
-        return false;
-    }
-    if lengths.write != len {
-        return false;
-    }
-    if lengths.kernel != len {
-        return false;
-    }
-    lengths.user == len
+    lengths.read == len && lengths.write == len && lengths.kernel == len && lengths.user == len
 }
 
 // Whether maps of these lengths fit a layout whose maps have `len` bytes.
 pub fn maps_fit(len: u64, tracked: bool, lengths: MapLengths) -> bool
     ensures { result ≡ maps_fit len tracked lengths }
 {
-    if !marks_fit(len, lengths) {
-        return false;
-    }
-    permissions_fit(permission_len(len, tracked), lengths)
+    marks_fit(len, lengths) && permissions_fit(permission_len(len, tracked), lengths)
 }
 
 // Every page of the map not set.
@@ -86,12 +71,9 @@ fn set_entry(map: &mut [u8], from: u64, to: u64)
 fn set_ram(map: &mut [u8], ram: &[u64])
     ensures { map.new ≡ written 8 (is_ram (entries_of ram.now)) true map.old }
 {
-    let n = layout::entry_count(ram);
-    let mut i: u64 = 0;
-    while i < n {
+    for i in 0..layout::entry_count(ram) {
         let e = layout::entry_at(ram, i);
         set_entry(map, layout::page_up(e.start), layout::page_up(e.end));
-        i += 1;
     }
 }
 

@@ -2,22 +2,15 @@
 use mathlib.Core.Bool.{Bool, true, false, cond}
 use mathlib.Core.List.{List, [], ◌∷◌}
 use mathlib.Core.Path.{◌≡◌, refl, sym, ap, ap₂, ◌∙◌}
-use Prim.Native.Nat.{ℕ, suc, ◌+◌, ◌-◌, ◌≤◌, ◌<◌, min}
-use native.Mathlib.Decide.{ℕ_discrete}
+use Prim.Native.Nat.{ℕ, suc, ◌+◌, ◌≤◌, ◌<◌, min}
 use native.Mathlib.Numerals.{add-one}
 use native.Mathlib.Omega.{arith}
 use lib.Dec.{eqb}
 use lib.ListN.{length, get_or, take, drop, length-take, drop_of_length-le}
 use lib.Seq.{drop-cons, drop-drop, get_or-take}
-use borrow.Author.Tests.{eq-eqb, ne_eqb, lt-ltb, le-ltb}
+use borrow.Author.Tests.{lt-ltb, le-ltb}
 use Rattle.page_list.specs.declared.PageRun.{PageRun}
 use Rattle.page_list.specs.Runs.{run, before, runs_of, part, neighbours, run_at}
-
-pub neighbour_yes : (p q : ℕ) → p < q → eqb (q - p) 1 ≡ eqb q (p + 1)
-neighbour_yes p q h = elim (ℕ_discrete q (p + 1)) [
-  | yes e ↦ eq-eqb (q - p) 1 (omega arith) ∙ sym (eq-eqb q (p + 1) e)
-  | no e ↦ ne_eqb (q - p) 1 (λ d. e (omega arith)) ∙ sym (ne_eqb q (p + 1) e)
-]
 
 pub part_next : (t : List ℕ) (n a : ℕ) → a < n → a < length t → part t n a ≡ get_or t a 0 ∷ part t n (a + 1)
 part_next t n a h g =

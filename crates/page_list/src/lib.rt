@@ -13,20 +13,6 @@ pub struct PageRun {
     pub count: u64,
 }
 
-// Four bytes as a number.
-fn half(a: u8, b: u8, c: u8, d: u8) -> u64
-    ensures { result ≡ a + 0x100 * b + 0x1_0000 * c + 0x100_0000 * d }
-{
-    (a as u64) + 0x100 * (b as u64) + 0x1_0000 * (c as u64) + 0x100_0000 * (d as u64)
-}
-
-// Eight bytes as a number. In two halves it is compiled into one load, as a chain of eight sums is not.
-fn number(a: u8, b: u8, c: u8, d: u8, e: u8, f: u8, g: u8, h: u8) -> u64
-    ensures { result ≡ number_of a b c d e f g h }
-{
-    half(a, b, c, d) + 0x1_0000_0000 * half(e, f, g, h)
-}
-
 // How many pages a list has.
 pub fn page_count(list: &[u8]) -> u64
     ensures { result ≡ length (pages_of list.now) }
@@ -41,7 +27,7 @@ pub fn page_at(list: &[u8], i: u64) -> u64
     let k = i as usize;
     if k < list.len() / 8 {
         let at = 8 * k;
-        number(
+        u64::from_le_bytes([
             list[at],
             list[at + 1],
             list[at + 2],
@@ -50,7 +36,7 @@ pub fn page_at(list: &[u8], i: u64) -> u64
             list[at + 5],
             list[at + 6],
             list[at + 7],
-        )
+        ])
     } else {
         0
     }
@@ -80,16 +66,13 @@ fn steps_on(up: bool, p: u64, q: u64) -> bool
 fn is_strict(list: &[u8], up: bool) -> bool
     ensures { result ≡ strict up (pages_of list.now) }
 {
-    let n = page_count(list);
     let mut p = page_at(list, 0);
-    let mut i: u64 = 1;
-    while i < n {
+    for i in 1..page_count(list) {
         let q = page_at(list, i);
         if !steps_on(up, p, q) {
             return false;
         }
         p = q;
-        i += 1;
     }
     true
 }
@@ -98,14 +81,10 @@ fn is_strict(list: &[u8], up: bool) -> bool
 fn is_among(list: &[u8], from: u64, p: u64) -> bool
     ensures { result ≡ among (drop from (pages_of list.now)) p }
 {
-    let n = page_count(list);
-    let mut i = from;
-    while i < n {
-        let q = page_at(list, i);
-        if p == q {
+    for i in from..page_count(list) {
+        if page_at(list, i) == p {
             return true;
         }
-        i += 1;
     }
     false
 }
@@ -114,35 +93,26 @@ fn is_among(list: &[u8], from: u64, p: u64) -> bool
 fn is_repeated(list: &[u8]) -> bool
     ensures { result ≡ repeats (pages_of list.now) }
 {
-    let n = page_count(list);
-    let mut i: u64 = 0;
-    while i < n {
-        let p = page_at(list, i);
-        if is_among(list, i + 1, p) {
+    for i in 0..page_count(list) {
+        if is_among(list, i + 1, page_at(list, i)) {
             return true;
         }
-        i += 1;
     }
     false
 }
 
 // Whether a page stands twice: seen in one pass for a list that ascends or descends.
+#[tactic(auto, using(crate::proofs::Laws::strict_none))]
 pub fn has_repeat(list: &[u8]) -> bool
     ensures { result ≡ repeats (pages_of list.now) }
 {
-    if is_strict(list, true) {
-        return false;
-    }
-    if is_strict(list, false) {
-        return false;
-    }
-    is_repeated(list)
+    !is_strict(list, true) && !is_strict(list, false) && is_repeated(list)
 }
 
 fn is_neighbour(p: u64, q: u64) -> bool
     ensures { result ≡ eqb q (p + 1) }
 {
-    if p < q { q - p == 1 } else { false }
+    p < q && q - p == 1
 }
 
 // The run of ascending neighbours that starts at a place of a table whose first n words are pages.
@@ -153,22 +123,20 @@ pub fn run_at(t: &[u64], n: u64, from: u64) -> PageRun
         return PageRun { first: 0, count: 0 };
     }
     let first = numbers::word_at(t, from);
-    let stop = numbers::min(n, t.len() as u64);
+    let stop = n.min(t.len() as u64);
     let mut p = first;
-    let mut i = from + 1;
-    while i < stop {
+    for i in from + 1..stop {
         let q = numbers::word_at(t, i);
         if !is_neighbour(p, q) {
             return PageRun {
-                first: first,
+                first,
                 count: i - from,
             };
         }
         p = q;
-        i += 1;
     }
     PageRun {
-        first: first,
-        count: i - from,
+        first,
+        count: stop.max(from + 1) - from,
     }
 }

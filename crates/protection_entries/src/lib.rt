@@ -3,6 +3,7 @@
 
 ghost use Rattle.std.specs.Prelude.{◌≡◌, ◌+◌, ◌<◌, ◌≤◌, ◌^◌, length};
 ghost use Rattle.abi.specs.Flags.{flags_end};
+ghost use Rattle.abi.specs.Refusals.{refused_by};
 ghost use Rattle.permissions.specs.Flags.{flags_of};
 ghost use Rattle.page_list.specs.Pages.{pages_of};
 ghost use Rattle.mapping.specs.Maps.{maps, perms};
@@ -13,7 +14,8 @@ ghost use Rattle.call_refusals.specs.Buffers.{buffers, outcome, tables_len, fits
 ghost use Rattle.protector.specs.Writes.{permitted_run};
 ghost use Rattle.protection_entries.specs.Calls.{default_refusal, stored_default, barred, renewed_tables, first_piece, default_step, default_of, any_shared, pages_refusal, protection_refusal, protection_step, protection_of};
 
-use abi::{place, refusal, table};
+use abi::refusal::Refusal;
+use abi::{place, table};
 use call_refusals::Lengths;
 use change_steps::ChangeStep;
 use mapping::MapLengths;
@@ -21,21 +23,19 @@ use page_list::PageRun;
 use permissions::{GuestVtl, HvMapGpaFlags};
 use protector_state::Reply;
 
-// The number that refuses a default change: 0 where none does.
-fn default_refusal(state: &[u64], lengths: Lengths, vtl: u64, flags: u64) -> u64
-    ensures { result ≡ default_refusal state.now (fits_in state.now lengths) vtl flags }
+// What refuses a default change.
+#[tactic(auto, using(abi::proofs::Numbers::number_not_zero, call_refusals::proofs::Laws::is_ready), unfolding(crate::specs::Calls::default_refusal, call_refusals::specs::Refusals::ready))]
+fn default_refusal(state: &[u64], lengths: Lengths, vtl: u64, flags: u64) -> Result<(), Refusal>
+    ensures { refused_by result ≡ default_refusal state.now (fits_in state.now lengths) vtl flags }
 {
-    let n = call_refusals::lent_refusal(state, lengths);
-    if n != 0 {
-        return n;
-    }
+    call_refusals::lent_refusal(state, lengths)?;
     if !permissions::is_vtl(vtl) {
-        return refusal::UNFIT_NUMBER;
+        return Err(Refusal::UnfitNumber);
     }
     if !permissions::is_flags(flags) {
-        return refusal::UNFIT_NUMBER;
+        return Err(Refusal::UnfitNumber);
     }
-    0
+    Ok(())
 }
 
 // The default of a VTL: the word of the other's stays as it is.
@@ -168,14 +168,13 @@ pub fn protector_change_default_vtl_protections(
         pages: pages.len() as u64,
         tables: tables.len() as u64,
     };
-    let n = default_refusal(state, lengths, vtl, flags);
-    if n != 0 {
-        return protector_state::refused(n);
+    if let Err(refusal) = default_refusal(state, lengths, vtl, flags) {
+        return protector_state::refused(refusal.number());
     }
     let v = permissions::vtl_of(vtl);
     store_default(state, v, flags);
     if has_locked_page(private, state, tables, v) {
-        return protector_state::refused(refusal::LOCKED);
+        return protector_state::refused(Refusal::Locked.number());
     }
     update_previous_permissions(tables, private, state, v, flags);
     let step = default_step(private, state, tables, v, flags);
@@ -186,34 +185,35 @@ pub fn protector_change_default_vtl_protections(
 fn is_any_shared(shared: &[u8], list: &[u8]) -> bool
     ensures { result ≡ any_shared shared.now (pages_of list.now) }
 {
-    let count = page_list::page_count(list);
-    let mut i: u64 = 0;
-    while i < count {
-        let p = page_list::page_at(list, i);
-        if bitmap::page_state(shared, p) {
+    for i in 0..page_list::page_count(list) {
+        if bitmap::page_state(shared, page_list::page_at(list, i)) {
             return true;
         }
-        i += 1;
     }
     false
 }
 
-// The number that refuses the pages of a protection change: 0 where none does.
-fn pages_refusal(state: &[u64], shared: &[u8], tables: &[u64], vtl: GuestVtl, list: &[u8]) -> u64
+// What refuses the pages of a protection change.
+#[tactic(auto, using(abi::proofs::Numbers::number_not_zero))]
+fn pages_refusal(
+    state: &[u64],
+    shared: &[u8],
+    tables: &[u64],
+    vtl: GuestVtl,
+    list: &[u8],
+) -> Result<(), Refusal>
     requires { (length state.now ≡ state_len) × (length tables.now ≡ tables_len) }
-    ensures { result ≡ pages_refusal state.now shared.now tables.now vtl list.now }
+    ensures { refused_by result ≡ pages_refusal state.now shared.now tables.now vtl list.now }
 {
-    let n = call_refusals::listed_refusal(state, tables, vtl, true, list);
-    if n != 0 {
-        return n;
-    }
+    call_refusals::listed_refusal(state, tables, vtl, true, list)?;
     if is_any_shared(shared, list) {
-        return refusal::SHARED;
+        return Err(Refusal::Shared);
     }
-    0
+    Ok(())
 }
 
-// The number that refuses a protection change: 0 where none does.
+// What refuses a protection change.
+#[tactic(auto, using(abi::proofs::Numbers::number_not_zero, call_refusals::proofs::Laws::is_ready), unfolding(crate::specs::Calls::protection_refusal, call_refusals::specs::Refusals::ready))]
 fn protection_refusal(
     state: &[u64],
     lengths: Lengths,
@@ -222,25 +222,22 @@ fn protection_refusal(
     vtl: u64,
     flags: u64,
     list: &[u8],
-) -> u64
+) -> Result<(), Refusal>
     requires { lengths.tables ≡ length tables.now }
-    ensures { result ≡ protection_refusal state.now (fits_in state.now lengths) shared.now tables.now vtl flags list.now }
+    ensures { refused_by result ≡ protection_refusal state.now (fits_in state.now lengths) shared.now tables.now vtl flags list.now }
 {
-    let n = call_refusals::lent_refusal(state, lengths);
-    if n != 0 {
-        return n;
-    }
+    call_refusals::lent_refusal(state, lengths)?;
     if page_list::is_long(list) {
-        return refusal::LONG_LIST;
+        return Err(Refusal::LongList);
     }
     if !permissions::is_vtl(vtl) {
-        return refusal::UNFIT_NUMBER;
+        return Err(Refusal::UnfitNumber);
     }
     if !permissions::is_flags(flags) {
-        return refusal::UNFIT_NUMBER;
+        return Err(Refusal::UnfitNumber);
     }
     if page_list::is_ragged(list) {
-        return refusal::UNFIT_NUMBER;
+        return Err(Refusal::UnfitNumber);
     }
     let v = permissions::vtl_of(vtl);
     pages_refusal(state, shared, tables, v, list)
@@ -286,9 +283,8 @@ pub fn protector_change_vtl_protections(
         pages: pages.len() as u64,
         tables: tables.len() as u64,
     };
-    let n = protection_refusal(state, lengths, shared, tables, vtl, flags, list);
-    if n != 0 {
-        return protector_state::refused(n);
+    if let Err(refusal) = protection_refusal(state, lengths, shared, tables, vtl, flags, list) {
+        return protector_state::refused(refusal.number());
     }
     let v = permissions::vtl_of(vtl);
     let count = page_list::page_count(list);

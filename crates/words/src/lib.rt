@@ -16,25 +16,14 @@ pub fn put(t: &mut [u64], i: u64, v: u64)
 pub fn clear(t: &mut [u64])
     ensures { t.new ≡ replicate (length t.old) 0 }
 {
-    let mut i: usize = 0;
-    while i < t.len() {
-        t[i] = 0;
-        i += 1;
-    }
+    t.fill(0);
 }
 
 // The place n words after a place: the end where there are fewer.
 fn place_after(t: &[u64], place: u64, n: u64) -> u64
     ensures { result ≡ min (length t.now) (place + n) }
 {
-    let end = t.len() as u64;
-    if end <= place {
-        return end;
-    }
-    if end - place <= n {
-        return end;
-    }
-    place + n
+    (t.len() as u64).min(place.saturating_add(n))
 }
 
 // The word n places after a place: 0 past the end.
@@ -55,21 +44,11 @@ pub fn put_after(t: &mut [u64], place: u64, n: u64, v: u64)
 fn close(t: &mut [u64], place: u64, n: u64)
     ensures { t.new ≡ closed t.old place n }
 {
-    let len = t.len() as u64;
-    let end = numbers::saturating_sub(len, n);
-    let mut i = place;
-    while i < end {
-        let from = (i + n) as usize;
-        let to = i as usize;
-        let w = t[from];
-        t[to] = w;
-        i += 1;
-    }
-    while i < len {
-        let to = i as usize;
-        t[to] = 0;
-        i += 1;
-    }
+    let gap = place_after(t, place, 0) as usize;
+    let rest = place_after(t, place, n) as usize;
+    t.copy_within(rest.., gap);
+    let freed = t.len() - (rest - gap);
+    t[freed..].fill(0);
 }
 
 // The same of the words before `end`: what stands from there on is kept.
@@ -77,16 +56,7 @@ pub fn remove_words(t: &mut [u64], place: u64, n: u64, end: u64)
     ensures { t.new ≡ closed_to t.old place n end }
 {
     let to = place_after(t, end, 0) as usize;
-    close(&mut t[0..to], place, n);
-}
-
-fn swap(t: &mut [u64], i: u64, j: u64)
-    ensures { t.new ≡ set (set t.old i (get_or t.old j 0)) j (get_or t.old i 0) }
-{
-    let v = numbers::word_at(t, i);
-    let w = numbers::word_at(t, j);
-    put(t, i, w);
-    put(t, j, v);
+    close(&mut t[..to], place, n);
 }
 
 // The words from `from` to before `to`, the other way round.
@@ -94,13 +64,7 @@ fn reverse(t: &mut [u64], from: u64, to: u64)
     requires { (from ≤ to) × (to ≤ length t.old) }
     ensures { t.new ≡ turned t.old from to }
 {
-    let mut i = from;
-    let mut j = to;
-    while i + 1 < j {
-        j -= 1;
-        swap(t, i, j);
-        i += 1;
-    }
+    t[from as usize..to as usize].reverse();
 }
 
 // n words at a place and the m words behind them change places: each part is turned, then both as one.
@@ -110,6 +74,7 @@ pub fn swap_runs(t: &mut [u64], place: u64, n: u64, m: u64)
     let from = place_after(t, place, 0);
     let middle = place_after(t, from, n);
     let to = place_after(t, middle, m);
+    // Kept: rotate_left calls memmove, and the C library is to need memset alone (docs/ABI.md).
     reverse(t, from, middle);
     reverse(t, middle, to);
     reverse(t, from, to);

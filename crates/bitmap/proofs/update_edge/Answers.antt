@@ -1,7 +1,6 @@
 use mathlib.Core.Path.{◌≡◌, ap, ◌∙◌}
 use Prim.Native.Nat.{ℕ, ◌+◌}
 use native.Mathlib.Omega.{arith}
-use borrow.Author.Rules.{rules}
 use lib.ListN.{length}
 use Rattle.laws.specs.Ranges.{between}
 use Rattle.bitmap.specs.Pages.{written}
@@ -15,25 +14,20 @@ returns-then-count-eq8 c = let a = c.args in edge_none a.state a.map.now a.first
 pub loop-k-init : goal.loop-k-init
 loop-k-init c =
     let a = c.args in
-    let none : a.first ≡ a.first + 0 = omega arith in (
-      search rules,
-      run_none 8 a.state a.map.now a.first ∙ ap (λ (p : ℕ). written 8 (between a.first p) a.state a.map.now) none,
-    )
+    let none : a.first ≡ a.first + 0 = omega arith in
+    run_none 8 a.state a.map.now a.first ∙ ap (λ (p : ℕ). written 8 (between a.first p) a.state a.map.now) none
 
 pub loop-k-preserved : goal.loop-k-preserved
 loop-k-preserved c =
-    let a = c.args in (
-      search rules,
-      run_next 8 a.state a.map.now a.first c.loop-k.k c.loop-k.map _ c.loop-k.invariant.1 c.set_page.ensures,
-    )
+    let a = c.args in run_next 8 a.state a.map.now a.first c.loop-k.k c.loop-k.map _ c.loop-k.invariant c.set_page.ensures
 
 pub shape_of-map : goal.shape_of-map
-shape_of-map c = let a = c.args in ap length c.loop-k.invariant.1 ∙ length_written 8 _ _ a.map.now
+shape_of-map c = let a = c.args in ap length c.loop-k.invariant ∙ length_written 8 _ _ a.map.now
 
 pub returns : goal.returns
 returns c =
     let a = c.args in
-    let end : a.first + c.loop-k.k ≡ a.last + 1 = omega (arith, c.requires.0, c.loop-k.invariant.0, c.loop-k-test.false) in
-    c.loop-k.invariant.1
+    let end : a.first + c.loop-k.k ≡ a.last + 1 = omega arith in
+    c.loop-k.invariant
     ∙ ap (λ (p : ℕ). written 8 (between a.first p) a.state a.map.now) end
     ∙ edge_all a.state a.map.now a.first a.last c.requires.0 (omega (arith, c.requires.0, c.requires.1, c.if-count-eq8.false))

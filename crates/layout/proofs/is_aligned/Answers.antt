@@ -11,14 +11,14 @@ pub returns-then-not-is_on_bytes : goal.returns-then-not-is_on_bytes
 returns-then-not-is_on_bytes c =
     let es = entries_of c.args.ram.now in
     let h = c.loop-i in
-    let e = c.entry_at-e in
+    let e = c.entry_at in
     sym (laws.aligned_hit es h.i e.result (omega arith) e.ensures (sym c.is_on_bytes.ensures ∙ c.if-not-is_on_bytes.true)) ∙ h.invariant
 
 pub loop-i-preserved : goal.loop-i-preserved
 loop-i-preserved c =
     let es = entries_of c.args.ram.now in
     let h = c.loop-i in
-    let e = c.entry_at-e in
+    let e = c.entry_at in
     sym (laws.aligned_miss es h.i e.result (omega arith) e.ensures (sym c.is_on_bytes.ensures ∙ c.if-not-is_on_bytes.false)) ∙ h.invariant
 
 pub returns : goal.returns

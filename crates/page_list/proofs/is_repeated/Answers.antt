@@ -12,18 +12,18 @@ returns-then-is_among c =
     let a = c.args in
     let ps = pages_of a.list.now in
     let h = c.loop-i in
-    sym (laws.repeats_hit ps h.i _ (omega (arith, c.page_count-n.ensures)) c.page_at-p.ensures (sym c.is_among.ensures ∙ c.if-is_among.true)) ∙ h.invariant
+    sym (laws.repeats_hit ps h.i _ (omega (arith, c.page_count-i-end.ensures)) c.page_at.ensures (sym c.is_among.ensures ∙ c.if-is_among.true)) ∙ h.invariant
 
 pub loop-i-preserved : goal.loop-i-preserved
 loop-i-preserved c =
     let a = c.args in
     let ps = pages_of a.list.now in
     let h = c.loop-i in
-    sym (laws.repeats_miss ps h.i _ (omega (arith, c.page_count-n.ensures)) c.page_at-p.ensures (sym c.is_among.ensures ∙ c.if-is_among.false)) ∙ h.invariant
+    sym (laws.repeats_miss ps h.i _ (omega (arith, c.page_count-i-end.ensures)) c.page_at.ensures (sym c.is_among.ensures ∙ c.if-is_among.false)) ∙ h.invariant
 
 pub returns : goal.returns
 returns c =
     let a = c.args in
     let ps = pages_of a.list.now in
     let h = c.loop-i in
-    sym (laws.repeats_end ps h.i (omega (arith, c.page_count-n.ensures))) ∙ h.invariant
+    sym (laws.repeats_end ps h.i (omega (arith, c.page_count-i-end.ensures))) ∙ h.invariant

@@ -12,7 +12,7 @@ returns-then-not-steps_on c =
     let a = c.args in
     let ps = pages_of a.list.now in
     let h = c.loop-i in
-    sym (laws.steps_hit ps h.i _ (omega (arith, c.page_count-n.ensures)) c.page_at-q.ensures a.up h.p
+    sym (laws.steps_hit ps h.i _ (omega (arith, c.page_count-i-end.ensures)) c.page_at-q.ensures a.up h.p
     (sym c.steps_on.ensures ∙ c.if-not-steps_on.true)) ∙ h.invariant
 
 pub loop-i-preserved : goal.loop-i-preserved
@@ -20,7 +20,7 @@ loop-i-preserved c =
     let a = c.args in
     let ps = pages_of a.list.now in
     let h = c.loop-i in
-    sym (laws.steps_miss ps h.i _ (omega (arith, c.page_count-n.ensures)) c.page_at-q.ensures a.up h.p
+    sym (laws.steps_miss ps h.i _ (omega (arith, c.page_count-i-end.ensures)) c.page_at-q.ensures a.up h.p
     (sym c.steps_on.ensures ∙ c.if-not-steps_on.false)) ∙ h.invariant
 
 pub returns : goal.returns
@@ -28,4 +28,4 @@ returns c =
     let a = c.args in
     let ps = pages_of a.list.now in
     let h = c.loop-i in
-    sym (laws.steps_end ps h.i (omega (arith, c.page_count-n.ensures)) a.up h.p) ∙ h.invariant
+    sym (laws.steps_end ps h.i (omega (arith, c.page_count-i-end.ensures)) a.up h.p) ∙ h.invariant

@@ -7,6 +7,3 @@ use Rattle.protection_entries.proofs.is_any_shared.Given as goal
 
 abbrev pub invariant-loop-i : goal.invariant-loop-i
 invariant-loop-i l = any_shared l.shared (drop l.i (pages_of l.list)) ≡ any_shared l.shared (pages_of l.list)
-
-abbrev pub decreases-loop-i : goal.decreases-loop-i
-decreases-loop-i l = l.count - l.i

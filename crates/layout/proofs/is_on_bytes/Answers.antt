@@ -1,8 +1,0 @@
-use borrow.Author.Tests.{eq-eqb, ne_eqb}
-use Rattle.layout.proofs.is_on_bytes.Goals as goal
-
-pub returns-then-e-eq0 : goal.returns-then-e-eq0
-returns-then-e-eq0 c = rw (eq-eqb _ _ c.if-e-eq0.true)
-
-pub returns-else-e-eq0 : goal.returns-else-e-eq0
-returns-else-e-eq0 c = rw (ne_eqb _ _ c.if-e-eq0.false)

@@ -1,7 +1,0 @@
-use Rattle.page_list.proofs.steps_on.Goals as goal
-
-pub returns-then-up : goal.returns-then-up
-returns-then-up c = rw c.if-up.true
-
-pub returns-else-up : goal.returns-else-up
-returns-else-up c = rw c.if-up.false
