@@ -13,58 +13,60 @@ use recording::digest;
 fn flags_of(r: Reply, isolation: u64) -> u64
     ensures { result ≡ flags_of r isolation }
 {
-    if isolation == CCA {
-        return 0;
-    }
-    r.flags
+    if isolation == CCA { 0 } else { r.flags }
 }
 
 fn fields(h: u64, r: Reply, isolation: u64) -> u64
     ensures { result ≡ fields_of h r isolation }
 {
-    let kind = digest::word(digest::word(h, r.operation), r.vtl);
-    let flags = digest::word(digest::word(kind, flags_of(r, isolation)), r.operand);
-    let run = digest::word(digest::word(flags, r.first), r.pages);
-    digest::word(run, r.shared)
+    let flags = flags_of(r, isolation);
+    digest::words(
+        h,
+        &[
+            r.operation,
+            r.vtl,
+            flags,
+            r.operand,
+            r.first,
+            r.pages,
+            r.shared,
+        ],
+    )
 }
 
+#[tactic(auto, unfolding(crate::specs::Answers::asked_of))]
 fn asked(h: u64, pages: &[u64], r: Reply, isolation: u64) -> u64
     ensures { result ≡ asked_of h pages.now r isolation }
 {
     let all = fields(h, r, isolation);
     if r.operation == operation::MODIFY {
-        return digest::words(all, recording::lists::words_part(pages, r.pages as usize));
+        return digest::words(all, recording::lists::part(pages, r.pages as usize));
     }
     all
 }
 
-fn answer(buffers: Buffers, c: Call, at: u64) -> Buffers
-    ensures { result ≡ answered buffers c at }
+#[tactic(auto, unfolding(crate::specs::Answers::answered))]
+fn answer(buffers: &mut Buffers, c: Call, at: u64)
+    ensures { buffers.new ≡ answered buffers.old c at }
 {
-    let state = buffers.state;
-    let pages = buffers.pages;
-    let r = buffers.reply;
-    let n = buffers::bytes_if(state[place::TRACKED]);
-    let mut v = buffers;
-    v.asked = asked(buffers.asked, &pages, r, state[place::ISOLATION]);
+    let n = buffers::bytes_in(buffers);
+    let isolation = buffers.state[place::ISOLATION];
+    buffers.asked = asked(buffers.asked, &buffers.pages, buffers.reply, isolation);
     if at == c.place {
-        return entries::failed(v, n, c);
+        entries::failed(buffers, n, c);
+    } else {
+        entries::done(buffers, n);
     }
-    entries::done(v, n)
 }
 
-// The buffers when the call asks for nothing more, or after so many answers.
-pub fn finish(first: Buffers, c: Call) -> Buffers
-    ensures { result ≡ finished_of first c }
+// Until the call asks for nothing more, or for so many answers.
+pub fn finish(buffers: &mut Buffers, c: Call)
+    ensures { buffers.new ≡ finished_of buffers.old c }
 {
-    let mut w = first;
-    let mut at: u64 = 0;
-    while at < ANSWERS {
-        if w.reply.operation == 0 {
-            return w;
+    for at in 0..ANSWERS {
+        if buffers.reply.operation == 0 {
+            return;
         }
-        at += 1;
-        w = answer(w, c, at);
+        answer(buffers, c, at + 1);
     }
-    w
 }

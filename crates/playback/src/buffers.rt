@@ -1,8 +1,8 @@
 // What is lent to the protector's calls, and a recorded call.
 ghost use Rattle.std.specs.Prelude.{◌≡◌, ◌≤◌};
-ghost use Rattle.playback.specs.Buffers.{map_bytes, bytes_if, no_buffers};
+ghost use Rattle.playback.specs.Buffers.{map_bytes, bytes_if, bytes_in, no_buffers};
 
-use abi::{PAGES_WORDS, STATE_WORDS, TABLES_WORDS};
+use abi::{PAGES_WORDS, STATE_WORDS, TABLES_WORDS, place};
 use protector_state::Reply;
 
 // Layouts end at page 512: the bytes of a map.
@@ -54,10 +54,14 @@ pub struct Call {
 pub fn bytes_if(tracked: u64) -> usize
     ensures { (result ≡ bytes_if tracked) × (result ≤ map_bytes) }
 {
-    if tracked == 1 {
-        return MAP_BYTES;
-    }
-    0
+    if tracked == 1 { MAP_BYTES } else { 0 }
+}
+
+// The same by the state block.
+pub fn bytes_in(buffers: &Buffers) -> usize
+    ensures { (result ≡ bytes_in buffers.now) × (result ≤ map_bytes) }
+{
+    bytes_if(buffers.state[place::TRACKED])
 }
 
 // The buffers before the first build.

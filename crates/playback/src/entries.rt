@@ -1,4 +1,5 @@
-// The entries, lent buffers by value. Of each permission map the first n bytes are lent: all where permissions are tracked, else none.
+// The entries, lent the buffers. Of each permission map the first n bytes are lent: all where permissions are tracked, else none.
+// Kept: the permission maps go out and in: `&mut buffers.read[..n]` isn't covered, and by a slice of the whole `returns` stayed open.
 ghost use Rattle.std.specs.Prelude.{◌≡◌, ◌≤◌};
 ghost use Rattle.protector.specs.Calls.{build_of, visibility_of, answer_done, answer_failed};
 ghost use Rattle.protection_entries.specs.Calls.{default_of, protection_of};
@@ -13,322 +14,231 @@ fn code_of(code: u64) -> u16
     (code % CODES) as u16
 }
 
-// The buffers after a build that is lent it.
-pub fn build(buffers: Buffers, n: usize, c: Call, ram: &[u64]) -> Buffers
+// A build.
+pub fn build(buffers: &mut Buffers, n: usize, c: Call, ram: &[u64])
     requires { n ≤ map_bytes }
-    ensures { result ≡ after n buffers (build_of (lent_of n buffers) ram.now c.a c.b c.c) }
+    ensures { buffers.new ≡ after n buffers.old (build_of (lent_of n buffers.old) ram.now c.a c.b c.c) }
 {
-    let mut private = buffers.private;
-    let mut shared = buffers.shared;
     let mut read = buffers.read;
     let mut write = buffers.write;
     let mut kernel = buffers.kernel;
     let mut user = buffers.user;
-    let mut state = buffers.state;
-    let mut pages = buffers.pages;
-    let mut tables = buffers.tables;
-    let r = underhill_mem::protector_build(
+    buffers.reply = underhill_mem::protector_build(
         ram,
         c.a,
         c.b,
         c.c,
-        &mut private,
-        &mut shared,
+        &mut buffers.private,
+        &mut buffers.shared,
         &mut read[..n],
         &mut write[..n],
         &mut kernel[..n],
         &mut user[..n],
-        &mut state,
-        &mut pages,
-        &mut tables,
+        &mut buffers.state,
+        &mut buffers.pages,
+        &mut buffers.tables,
     );
-    let mut v = buffers;
-    v.private = private;
-    v.shared = shared;
-    v.read = read;
-    v.write = write;
-    v.kernel = kernel;
-    v.user = user;
-    v.state = state;
-    v.pages = pages;
-    v.tables = tables;
-    v.reply = r;
-    v
+    buffers.read = read;
+    buffers.write = write;
+    buffers.kernel = kernel;
+    buffers.user = user;
 }
 
-// The buffers after a visibility change.
-pub fn visibility(buffers: Buffers, n: usize, c: Call, list: &[u8]) -> Buffers
+// A visibility change.
+pub fn visibility(buffers: &mut Buffers, n: usize, c: Call, list: &[u8])
     requires { n ≤ map_bytes }
-    ensures { result ≡ after n buffers (visibility_of (lent_of n buffers) c.a c.b list.now) }
+    ensures { buffers.new ≡ after n buffers.old (visibility_of (lent_of n buffers.old) c.a c.b list.now) }
 {
-    let mut private = buffers.private;
-    let mut shared = buffers.shared;
     let mut read = buffers.read;
     let mut write = buffers.write;
     let mut kernel = buffers.kernel;
     let mut user = buffers.user;
-    let mut state = buffers.state;
-    let mut pages = buffers.pages;
-    let tables = buffers.tables;
-    let r = underhill_mem::protector_change_host_visibility(
-        &mut private,
-        &mut shared,
+    buffers.reply = underhill_mem::protector_change_host_visibility(
+        &mut buffers.private,
+        &mut buffers.shared,
         &mut read[..n],
         &mut write[..n],
         &mut kernel[..n],
         &mut user[..n],
-        &mut state,
-        &mut pages,
-        &tables,
+        &mut buffers.state,
+        &mut buffers.pages,
+        &buffers.tables,
         c.a,
         c.b,
         list,
     );
-    let mut v = buffers;
-    v.private = private;
-    v.shared = shared;
-    v.read = read;
-    v.write = write;
-    v.kernel = kernel;
-    v.user = user;
-    v.state = state;
-    v.pages = pages;
-    v.reply = r;
-    v
+    buffers.read = read;
+    buffers.write = write;
+    buffers.kernel = kernel;
+    buffers.user = user;
 }
 
-// The buffers after a protection change.
-pub fn protections(buffers: Buffers, n: usize, c: Call, list: &[u8]) -> Buffers
+// A protection change.
+pub fn protections(buffers: &mut Buffers, n: usize, c: Call, list: &[u8])
     requires { n ≤ map_bytes }
-    ensures { result ≡ after n buffers (protection_of (lent_of n buffers) c.a c.b list.now) }
+    ensures { buffers.new ≡ after n buffers.old (protection_of (lent_of n buffers.old) c.a c.b list.now) }
 {
-    let private = buffers.private;
-    let shared = buffers.shared;
     let mut read = buffers.read;
     let mut write = buffers.write;
     let mut kernel = buffers.kernel;
     let mut user = buffers.user;
-    let mut state = buffers.state;
-    let mut pages = buffers.pages;
-    let tables = buffers.tables;
-    let r = protection_entries::protector_change_vtl_protections(
-        &private,
-        &shared,
+    buffers.reply = protection_entries::protector_change_vtl_protections(
+        &buffers.private,
+        &buffers.shared,
         &mut read[..n],
         &mut write[..n],
         &mut kernel[..n],
         &mut user[..n],
-        &mut state,
-        &mut pages,
-        &tables,
+        &mut buffers.state,
+        &mut buffers.pages,
+        &buffers.tables,
         c.a,
         c.b,
         list,
     );
-    let mut v = buffers;
-    v.read = read;
-    v.write = write;
-    v.kernel = kernel;
-    v.user = user;
-    v.state = state;
-    v.pages = pages;
-    v.reply = r;
-    v
+    buffers.read = read;
+    buffers.write = write;
+    buffers.kernel = kernel;
+    buffers.user = user;
 }
 
-// The buffers after a default change.
-pub fn default(buffers: Buffers, n: usize, c: Call) -> Buffers
+// A default change.
+pub fn default(buffers: &mut Buffers, n: usize, c: Call)
     requires { n ≤ map_bytes }
-    ensures { result ≡ after n buffers (default_of (lent_of n buffers) c.a c.b) }
+    ensures { buffers.new ≡ after n buffers.old (default_of (lent_of n buffers.old) c.a c.b) }
 {
-    let private = buffers.private;
-    let shared = buffers.shared;
     let mut read = buffers.read;
     let mut write = buffers.write;
     let mut kernel = buffers.kernel;
     let mut user = buffers.user;
-    let mut state = buffers.state;
-    let pages = buffers.pages;
-    let mut tables = buffers.tables;
-    let r = protection_entries::protector_change_default_vtl_protections(
-        &private,
-        &shared,
+    buffers.reply = protection_entries::protector_change_default_vtl_protections(
+        &buffers.private,
+        &buffers.shared,
         &mut read[..n],
         &mut write[..n],
         &mut kernel[..n],
         &mut user[..n],
-        &mut state,
-        &pages,
-        &mut tables,
+        &mut buffers.state,
+        &buffers.pages,
+        &mut buffers.tables,
         c.a,
         c.b,
     );
-    let mut v = buffers;
-    v.read = read;
-    v.write = write;
-    v.kernel = kernel;
-    v.user = user;
-    v.state = state;
-    v.tables = tables;
-    v.reply = r;
-    v
+    buffers.read = read;
+    buffers.write = write;
+    buffers.kernel = kernel;
+    buffers.user = user;
 }
 
-// The buffers after an overlay page is registered.
-pub fn register(buffers: Buffers, n: usize, c: Call) -> Buffers
+// An overlay page is registered.
+pub fn register(buffers: &mut Buffers, n: usize, c: Call)
     requires { n ≤ map_bytes }
-    ensures { result ≡ after n buffers (register_of (lent_of n buffers) c.a c.b c.c c.d c.e) }
+    ensures { buffers.new ≡ after n buffers.old (register_of (lent_of n buffers.old) c.a c.b c.c c.d c.e) }
 {
-    let private = buffers.private;
-    let shared = buffers.shared;
     let mut read = buffers.read;
     let mut write = buffers.write;
     let mut kernel = buffers.kernel;
     let mut user = buffers.user;
-    let mut state = buffers.state;
-    let pages = buffers.pages;
-    let mut tables = buffers.tables;
-    let r = overlay_entries::protector_register_overlay_page(
-        &private,
-        &shared,
+    buffers.reply = overlay_entries::protector_register_overlay_page(
+        &buffers.private,
+        &buffers.shared,
         &mut read[..n],
         &mut write[..n],
         &mut kernel[..n],
         &mut user[..n],
-        &mut state,
-        &pages,
-        &mut tables,
+        &mut buffers.state,
+        &buffers.pages,
+        &mut buffers.tables,
         c.a,
         c.b,
         c.c,
         c.d,
         c.e,
     );
-    let mut v = buffers;
-    v.read = read;
-    v.write = write;
-    v.kernel = kernel;
-    v.user = user;
-    v.state = state;
-    v.tables = tables;
-    v.reply = r;
-    v
+    buffers.read = read;
+    buffers.write = write;
+    buffers.kernel = kernel;
+    buffers.user = user;
 }
 
-// The buffers after an overlay page is unregistered.
-pub fn unregister(buffers: Buffers, n: usize, c: Call) -> Buffers
+// An overlay page is unregistered.
+pub fn unregister(buffers: &mut Buffers, n: usize, c: Call)
     requires { n ≤ map_bytes }
-    ensures { result ≡ after n buffers (unregister_of (lent_of n buffers) c.a c.b) }
+    ensures { buffers.new ≡ after n buffers.old (unregister_of (lent_of n buffers.old) c.a c.b) }
 {
-    let private = buffers.private;
-    let shared = buffers.shared;
     let mut read = buffers.read;
     let mut write = buffers.write;
     let mut kernel = buffers.kernel;
     let mut user = buffers.user;
-    let mut state = buffers.state;
-    let pages = buffers.pages;
-    let mut tables = buffers.tables;
-    let r = overlay_entries::protector_unregister_overlay_page(
-        &private,
-        &shared,
+    buffers.reply = overlay_entries::protector_unregister_overlay_page(
+        &buffers.private,
+        &buffers.shared,
         &mut read[..n],
         &mut write[..n],
         &mut kernel[..n],
         &mut user[..n],
-        &mut state,
-        &pages,
-        &mut tables,
+        &mut buffers.state,
+        &buffers.pages,
+        &mut buffers.tables,
         c.a,
         c.b,
     );
-    let mut v = buffers;
-    v.read = read;
-    v.write = write;
-    v.kernel = kernel;
-    v.user = user;
-    v.state = state;
-    v.tables = tables;
-    v.reply = r;
-    v
+    buffers.read = read;
+    buffers.write = write;
+    buffers.kernel = kernel;
+    buffers.user = user;
 }
 
-// The buffers after the answer that the operation asked for is done.
-pub fn done(buffers: Buffers, n: usize) -> Buffers
+// The operation asked for is done.
+pub fn done(buffers: &mut Buffers, n: usize)
     requires { n ≤ map_bytes }
-    ensures { result ≡ after n buffers (answer_done (lent_of n buffers)) }
+    ensures { buffers.new ≡ after n buffers.old (answer_done (lent_of n buffers.old)) }
 {
-    let mut private = buffers.private;
-    let mut shared = buffers.shared;
     let mut read = buffers.read;
     let mut write = buffers.write;
     let mut kernel = buffers.kernel;
     let mut user = buffers.user;
-    let mut state = buffers.state;
-    let mut pages = buffers.pages;
-    let mut tables = buffers.tables;
-    let r = underhill_mem::protector_answer_done(
-        &mut private,
-        &mut shared,
+    buffers.reply = underhill_mem::protector_answer_done(
+        &mut buffers.private,
+        &mut buffers.shared,
         &mut read[..n],
         &mut write[..n],
         &mut kernel[..n],
         &mut user[..n],
-        &mut state,
-        &mut pages,
-        &mut tables,
+        &mut buffers.state,
+        &mut buffers.pages,
+        &mut buffers.tables,
     );
-    let mut v = buffers;
-    v.private = private;
-    v.shared = shared;
-    v.read = read;
-    v.write = write;
-    v.kernel = kernel;
-    v.user = user;
-    v.state = state;
-    v.pages = pages;
-    v.tables = tables;
-    v.reply = r;
-    v
+    buffers.read = read;
+    buffers.write = write;
+    buffers.kernel = kernel;
+    buffers.user = user;
 }
 
-// The buffers after the answer that it failed, with the code and the pages processed that the call names.
-pub fn failed(buffers: Buffers, n: usize, c: Call) -> Buffers
+// It failed, with the code and the pages processed that the call names.
+pub fn failed(buffers: &mut Buffers, n: usize, c: Call)
     requires { n ≤ map_bytes }
-    ensures { result ≡ after n buffers (answer_failed (lent_of n buffers) (code_of c.code) c.processed) }
+    ensures { buffers.new ≡ after n buffers.old (answer_failed (lent_of n buffers.old) (code_of c.code) c.processed) }
 {
-    let mut private = buffers.private;
-    let mut shared = buffers.shared;
     let mut read = buffers.read;
     let mut write = buffers.write;
     let mut kernel = buffers.kernel;
     let mut user = buffers.user;
-    let mut state = buffers.state;
-    let mut pages = buffers.pages;
-    let mut tables = buffers.tables;
-    let r = underhill_mem::protector_answer_failed(
-        &mut private,
-        &mut shared,
+    buffers.reply = underhill_mem::protector_answer_failed(
+        &mut buffers.private,
+        &mut buffers.shared,
         &mut read[..n],
         &mut write[..n],
         &mut kernel[..n],
         &mut user[..n],
-        &mut state,
-        &mut pages,
-        &mut tables,
+        &mut buffers.state,
+        &mut buffers.pages,
+        &mut buffers.tables,
         code_of(c.code),
         c.processed,
     );
-    let mut v = buffers;
-    v.private = private;
-    v.shared = shared;
-    v.read = read;
-    v.write = write;
-    v.kernel = kernel;
-    v.user = user;
-    v.state = state;
-    v.pages = pages;
-    v.tables = tables;
-    v.reply = r;
-    v
+    buffers.read = read;
+    buffers.write = write;
+    buffers.kernel = kernel;
+    buffers.user = user;
 }

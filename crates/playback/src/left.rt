@@ -6,38 +6,34 @@ use crate::buffers::Buffers;
 use abi::place;
 use recording::digest;
 
-fn permissions(h: u64, buffers: Buffers) -> u64
-    ensures { result ≡ permissions_of h buffers }
+fn permissions(h: u64, buffers: &Buffers) -> u64
+    ensures { result ≡ permissions_of h buffers.now }
 {
-    let read = buffers.read;
-    let write = buffers.write;
-    let kernel = buffers.kernel;
-    let user = buffers.user;
-    let two = digest::bytes(digest::bytes(h, &read), &write);
-    digest::bytes(digest::bytes(two, &kernel), &user)
+    let two = digest::bytes(digest::bytes(h, &buffers.read), &buffers.write);
+    digest::bytes(digest::bytes(two, &buffers.kernel), &buffers.user)
 }
 
-fn maps(buffers: Buffers) -> u64
-    ensures { result ≡ maps_of buffers }
+#[tactic(auto, unfolding(crate::specs::Left::maps_of))]
+fn maps(buffers: &Buffers) -> u64
+    ensures { result ≡ maps_of buffers.now }
 {
-    let private = buffers.private;
-    let shared = buffers.shared;
-    let state = buffers.state;
-    let marks = digest::bytes(digest::bytes(digest::START, &private), &shared);
-    if state[place::TRACKED] == 1 {
-        return permissions(marks, buffers);
+    let marks = digest::bytes(
+        digest::bytes(digest::START, &buffers.private),
+        &buffers.shared,
+    );
+    if buffers.state[place::TRACKED] == 1 {
+        permissions(marks, buffers)
+    } else {
+        marks
     }
-    marks
 }
 
 // The digest of the maps, the settings and the tables.
-pub fn left(buffers: Buffers) -> u64
-    ensures { result ≡ left_of buffers }
+pub fn left(buffers: &Buffers) -> u64
+    ensures { result ≡ left_of buffers.now }
 {
-    let state = buffers.state;
-    let tables = buffers.tables;
-    let enabled = digest::word(maps(buffers), state[place::ENABLED]);
-    let first = digest::word(enabled, state[place::DEFAULT0]);
-    let settings = digest::word(first, state[place::DEFAULT1]);
-    digest::words(settings, &tables)
+    let enabled = digest::word(maps(buffers), buffers.state[place::ENABLED]);
+    let first = digest::word(enabled, buffers.state[place::DEFAULT0]);
+    let settings = digest::word(first, buffers.state[place::DEFAULT1]);
+    digest::words(settings, &buffers.tables)
 }

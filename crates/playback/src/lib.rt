@@ -1,4 +1,4 @@
-// Recorded calls put to the entries, by buffers that are handed on by value.
+// Recorded calls put to the entries.
 #![tactic(auto)]
 
 pub mod answers;

@@ -1,6 +1,5 @@
-// The registrar's calls, by a registry that is handed on by value.
+// The registrar's calls.
 ghost use Rattle.std.specs.Prelude.{◌≡◌};
-ghost use Rattle.registrar_state.specs.Buffers as lent;
 ghost use Rattle.recording.specs.Digest.{start};
 ghost use Rattle.playback.specs.Buffers.{answers};
 ghost use Rattle.playback.specs.Registry.{lent_of, after, start_in, answered, finished_from, call_of, asked_of, left_of};
@@ -22,141 +21,68 @@ pub struct Registry {
     pub asked: u64,
 }
 
-fn build(w: Registry, c: Call, ram: &[u64]) -> Registry
-    ensures { result ≡ after (lent.build_of (lent_of w) ram.now c.a c.b) start }
+#[tactic(auto, unfolding(crate::specs::Registry::answered))]
+fn answer(w: &mut Registry, c: Call, at: u64)
+    ensures { w.new ≡ answered w.old c at }
 {
-    let mut state = w.state;
-    let mut registered = w.registered;
-    let mut failed = w.failed;
-    let r = registrar::registrar_build(ram, c.a, c.b, &mut state, &mut registered, &mut failed);
-    Registry {
-        state: state,
-        registered: registered,
-        failed: failed,
-        reply: r,
-        asked: digest::START,
-    }
-}
-
-fn register(w: Registry, c: Call) -> Registry
-    ensures { result ≡ after (lent.register_of (lent_of w) c.a c.b) start }
-{
-    let mut state = w.state;
-    let mut registered = w.registered;
-    let mut failed = w.failed;
-    let r = registrar::registrar_register(&mut state, &mut registered, &mut failed, c.a, c.b);
-    Registry {
-        state: state,
-        registered: registered,
-        failed: failed,
-        reply: r,
-        asked: digest::START,
-    }
-}
-
-fn register_all(w: Registry, c: Call) -> Registry
-    ensures { result ≡ after (lent.all_of (lent_of w) c.a c.b) start }
-{
-    let mut state = w.state;
-    let mut registered = w.registered;
-    let mut failed = w.failed;
-    let r = registrar::registrar_register_all_aligned(
-        &mut state,
-        &mut registered,
-        &mut failed,
-        c.a,
-        c.b,
-    );
-    Registry {
-        state: state,
-        registered: registered,
-        failed: failed,
-        reply: r,
-        asked: digest::START,
-    }
-}
-
-fn answer_done(w: Registry) -> Registry
-    ensures { result ≡ after (lent.done_of (lent_of w)) w.asked }
-{
-    let mut state = w.state;
-    let mut registered = w.registered;
-    let mut failed = w.failed;
-    let r = registrar::registrar_answer_done(&mut state, &mut registered, &mut failed);
-    Registry {
-        state: state,
-        registered: registered,
-        failed: failed,
-        reply: r,
-        asked: w.asked,
-    }
-}
-
-fn answer_failed(w: Registry) -> Registry
-    ensures { result ≡ after (lent.failed_of (lent_of w)) w.asked }
-{
-    let mut state = w.state;
-    let mut registered = w.registered;
-    let mut failed = w.failed;
-    let r = registrar::registrar_answer_failed(&mut state, &mut registered, &mut failed);
-    Registry {
-        state: state,
-        registered: registered,
-        failed: failed,
-        reply: r,
-        asked: w.asked,
-    }
-}
-
-fn answer(w: Registry, c: Call, at: u64) -> Registry
-    ensures { result ≡ answered w c at }
-{
-    let r = w.reply;
-    let mut v = w;
-    v.asked = digest::word(digest::word(w.asked, r.start), r.end);
+    w.asked = digest::word(digest::word(w.asked, w.reply.start), w.reply.end);
     if at == c.place {
-        return answer_failed(v);
+        w.reply = registrar::registrar_answer_failed(
+            &mut w.state,
+            &mut w.registered,
+            &mut w.failed,
+        );
+    } else {
+        w.reply = registrar::registrar_answer_done(&mut w.state, &mut w.registered, &mut w.failed);
     }
-    answer_done(v)
 }
 
-fn start(w: Registry, c: Call, ram: &[u64]) -> Registry
-    ensures { result ≡ after (start_in (lent_of w) c ram.now) start }
+#[tactic(auto, unfolding(crate::specs::Registry::start_in))]
+fn start(w: &mut Registry, c: Call, ram: &[u64])
+    ensures { w.new ≡ after (start_in (lent_of w.old) c ram.now) start }
 {
-    if c.kind == kind::REGISTRAR_BUILD {
-        return build(w, c, ram);
-    }
-    if c.kind == kind::REGISTER {
-        return register(w, c);
-    }
-    register_all(w, c)
-}
-
-fn finish(first: Registry, c: Call) -> Registry
-    ensures { result ≡ finished_from answers 0 first c }
-{
-    let mut w = first;
-    let mut at: u64 = 0;
-    while at < ANSWERS {
-        if w.reply.asked == 0 {
-            return w;
+    w.asked = digest::START;
+    let state = &mut w.state;
+    let registered = &mut w.registered;
+    let failed = &mut w.failed;
+    match c.kind {
+        kind::REGISTRAR_BUILD => {
+            w.reply = registrar::registrar_build(ram, c.a, c.b, state, registered, failed);
         }
-        at += 1;
-        w = answer(w, c, at);
+        kind::REGISTER => {
+            w.reply = registrar::registrar_register(state, registered, failed, c.a, c.b);
+        }
+        _ => {
+            w.reply = registrar::registrar_register_all_aligned(
+                state, registered, failed, c.a, c.b,
+            );
+        }
     }
-    w
 }
 
-// The registry after a call that is run to its end, or to so many answers.
-pub fn call(w: Registry, c: Call, ram: &[u64]) -> Registry
-    ensures { result ≡ call_of w c ram.now }
+// Kept: `answers::finish` of other buffers; a trait for the two, with its laws, is longer than the loop.
+fn finish(w: &mut Registry, c: Call)
+    ensures { w.new ≡ finished_from answers 0 w.old c }
 {
-    finish(start(w, c, ram), c)
+    for at in 0..ANSWERS {
+        if w.reply.asked == 0 {
+            return;
+        }
+        answer(w, c, at + 1);
+    }
+}
+
+// A call that is run to its end, or to so many answers.
+pub fn call(w: &mut Registry, c: Call, ram: &[u64])
+    ensures { w.new ≡ call_of w.old c ram.now }
+{
+    start(w, c, ram);
+    finish(w, c);
 }
 
 // The digest of what a call asked for, with the fields of a span that is not aligned.
-pub fn asked(w: Registry) -> u64
-    ensures { result ≡ asked_of w }
+pub fn asked(w: &Registry) -> u64
+    ensures { result ≡ asked_of w.now }
 {
     let r = w.reply;
     let span = digest::word(digest::word(w.asked, r.span_start), r.span_end);
@@ -166,10 +92,8 @@ pub fn asked(w: Registry) -> u64
 }
 
 // The digest of the two bitmaps.
-pub fn left(w: Registry) -> u64
-    ensures { result ≡ left_of w }
+pub fn left(w: &Registry) -> u64
+    ensures { result ≡ left_of w.now }
 {
-    let registered = w.registered;
-    let failed = w.failed;
-    digest::words(digest::words(digest::START, &registered), &failed)
+    digest::words(digest::words(digest::START, &w.registered), &w.failed)
 }

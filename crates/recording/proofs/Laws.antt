@@ -1,35 +1,12 @@
 -- Laws of numbers read and lists filled: what a step of a loop leaves is what was to be done before it. Assumes nothing.
-use Rattle.std.proofs.Common.{◌≡◌, ℕ, zero, suc, ◌+◌, ◌-◌, ◌*◌, ◌/◌, ◌%◌, ◌^◌, ◌<◌, ◌≤◌, List, [], ◌++◌, length, get_or, take, drop, set, refl, ap, append_assoc, append-nil, add-one, arith, length-set, drop_of_length-le, take_all, drop-cons, take-suc-set, le-ltb, lt-ltb, le-leb}
-use native.Mathlib.Nat.{mod-add-mod, add-mod-mod}
-use borrow.Author.Tests.{lt-leb}
-use lib.Seq.{set_out}
+use Rattle.std.proofs.Common.{◌≡◌, ◌∷◌, fold, ℕ, zero, suc, ◌+◌, ◌-◌, ◌/◌, ◌%◌, ◌^◌, ◌<◌, ◌≤◌, List, [], ◌++◌, length, get_or, take, drop, set, refl, append_assoc, append-nil, add-one, add-zero, sym, ◌∙◌, arith, length-set, drop_of_length-le, take_all, drop-cons, take-suc-set, le-ltb}
+use Rattle.std.proofs.Math.Nat.{mod-mod, pow-suc, div-one, div-div-eq-div-mul}
+use Rattle.std.specs.Int.{byte_at, bytes_low_first}
 use Rattle.recording.specs.declared.decode.Read.{Read}
+use Rattle.recording.specs.declared.lists.Run.{Run}
 use Rattle.recording.specs.Decode.{digit_of, with_digit, read, digits_from, number_at, numbers_at, after_numbers}
 use Rattle.recording.specs.Digest.{digest_word, digest_of}
-use Rattle.recording.specs.Lists.{first_at, count_at, after_run, after_runs, Filling, filling, with_byte, with_bytes, with_pages, with_runs, with_entry, with_entries, part_of}
-
--- ---- a digit
-
-pub digit_none : (b : ℕ) → b < 48 → 16 ≡ digit_of b
-unfolding digit_of
-digit_none b h = rw (lt-ltb b 48 h)
-
-pub digit_decimal : (b : ℕ) → 48 ≤ b → b < 58 → b - 48 ≡ digit_of b
-unfolding digit_of
-digit_decimal b h k = rw (le-ltb b 48 h, lt-ltb b 58 k)
-
-pub digit_between : (b : ℕ) → 58 ≤ b → b < 97 → 16 ≡ digit_of b
-unfolding digit_of
-digit_between b h k = let g : 48 ≤ b = omega arith in rw (le-ltb b 48 g, le-ltb b 58 h, lt-ltb b 97 k)
-
-pub digit_letter : (b : ℕ) → 97 ≤ b → b < 103 → b - 87 ≡ digit_of b
-unfolding digit_of
-digit_letter b h k = let f : 48 ≤ b = omega arith in let g : 58 ≤ b = omega arith in rw (le-ltb b 48 f, le-ltb b 58 g, le-ltb b 97 h, lt-ltb b 103 k)
-
-pub digit_above : (b : ℕ) → 103 ≤ b → 16 ≡ digit_of b
-unfolding digit_of
-digit_above b h =
-    let f : 48 ≤ b = omega arith in let g : 58 ≤ b = omega arith in let k : 97 ≤ b = omega arith in rw (le-ltb b 48 f, le-ltb b 58 g, le-ltb b 97 k, le-ltb b 103 h)
+use Rattle.recording.specs.Lists.{first_at, count_at, after_run, after_runs, Filling, with_byte, with_bytes, with_pages, with_runs, with_entry, with_entries}
 
 -- ---- a number
 
@@ -38,13 +15,13 @@ module _ (s : List ℕ) (v i : ℕ) where
   unfolding digits_from
   digits_end h = rw (drop_of_length-le s h)
 
-  pub digits_stop : (d : ℕ) → i < length s → d ≡ digit_of (get_or s i 0) → 15 < d → read v (i + 1) ≡ digits_from (drop i s) v i
+  pub digits_stop : i < length s → digit_of (get_or s i 0) ≡ 16 → read v (i + 1) ≡ digits_from (drop i s) v i
   unfolding digits_from
-  digits_stop d h e k = rw (drop-cons s i 0 h, ← e, lt-ltb 15 d k)
+  digits_stop h e = rw (drop-cons s i 0 h, e)
 
-  pub digits_next : (d : ℕ) → i < length s → d ≡ digit_of (get_or s i 0) → d ≤ 15 → digits_from (drop (i + 1) s) (with_digit v d) (i + 1) ≡ digits_from (drop i s) v i
+  pub digits_next : (d : ℕ) → i < length s → (d ≡ digit_of (get_or s i 0)) × (d < 16) → digits_from (drop (i + 1) s) (with_digit v d) (i + 1) ≡ digits_from (drop i s) v i
   unfolding digits_from
-  digits_next d h e k = rw (drop-cons s i 0 h, ← e, le-ltb 15 d k, add-one)
+  digits_next d h e = let k : d ≤ 15 = omega (arith, e.1) in rw (drop-cons s i 0 h, ← e.0, le-ltb 15 d k, add-one)
 
 -- ---- numbers
 
@@ -77,54 +54,51 @@ module _ (s run : List ℕ) (next i : ℕ) (h : length run ≤ i) where
 
 -- ---- the digest
 
--- a product as a sum of shifted terms, each sum modulo m
-pub times_law : (x m a b c d e f : ℕ) → a ≡ (x + x * 2 % m) % m → b ≡ (x * 16 % m + x * 32 % m) % m → c ≡ (a + b) % m → d ≡ (x * 128 % m + x * 256 % m) % m
-    → e ≡ (d + x * 1099511627776 % m) % m → f ≡ (c + e) % m → f ≡ x * 1099511628211 % m
-times_law x m a b c d e f ha hb hc hd he hf = rw (hf, hc, he, ha, hb, hd) (simp (mod-add-mod, add-mod-mod) (ap (λ (y : ℕ). y % m) (omega arith)))
-
-module _ (d : ℕ) (run : List ℕ) (i : ℕ) where
-  pub digest_next : i < length run → digest_of (digest_word d (get_or run i 0)) (drop (i + 1) run) ≡ digest_of d (drop i run)
-  unfolding digest_of
-  digest_next h = rw (add-one, drop-cons run i 0 h)
-
-  pub digest_end : length run ≤ i → d ≡ digest_of d (drop i run)
-  unfolding digest_of
-  digest_end h = rw (drop_of_length-le run h)
+pub digest_fold : (d : ℕ) (run : List ℕ) → fold digest_word d run ≡ digest_of d run
+unfolding digest_of
+digest_fold d [] = refl
+digest_fold d (w ∷ ws) = digest_fold (digest_word d w) ws
 
 -- ---- lists filled
 
-module _ (l : List ℕ) (at b : ℕ) where
-  pub byte_in : at < length l → filling (set l at (b % 256)) (at + 1) ≡ with_byte (filling l at) b
-  byte_in h = rw (lt-ltb at (length l) h)
+byte_of : (i x : ℕ) → byte_at i x ≡ x / 256 ^ i % 256
+byte_of zero x = rw div-one refl
+byte_of (suc i) x = refl
 
-  pub byte_past : length l ≤ at → filling l at ≡ with_byte (filling l at) b
-  byte_past h = rw (le-ltb at (length l) h, set_out l at (b % 256) h)
+byte_in_bytes : (k a i x : ℕ) → i < k → get_or (bytes_low_first a k x) i 0 ≡ byte_at (a + i) x
+byte_in_bytes zero a i x h = absurd (omega arith)
+byte_in_bytes (suc k) a zero x h = rw add-zero refl
+byte_in_bytes (suc k) a (suc i) x h = let e : a + suc i ≡ suc a + i = omega arith in rw e (byte_in_bytes k (suc a) i x (omega arith))
 
-less : (k : ℕ) → suc k - 1 ≡ k
-less k = omega arith
-
-pub bytes_next : (n : ℕ) (f : Filling) (x : ℕ) → 0 < n → with_bytes (n - 1) (with_byte f x) (x / 256) ≡ with_bytes n f x
+with_bytes-suc : (n : ℕ) (f : Filling) (x : ℕ) → with_bytes n (with_byte f (x % 256)) (x / 256) ≡ with_bytes (suc n) f x
 unfolding with_bytes
-bytes_next zero f x h = absurd (omega arith)
-bytes_next (suc k) f x h = rw (less k)
+with_bytes-suc n f x = rw (mod-mod x 256) refl
 
-pub pages_next : (n : ℕ) (f : Filling) (p : ℕ) → 0 < n → with_pages (n - 1) (with_bytes 8 f p) ((p + 1) % 2 ^ 64) ≡ with_pages n f p
+-- byte i of a page, of the eight that it has
+module _ (x i : ℕ) (bytes : List ℕ) (e : bytes ≡ bytes_low_first 0 8 x) (h : i < 8) where
+  byte_there : get_or bytes i 0 ≡ x / 256 ^ i % 256
+  byte_there = let z : 0 + i ≡ i = omega arith in rw e (byte_in_bytes 8 0 i x h ∙ rw z (byte_of i x))
+
+  pub bytes_next : (f g : Filling) → g ≡ with_byte f (get_or bytes i 0) → with_bytes (8 - (i + 1)) g (x / 256 ^ (i + 1)) ≡ with_bytes (8 - i) f (x / 256 ^ i)
+  bytes_next f g p =
+      let d : 8 - i ≡ suc (8 - (i + 1)) = omega arith in
+      let q : x / 256 ^ (i + 1) ≡ x / 256 ^ i / 256 = rw (add-one, pow-suc) (sym (div-div-eq-div-mul x (256 ^ i) 256)) in
+      rw (p, byte_there, q, d) (with_bytes-suc (8 - (i + 1)) f (x / 256 ^ i))
+
+pub pages_next : (n i : ℕ) (f : Filling) (p : ℕ) → i < n → with_pages (n - (i + 1)) (with_bytes 8 f p) ((p + 1) % 2 ^ 64) ≡ with_pages (n - i) f p
 unfolding with_pages
-pages_next zero f p h = absurd (omega arith)
-pages_next (suc k) f p h = rw (less k)
+pages_next n i f p h = let d : n - i ≡ suc (n - (i + 1)) = omega arith in rw d
 
 module _ (s : List ℕ) (at : ℕ) where
-  pub runs_next : (n : ℕ) (f : Filling) → 0 < n → with_runs (n - 1) s (after_run s at) (with_pages (count_at s at) f (first_at s at)) ≡ with_runs n s at f
+  runs_next : (n i : ℕ) (f : Filling) → i < n → with_runs (n - (i + 1)) s (after_run s at) (with_pages (count_at s at) f (first_at s at)) ≡ with_runs (n - i) s at f
   unfolding with_runs
-  runs_next zero f h = absurd (omega arith)
-  runs_next (suc k) f h = rw (less k)
+  runs_next n i f h = let d : n - i ≡ suc (n - (i + 1)) = omega arith in rw d
 
-  pub after_runs_next : (n : ℕ) → 0 < n → after_runs (n - 1) s (after_run s at) ≡ after_runs n s at
+  pub after_runs_next : (n i : ℕ) → i < n → after_runs (n - (i + 1)) s (after_run s at) ≡ after_runs (n - i) s at
   unfolding after_runs
-  after_runs_next zero h = absurd (omega arith)
-  after_runs_next (suc k) h = rw (less k)
+  after_runs_next n i h = let d : n - i ≡ suc (n - (i + 1)) = omega arith in rw d
 
-  pub entries_next : (n i : ℕ) (l : List ℕ) → i < n → with_entries (n - (i + 1)) s (after_run s at) (i + 1) (with_entry l i (first_at s at) (count_at s at)) ≡ with_entries (n - i) s at i l
+  entries_next : (n i : ℕ) (l : List ℕ) → i < n → with_entries (n - (i + 1)) s (after_run s at) (i + 1) (with_entry l i (first_at s at) (count_at s at)) ≡ with_entries (n - i) s at i l
   unfolding with_entries
   entries_next n i l h = let d : n - i ≡ suc (n - (i + 1)) = omega arith in rw d
 
@@ -132,42 +106,26 @@ module _ (s : List ℕ) (at : ℕ) where
   unfolding with_entries
   entries_end n i l h = let d : n - i ≡ 0 = omega arith in rw d
 
--- a run that is read as two numbers
-module _ (s : List ℕ) (at : ℕ) (a b : Read) (e : a ≡ number_at s at) (k : b ≡ number_at s a.next) where
-  pub runs_step : (n : ℕ) (f g : Filling) → 0 < n → g ≡ with_pages b.value f a.value → with_runs (n - 1) s b.next g ≡ with_runs n s at f
-  runs_step n f g h p = rw (p, k, e) (runs_next s at n f h)
+  -- the run as it is read
+  module _ (r : Run) (e : (r.first ≡ first_at s at) × (r.count ≡ count_at s at) × (r.next ≡ after_run s at)) where
+    pub runs_step : (n i : ℕ) (f g : Filling) → i < n → g ≡ with_pages r.count f r.first → with_runs (n - (i + 1)) s r.next g ≡ with_runs (n - i) s at f
+    runs_step n i f g h p = rw (p, e.0, e.1, e.2) (runs_next n i f h)
 
-  pub after_runs_step : (n : ℕ) → 0 < n → after_runs (n - 1) s b.next ≡ after_runs n s at
-  after_runs_step n h = rw (k, e) (after_runs_next s at n h)
+    pub entries_step : (n i : ℕ) (l m : List ℕ) → i < n → m ≡ with_entry l i r.first r.count → with_entries (n - (i + 1)) s r.next (i + 1) m ≡ with_entries (n - i) s at i l
+    entries_step n i l m h p = rw (p, e.0, e.1, e.2) (entries_next n i l h)
 
-  pub entries_step : (n i : ℕ) (l m : List ℕ) → i < n → m ≡ with_entry l i a.value b.value → with_entries (n - (i + 1)) s b.next (i + 1) m ≡ with_entries (n - i) s at i l
-  entries_step n i l m h p = rw (p, k, e) (entries_next s at n i l h)
-
-pub no_bytes : (n : ℕ) (f : Filling) (x : ℕ) → n ≤ 0 → f ≡ with_bytes n f x
+pub no_bytes : (n i : ℕ) (f : Filling) (x : ℕ) → n ≤ i → f ≡ with_bytes (n - i) f x
 unfolding with_bytes
-no_bytes zero f x h = refl
-no_bytes (suc k) f x h = absurd (omega arith)
+no_bytes n i f x h = let d : n - i ≡ 0 = omega arith in rw d
 
-pub no_pages : (n : ℕ) (f : Filling) (p : ℕ) → n ≤ 0 → f ≡ with_pages n f p
+pub no_pages : (n i : ℕ) (f : Filling) (p : ℕ) → n ≤ i → f ≡ with_pages (n - i) f p
 unfolding with_pages
-no_pages zero f p h = refl
-no_pages (suc k) f p h = absurd (omega arith)
+no_pages n i f p h = let d : n - i ≡ 0 = omega arith in rw d
 
-pub no_runs : (n : ℕ) (s : List ℕ) (at : ℕ) (f : Filling) → n ≤ 0 → f ≡ with_runs n s at f
+pub no_runs : (n i : ℕ) (s : List ℕ) (at : ℕ) (f : Filling) → n ≤ i → f ≡ with_runs (n - i) s at f
 unfolding with_runs
-no_runs zero s at f h = refl
-no_runs (suc k) s at f h = absurd (omega arith)
+no_runs n i s at f h = let d : n - i ≡ 0 = omega arith in rw d
 
-pub after_none : (n : ℕ) (s : List ℕ) (at : ℕ) → n ≤ 0 → at ≡ after_runs n s at
+pub after_none : (n i : ℕ) (s : List ℕ) (at : ℕ) → n ≤ i → at ≡ after_runs (n - i) s at
 unfolding after_runs
-after_none zero s at h = refl
-after_none (suc k) s at h = absurd (omega arith)
-
--- ---- a part
-
-module _ (l : List ℕ) (n : ℕ) where
-  pub part_in : n ≤ length l → take n l ≡ part_of l n
-  part_in h = rw (le-leb n (length l) h)
-
-  pub part_past : length l < n → [] ≡ part_of l n
-  part_past h = rw (lt-leb n (length l) h)
+after_none n i s at h = let d : n - i ≡ 0 = omega arith in rw d

@@ -64,5 +64,5 @@ with_entries (suc n) s at i l = with_entries n s (after_run s at) (i + 1) (with_
 
 -- ---- the first so many of a list: none where it is shorter
 
-abbrev pub part_of : List ℕ → ℕ → List ℕ
+abbrev pub part_of : {A : Type 0} → List A → ℕ → List A
 part_of l n = cond (nat_le n (length l)) (take n l) []

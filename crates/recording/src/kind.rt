@@ -1,4 +1,5 @@
 // The kinds of recorded calls by their numbers (crates/replay/README.md).
+// Kept: the definitions of specs branch on these numbers, and every number behind the last is a kind too.
 
 pub const BUILD: u64 = 0;
 

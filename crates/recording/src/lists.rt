@@ -1,6 +1,6 @@
 // Lists of pages, 8 bytes a page, from runs of a first page and a count.
 ghost use Rattle.std.specs.Prelude.{◌≡◌, ◌*◌, ◌%◌};
-ghost use Rattle.recording.specs.Lists.{after_runs, filling, with_byte, with_bytes, with_pages, with_runs, entry_place, with_entry, with_entries, part_of};
+ghost use Rattle.recording.specs.Lists.{first_at, count_at, after_run, after_runs, filling, with_byte, with_bytes, with_pages, with_runs, entry_place, with_entry, with_entries, part_of};
 
 use crate::decode;
 
@@ -15,14 +15,15 @@ pub struct Filled {
 }
 
 // A byte at a place, and the place after it: the end where there is no room.
-fn put(list: &mut [u8], at: usize, b: u64) -> usize
+fn put(list: &mut [u8], at: usize, b: u8) -> usize
     ensures { filling list.new result ≡ with_byte (filling list.old at) b }
 {
     if at < list.len() {
-        list[at] = (b % 256) as u8;
-        return at + 1;
+        list[at] = b;
+        at + 1
+    } else {
+        at
     }
-    at
 }
 
 // A page at a place, the low byte first, and the place after it.
@@ -30,12 +31,8 @@ fn put_page(list: &mut [u8], at: usize, page: u64) -> usize
     ensures { filling list.new result ≡ with_bytes 8 (filling list.old at) page }
 {
     let mut next = at;
-    let mut rest = page;
-    let mut left: u64 = 8;
-    while 0 < left {
-        next = put(list, next, rest);
-        rest = rest / 256;
-        left -= 1;
+    for b in page.to_le_bytes() {
+        next = put(list, next, b);
     }
     next
 }
@@ -46,13 +43,32 @@ fn put_run(list: &mut [u8], at: usize, first: u64, count: u64) -> usize
 {
     let mut next = at;
     let mut page = first;
-    let mut left = count;
-    while 0 < left {
+    for _ in 0..count {
         next = put_page(list, next, page);
-        page = std::num::wrapping_add_u64(page, 1);
-        left -= 1;
+        page = page.wrapping_add(1);
     }
     next
+}
+
+// A run of pages: its first, how many there are, and the place after its two numbers.
+#[derive(Clone, Copy)]
+struct Run {
+    first: u64,
+    count: u64,
+    next: usize,
+}
+
+// The run that is read at a place.
+fn run_at(input: &[u8], at: usize) -> Run
+    ensures { (result.first ≡ first_at input.now at) × (result.count ≡ count_at input.now at) × (result.next ≡ after_run input.now at) }
+{
+    let first = decode::number(input, at);
+    let count = decode::number(input, first.next);
+    Run {
+        first: first.value,
+        count: count.value,
+        next: count.next,
+    }
 }
 
 // The place after so many runs, read at a place.
@@ -60,12 +76,8 @@ pub fn after_runs(input: &[u8], at: usize, runs: u64) -> usize
     ensures { result ≡ after_runs runs input.now at }
 {
     let mut next = at;
-    let mut left = runs;
-    while 0 < left {
-        let first = decode::number(input, next);
-        let count = decode::number(input, first.next);
-        next = count.next;
-        left -= 1;
+    for _ in 0..runs {
+        next = run_at(input, next).next;
     }
     next
 }
@@ -75,27 +87,21 @@ pub fn fill(list: &mut [u8], input: &[u8], at: usize, runs: u64) -> Filled
     ensures { (filling list.new result.len ≡ with_runs runs input.now at (filling list.old 0)) × (result.next ≡ after_runs runs input.now at) }
 {
     let mut next = at;
-    let mut len: usize = 0;
-    let mut left = runs;
-    while 0 < left {
-        let first = decode::number(input, next);
-        let count = decode::number(input, first.next);
-        len = put_run(list, len, first.value, count.value);
-        next = count.next;
-        left -= 1;
+    let mut len = 0;
+    for _ in 0..runs {
+        let run = run_at(input, next);
+        len = put_run(list, len, run.first, run.count);
+        next = run.next;
     }
-    Filled {
-        len: len,
-        next: next,
-    }
+    Filled { len, next }
 }
 
 // Words of a layout: an entry's first and last byte, the last excluded, and its place as its node.
 fn put_entry(ram: &mut [u64], i: u64, first: u64, count: u64)
     ensures { ram.new ≡ with_entry ram.old i first count }
 {
-    let start = first % 1099511627776 * 4096;
-    let size = count % 1099511627776 * 4096;
+    let start = first % (1 << 40) * 4096;
+    let size = count % (1 << 40) * 4096;
     let at = i % 65536 * 3;
     words::put(ram, at, start);
     words::put(ram, at + 1, start + size);
@@ -107,37 +113,17 @@ pub fn ram(run: &mut [u64], input: &[u8], at: usize, runs: u64) -> usize
     ensures { (run.new ≡ with_entries runs input.now at 0 run.old) × (result ≡ entry_place runs) }
 {
     let mut next = at;
-    let mut i: u64 = 0;
-    while i < runs {
-        let first = decode::number(input, next);
-        let count = decode::number(input, first.next);
-        put_entry(run, i, first.value, count.value);
-        next = count.next;
-        i += 1;
+    for i in 0..runs {
+        let entry = run_at(input, next);
+        put_entry(run, i, entry.first, entry.count);
+        next = entry.next;
     }
     (runs % 65536 * 3) as usize
 }
 
-// The first so many bytes of a list: none where it is shorter.
-pub fn part(list: &[u8], len: usize) -> &[u8]
+// The first so many of a list: none where it is shorter.
+pub fn part<T>(list: &[T], len: usize) -> &[T]
     ensures { result.now ≡ part_of list.now len }
 {
-    let start: usize = 0;
-    if len <= list.len() {
-        &list[start..len]
-    } else {
-        &list[..0]
-    }
-}
-
-// The first so many words of a run: none where it is shorter.
-pub fn words_part(run: &[u64], len: usize) -> &[u64]
-    ensures { result.now ≡ part_of run.now len }
-{
-    let start: usize = 0;
-    if len <= run.len() {
-        &run[start..len]
-    } else {
-        &run[..0]
-    }
+    list.get(..len).unwrap_or(&list[..0])
 }

@@ -1,76 +1,13 @@
 -- Laws of calls counted and lines put: what a step leaves is what was to be done before it. Assumes nothing.
-use Rattle.std.proofs.Common.{◌≡◌, ℕ, zero, suc, ◌+◌, ◌-◌, ◌%◌, ◌<◌, ◌≤◌, Bool, true, false, eqb, List, get_or, replicate, sym, refl, ap, ◌∙◌, ap₂, arith, le-ltb, lt-ltb, eq-eqb, ne_eqb}
+use Rattle.std.proofs.Common.{◌≡◌, ℕ, suc, ◌+◌, ◌-◌, ◌%◌, ◌<◌, ◌≤◌, Bool, true, false, List, replicate, sym, ap, ◌∙◌, ap₂, arith}
 use Rattle.laws.specs.Bools.{took, took_not}
 use Rattle.recording.specs.Lists.{Filling, filling, after_runs, with_runs, entry_place, with_entries, part_of}
 use Rattle.playback.specs.declared.buffers.Buffers.{Buffers}
 use Rattle.playback.specs.declared.buffers.Call.{Call}
 use Rattle.playback.specs.declared.registry.Registry.{Registry}
 use Rattle.playback.specs.Registry as registry
-use Rattle.replay.specs.Tally.{recorded, result_of, is_same, bumped, cell_of, counted, noted_of}
+use Rattle.replay.specs.Tally.{recorded, is_same, bumped, cell_of, counted, noted_of}
 use Rattle.replay.specs.Lines.{fields_at, runs_at, after_line, put_of, put_times, put_often, compared_to, buffers_after, tally_after, after_lines, registry_compared_to, registry_after, registry_tally}
-
--- ---- how a number stands in the file
-
-module _ (n : ℕ) where
-  pub result_seven : n ≡ 7 → 1 ≡ result_of n
-  result_seven h = rw (eq-eqb n 7 h)
-
-  module _ (a : n ≡ 7 → ⊥) where
-    pub result_low : n < 10 → n ≡ result_of n
-    result_low h = rw (ne_eqb n 7 a, lt-ltb n 10 h)
-
-    module _ (b : 10 ≤ n) where
-      pub result_code : n < 17 → 1 ≡ result_of n
-      result_code h = rw (ne_eqb n 7 a, le-ltb n 10 b, lt-ltb n 17 h)
-
-      pub result_high : 17 ≤ n → n ≡ result_of n
-      result_high h = rw (ne_eqb n 7 a, le-ltb n 10 b, le-ltb n 17 h)
-
--- ---- the numbers of a line against those given
-
-module _ (f g : List ℕ) where
-  pub differ_0 : (get_or f 9 0 ≡ get_or g 0 0 → ⊥) → false ≡ is_same f g
-  unfolding is_same
-  differ_0 h = rw (ne_eqb (get_or f 9 0) (get_or g 0 0) h)
-
-  module _ (a : get_or f 9 0 ≡ get_or g 0 0) where
-    pub differ_1 : (get_or f 10 0 ≡ get_or g 1 0 → ⊥) → false ≡ is_same f g
-    unfolding is_same
-    differ_1 h = rw (eq-eqb (get_or f 9 0) (get_or g 0 0) a, ne_eqb (get_or f 10 0) (get_or g 1 0) h)
-
-    module _ (b : get_or f 10 0 ≡ get_or g 1 0) where
-      pub differ_2 : (get_or f 11 0 ≡ get_or g 2 0 → ⊥) → false ≡ is_same f g
-      unfolding is_same
-      differ_2 h = rw (eq-eqb (get_or f 9 0) (get_or g 0 0) a, eq-eqb (get_or f 10 0) (get_or g 1 0) b, ne_eqb (get_or f 11 0) (get_or g 2 0) h)
-
-      module _ (c : get_or f 11 0 ≡ get_or g 2 0) where
-        pub differ_3 : (get_or f 12 0 ≡ get_or g 3 0 → ⊥) → false ≡ is_same f g
-        unfolding is_same
-        differ_3 h =
-            rw (eq-eqb (get_or f 9 0) (get_or g 0 0) a, eq-eqb (get_or f 10 0) (get_or g 1 0) b, eq-eqb (get_or f 11 0) (get_or g 2 0) c, ne_eqb (get_or f 12 0) (get_or g 3 0) h)
-
-        module _ (d : get_or f 12 0 ≡ get_or g 3 0) where
-          pub differ_4 : (get_or f 13 0 ≡ get_or g 4 0 → ⊥) → false ≡ is_same f g
-          unfolding is_same
-          differ_4 h =
-              rw (
-                eq-eqb (get_or f 9 0) (get_or g 0 0) a,
-                eq-eqb (get_or f 10 0) (get_or g 1 0) b,
-                eq-eqb (get_or f 11 0) (get_or g 2 0) c,
-                eq-eqb (get_or f 12 0) (get_or g 3 0) d,
-                ne_eqb (get_or f 13 0) (get_or g 4 0) h,
-              )
-
-          pub differ_5 : get_or f 13 0 ≡ get_or g 4 0 → eqb (get_or f 14 0) (get_or g 5 0) ≡ is_same f g
-          unfolding is_same
-          differ_5 h =
-              rw (
-                eq-eqb (get_or f 9 0) (get_or g 0 0) a,
-                eq-eqb (get_or f 10 0) (get_or g 1 0) b,
-                eq-eqb (get_or f 11 0) (get_or g 2 0) c,
-                eq-eqb (get_or f 12 0) (get_or g 3 0) d,
-                eq-eqb (get_or f 13 0) (get_or g 4 0) h,
-              )
 
 -- ---- a call counted
 
@@ -90,55 +27,45 @@ module _ (t f g : List ℕ) (n col : ℕ) (a b c : List ℕ) (p : a ≡ bumped t
 
 -- ---- a call put, and put often
 
-less : (k : ℕ) → suc k - 1 ≡ k
-less k = omega arith
-
-module _ (w : Buffers) (c : Call) (l ram : List ℕ) where
-  pub times_next : (n : ℕ) (v : Buffers) → 0 < n → v ≡ put_of w c l ram → put_times (n - 1) v c l ram ≡ put_times n w c l ram
+module _ (w : Buffers) (c : Call) (l ram : List ℕ) (n i : ℕ) where
+  pub times_next : (v : Buffers) → i < n → v ≡ put_of w c l ram → put_times (n - (i + 1)) v c l ram ≡ put_times (n - i) w c l ram
   unfolding put_times
-  times_next zero v h p = absurd (omega arith)
-  times_next (suc k) v h p = rw (less k, p)
+  times_next v h p = let d : n - i ≡ suc (n - (i + 1)) = omega arith in rw (d, p)
 
-  pub times_none : (n : ℕ) → n ≤ 0 → w ≡ put_times n w c l ram
+  pub times_none : n ≤ i → w ≡ put_times (n - i) w c l ram
   unfolding put_times
-  times_none zero h = refl
-  times_none (suc k) h = absurd (omega arith)
+  times_none h = let d : n - i ≡ 0 = omega arith in rw d
 
 -- ---- lines
 
-module _ (s : List ℕ) (w : Buffers) (at : ℕ) (t : List ℕ) where
-  pub lines_next : (n : ℕ) (v : Buffers) (k : ℕ) (u : List ℕ) → 0 < n → v ≡ buffers_after s w at → k ≡ after_line s at → u ≡ compared_to (buffers_after s w at) (fields_at s at) t
-      → tally_after (n - 1) s v k u ≡ tally_after n s w at t
+module _ (s : List ℕ) (w : Buffers) (at : ℕ) (t : List ℕ) (n i : ℕ) where
+  pub lines_next : (v : Buffers) (k : ℕ) (u : List ℕ) → i < n → v ≡ buffers_after s w at → k ≡ after_line s at → u ≡ compared_to (buffers_after s w at) (fields_at s at) t
+      → tally_after (n - (i + 1)) s v k u ≡ tally_after (n - i) s w at t
   unfolding tally_after
-  lines_next zero v k u h p q r = absurd (omega arith)
-  lines_next (suc m) v k u h p q r = rw (less m, p, q, r)
+  lines_next v k u h p q r = let d : n - i ≡ suc (n - (i + 1)) = omega arith in rw (d, p, q, r)
 
-  pub lines_none : (n : ℕ) → n ≤ 0 → t ≡ tally_after n s w at t
+  pub lines_none : n ≤ i → t ≡ tally_after (n - i) s w at t
   unfolding tally_after
-  lines_none zero h = refl
-  lines_none (suc k) h = absurd (omega arith)
+  lines_none h = let d : n - i ≡ 0 = omega arith in rw d
 
-pub after_next : (n : ℕ) (s : List ℕ) (at k : ℕ) → 0 < n → k ≡ after_line s at → after_lines (n - 1) s k ≡ after_lines n s at
-unfolding after_lines
-after_next zero s at k h q = absurd (omega arith)
-after_next (suc m) s at k h q = rw (less m, q)
+module _ (n i : ℕ) (s : List ℕ) (at : ℕ) where
+  pub after_next : (k : ℕ) → i < n → k ≡ after_line s at → after_lines (n - (i + 1)) s k ≡ after_lines (n - i) s at
+  unfolding after_lines
+  after_next k h q = let d : n - i ≡ suc (n - (i + 1)) = omega arith in rw (d, q)
 
-pub after_none : (n : ℕ) (s : List ℕ) (at : ℕ) → n ≤ 0 → at ≡ after_lines n s at
-unfolding after_lines
-after_none zero s at h = refl
-after_none (suc k) s at h = absurd (omega arith)
+  pub after_none : n ≤ i → at ≡ after_lines (n - i) s at
+  unfolding after_lines
+  after_none h = let d : n - i ≡ 0 = omega arith in rw d
 
-module _ (s : List ℕ) (w : Registry) (at : ℕ) (t : List ℕ) where
-  pub registry_next : (n : ℕ) (v : Registry) (k : ℕ) (u : List ℕ) → 0 < n → v ≡ registry_after s w at → k ≡ after_line s at
-      → u ≡ registry_compared_to (registry_after s w at) (fields_at s at) t → registry_tally (n - 1) s v k u ≡ registry_tally n s w at t
+module _ (s : List ℕ) (w : Registry) (at : ℕ) (t : List ℕ) (n i : ℕ) where
+  pub registry_next : (v : Registry) (k : ℕ) (u : List ℕ) → i < n → v ≡ registry_after s w at → k ≡ after_line s at
+      → u ≡ registry_compared_to (registry_after s w at) (fields_at s at) t → registry_tally (n - (i + 1)) s v k u ≡ registry_tally (n - i) s w at t
   unfolding registry_tally
-  registry_next zero v k u h p q r = absurd (omega arith)
-  registry_next (suc m) v k u h p q r = rw (less m, p, q, r)
+  registry_next v k u h p q r = let d : n - i ≡ suc (n - (i + 1)) = omega arith in rw (d, p, q, r)
 
-  pub registry_none : (n : ℕ) → n ≤ 0 → t ≡ registry_tally n s w at t
+  pub registry_none : n ≤ i → t ≡ registry_tally (n - i) s w at t
   unfolding registry_tally
-  registry_none zero h = refl
-  registry_none (suc k) h = absurd (omega arith)
+  registry_none h = let d : n - i ≡ 0 = omega arith in rw d
 
 pub line_after : (s : List ℕ) (at : ℕ) (f : List ℕ) (a : ℕ) (c : Call) (n : ℕ) → f ≡ fields_at s at → a ≡ runs_at s at → c ≡ recorded f → n ≡ after_runs c.runs s a → n ≡ after_line s at
 line_after s at f a c n ef ea ec p = rw (p, ea, ec, ef)

@@ -1,4 +1,5 @@
 // The places of a line's numbers (README.md, "The file").
+// Kept: the definitions of specs read a line by these places.
 
 pub const KIND: usize = 0;
 

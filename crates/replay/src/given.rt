@@ -1,4 +1,5 @@
 // The places of what a call gave, which is held against what was recorded.
+// Kept: the definition `is_same` of specs reads the six by these places.
 
 pub const RESULT: usize = 0;
 

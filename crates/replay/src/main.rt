@@ -14,44 +14,36 @@ use recording::kind;
 use std::io;
 use std::io::Read;
 
-fn say(rt: &impl Print, text: &str) -> io::Result<()> {
-    print!(rt; "{text}")
-}
-
-fn say_number(rt: &impl Print, n: u64) -> io::Result<()> {
-    print!(rt; "{n}")
-}
-
-fn say_name(rt: &impl Print, kind: u64) -> io::Result<()> {
+fn name(kind: u64) -> &'static str {
     match kind {
-        kind::BUILD => say(rt, "protector_build"),
-        kind::CHANGE_HOST_VISIBILITY => say(rt, "change_host_visibility"),
-        kind::CHANGE_VTL_PROTECTIONS => say(rt, "change_vtl_protections"),
-        kind::CHANGE_DEFAULT_VTL_PROTECTIONS => say(rt, "change_default_vtl_protections"),
-        kind::REGISTER_OVERLAY_PAGE => say(rt, "register_overlay_page"),
-        kind::UNREGISTER_OVERLAY_PAGE => say(rt, "unregister_overlay_page"),
-        kind::LOCK_GPNS => say(rt, "lock_gpns"),
-        kind::UNLOCK_GPNS => say(rt, "unlock_gpns"),
-        kind::SET_VTL1_PROTECTIONS_ENABLED => say(rt, "set_vtl1_protections_enabled"),
-        kind::VTL1_PROTECTIONS_ENABLED => say(rt, "vtl1_protections_enabled"),
-        kind::DEFAULT_VTL0_PROTECTIONS => say(rt, "default_vtl0_protections"),
-        kind::IS_OVERLAY_PAGE => say(rt, "is_overlay_page"),
-        kind::QUERY_HOST_VISIBILITY => say(rt, "query_host_visibility"),
-        kind::PAGE_FAULT => say(rt, "page_fault"),
-        kind::QUERY_LOWER_VTL_PERMISSIONS => say(rt, "query_lower_vtl_permissions"),
-        kind::QUERY_ACCESS_PERMISSION => say(rt, "query_access_permission"),
-        kind::REGISTRAR_BUILD => say(rt, "registrar_build"),
-        kind::REGISTER => say(rt, "register"),
-        _ => say(rt, "register_all_aligned"),
+        kind::BUILD => "protector_build",
+        kind::CHANGE_HOST_VISIBILITY => "change_host_visibility",
+        kind::CHANGE_VTL_PROTECTIONS => "change_vtl_protections",
+        kind::CHANGE_DEFAULT_VTL_PROTECTIONS => "change_default_vtl_protections",
+        kind::REGISTER_OVERLAY_PAGE => "register_overlay_page",
+        kind::UNREGISTER_OVERLAY_PAGE => "unregister_overlay_page",
+        kind::LOCK_GPNS => "lock_gpns",
+        kind::UNLOCK_GPNS => "unlock_gpns",
+        kind::SET_VTL1_PROTECTIONS_ENABLED => "set_vtl1_protections_enabled",
+        kind::VTL1_PROTECTIONS_ENABLED => "vtl1_protections_enabled",
+        kind::DEFAULT_VTL0_PROTECTIONS => "default_vtl0_protections",
+        kind::IS_OVERLAY_PAGE => "is_overlay_page",
+        kind::QUERY_HOST_VISIBILITY => "query_host_visibility",
+        kind::PAGE_FAULT => "page_fault",
+        kind::QUERY_LOWER_VTL_PERMISSIONS => "query_lower_vtl_permissions",
+        kind::QUERY_ACCESS_PERMISSION => "query_access_permission",
+        kind::REGISTRAR_BUILD => "registrar_build",
+        kind::REGISTER => "register",
+        _ => "register_all_aligned",
     }
 }
 
-fn say_column(rt: &impl Print, column: u64) -> io::Result<()> {
+fn column_name(column: u64) -> &'static str {
     match column {
-        0 => say(rt, " SNP "),
-        1 => say(rt, " TDX "),
-        2 => say(rt, " CCA "),
-        _ => say(rt, " registrar "),
+        0 => "SNP",
+        1 => "TDX",
+        2 => "CCA",
+        _ => "registrar",
     }
 }
 
@@ -61,20 +53,18 @@ fn say_cell(rt: &impl Print, tally: &[u64], kind: u64, column: u64) -> io::Resul
     if calls == 0 {
         return Ok(());
     }
-    say_column(rt, column)?;
-    say_number(rt, numbers::word_at(tally, tally::SAME + place))?;
-    say(rt, " of ")?;
-    say_number(rt, calls)
+    let same = numbers::word_at(tally, tally::SAME + place);
+    let name = column_name(column);
+    print!(rt; " {name} {same} of {calls}")
 }
 
 fn say_row(rt: &impl Print, tally: &[u64], kind: u64) -> io::Result<()> {
-    say_name(rt, kind)?;
-    say(rt, ":")?;
-    say_cell(rt, tally, kind, 0)?;
-    say_cell(rt, tally, kind, 1)?;
-    say_cell(rt, tally, kind, 2)?;
-    say_cell(rt, tally, kind, tally::REGISTRAR)?;
-    say(rt, "\n")
+    let name = name(kind);
+    print!(rt; "{name}:")?;
+    for column in 0..tally::COLUMNS {
+        say_cell(rt, tally, kind, column)?;
+    }
+    println!(rt; "")
 }
 
 fn say_refusal(rt: &impl Print, tally: &[u64], number: u64) -> io::Result<()> {
@@ -82,22 +72,16 @@ fn say_refusal(rt: &impl Print, tally: &[u64], number: u64) -> io::Result<()> {
     if calls == 0 {
         return Ok(());
     }
-    say(rt, "number ")?;
-    say_number(rt, number)?;
-    say(rt, ": ")?;
-    say_number(rt, calls)?;
-    say(rt, "\n")
+    println!(rt; "number {number}: {calls}")
 }
 
 fn say_end(rt: &impl Print, tally: &[u64]) -> io::Result<()> {
-    say_number(rt, numbers::word_at(tally, tally::ALL))?;
+    let calls = numbers::word_at(tally, tally::ALL);
     let others = numbers::word_at(tally, tally::OTHERS);
     if others == 0 {
-        return say(rt, " calls, all as recorded\n");
+        return println!(rt; "{calls} calls, all as recorded");
     }
-    say(rt, " calls, not as recorded: ")?;
-    say_number(rt, others)?;
-    say(rt, "\n")
+    println!(rt; "{calls} calls, not as recorded: {others}")
 }
 
 fn say_all(rt: &impl Print, tally: &[u64]) -> io::Result<()> {
@@ -110,57 +94,32 @@ fn say_all(rt: &impl Print, tally: &[u64]) -> io::Result<()> {
     say_end(rt, tally)
 }
 
-fn say_given(
-    rt: &impl Print,
-    res: u64,
-    code: u64,
-    index: u64,
-    count: u64,
-    asked: u64,
-    left: u64,
-) -> io::Result<()> {
-    say_number(rt, res)?;
-    say(rt, " code ")?;
-    say_number(rt, code)?;
-    say(rt, " index ")?;
-    say_number(rt, index)?;
-    say(rt, " count ")?;
-    say_number(rt, count)?;
-    say(rt, " asked ")?;
-    print!(rt; "{asked:016x}")?;
-    say(rt, " left ")?;
-    print!(rt; "{left:016x}")?;
-    say(rt, "\n")
+fn say_given(rt: &impl Print, given: &[u64; given::ALL]) -> io::Result<()> {
+    let [res, code, index, count, asked, left] = *given;
+    println!(rt;
+        "{res} code {code} index {index} count {count} asked {asked:016x} left {left:016x}"
+    )
 }
 
 // The first call that isn't as recorded.
 fn say_difference(rt: &impl Print, difference: &Difference) -> io::Result<()> {
     let f = difference.line;
-    let g = difference.given;
-    say(rt, "call ")?;
-    say_number(rt, difference.call)?;
-    say(rt, ", ")?;
-    say_name(rt, f[field::KIND])?;
-    say(rt, "\nrecorded ")?;
+    let call = difference.call;
+    let name = name(f[field::KIND]);
+    print!(rt; "call {call}, {name}\nrecorded ")?;
     say_given(
         rt,
-        f[field::RESULT],
-        f[field::CODE],
-        f[field::INDEX],
-        f[field::COUNT],
-        f[field::ASKED],
-        f[field::LEFT],
+        &[
+            f[field::RESULT],
+            f[field::CODE],
+            f[field::INDEX],
+            f[field::COUNT],
+            f[field::ASKED],
+            f[field::LEFT],
+        ],
     )?;
-    say(rt, "given    ")?;
-    say_given(
-        rt,
-        g[given::RESULT],
-        g[given::CODE],
-        g[given::INDEX],
-        g[given::COUNT],
-        g[given::ASKED],
-        g[given::LEFT],
-    )
+    print!(rt; "given    ")?;
+    say_given(rt, &difference.given)
 }
 
 // Reads until `buffer` is full or the input ends, and says how many bytes it has.

@@ -1,4 +1,5 @@
 // The registrar's part of the file.
+// Kept: a line of each part has another contract, so one `run` for both is a trait with laws, longer than the two loops.
 ghost use Rattle.std.specs.Prelude.{◌≡◌};
 ghost use Rattle.recording.specs.Decode.{number_at};
 ghost use Rattle.replay.specs.Lines.{fields_at, after_line, no_registry, registry_compared_to, registry_after, registry_tally};
@@ -9,12 +10,6 @@ use abi::REGISTRAR_WORDS;
 use playback::registry;
 use playback::registry::Registry;
 use recording::{decode, lists};
-
-#[derive(Clone, Copy)]
-struct Step {
-    registry: Registry,
-    next: usize,
-}
 
 fn nothing() -> Registry
     ensures { result ≡ no_registry }
@@ -28,8 +23,8 @@ fn nothing() -> Registry
     }
 }
 
-fn compare(w: Registry, f: &[u64; field::ALL], tally: &mut [u64], first: &mut Option<Difference>)
-    ensures { tally.new ≡ registry_compared_to w f.now tally.old }
+fn compare(w: &Registry, f: &[u64; field::ALL], tally: &mut [u64], first: &mut Option<Difference>)
+    ensures { tally.new ≡ registry_compared_to w.now f.now tally.old }
 {
     let r = w.reply;
     let result = tally::result_of(r.number);
@@ -39,20 +34,24 @@ fn compare(w: Registry, f: &[u64; field::ALL], tally: &mut [u64], first: &mut Op
     tally::note(tally, first, f, &g, r.number, tally::REGISTRAR);
 }
 
-fn line(input: &[u8], step: Step, tally: &mut [u64], first: &mut Option<Difference>) -> Step
-    ensures { (result.registry ≡ registry_after input.now step.registry step.next) × (result.next ≡ after_line input.now step.next) × (tally.new ≡ registry_compared_to (registry_after input.now step.registry step.next) (fields_at input.now step.next) tally.old) }
+// The call of the line at a place is put and counted. The place after the line.
+fn line(
+    input: &[u8],
+    at: usize,
+    w: &mut Registry,
+    tally: &mut [u64],
+    first: &mut Option<Difference>,
+) -> usize
+    ensures { (w.new ≡ registry_after input.now w.old at) × (result ≡ after_line input.now at) × (tally.new ≡ registry_compared_to (registry_after input.now w.old at) (fields_at input.now at) tally.old) }
 {
     let mut f = [0u64; field::ALL];
     let mut ram = [0u64; lists::RAM_WORDS];
-    let at = decode::numbers(input, step.next, &mut f);
+    let runs = decode::numbers(input, at, &mut f);
     let c = tally::call_of(&f);
-    let words = lists::ram(&mut ram, input, at, c.runs);
-    let w = registry::call(step.registry, c, lists::words_part(&ram, words));
+    let words = lists::ram(&mut ram, input, runs, c.runs);
+    registry::call(w, c, lists::part(&ram, words));
     compare(w, &f, tally, first);
-    Step {
-        registry: w,
-        next: lists::after_runs(input, at, c.runs),
-    }
+    lists::after_runs(input, runs, c.runs)
 }
 
 // The calls of this part are put and counted: how many lines, then a line for each.
@@ -60,13 +59,10 @@ pub fn run(input: &[u8], from: usize, tally: &mut [u64], first: &mut Option<Diff
     ensures { tally.new ≡ registry_tally (number_at input.now from).value input.now no_registry (number_at input.now from).next tally.old }
 {
     let count = decode::number(input, from);
-    let mut s = Step {
-        registry: nothing(),
-        next: count.next,
-    };
-    let mut left = count.value;
-    while 0 < left {
-        s = line(input, s, tally, first);
-        left -= 1;
+    let mut w = nothing();
+    let lines = count.value;
+    let mut next = count.next;
+    for _ in 0..lines {
+        next = line(input, next, &mut w, tally, first);
     }
 }

@@ -6,6 +6,7 @@ use crate::{field, given};
 use abi::refusal;
 use playback::buffers::Call;
 
+// Kept: the definition `noted_of` of specs counts in one list by these places.
 // Where the counts stand: of all calls, of those as recorded, of the others.
 pub const ALL: u64 = 0;
 
@@ -63,37 +64,23 @@ pub fn call_of(f: &[u64; field::ALL]) -> Call
 pub fn result_of(number: u64) -> u64
     ensures { result ≡ result_of number }
 {
-    if number == refusal::NOT_RAM {
-        return WITH_A_CODE;
+    if number == refusal::NOT_RAM || refusal::LOCKED <= number && number < refusal::FULL {
+        WITH_A_CODE
+    } else {
+        number
     }
-    if number < refusal::LOCKED {
-        return number;
-    }
-    if number < refusal::FULL {
-        return WITH_A_CODE;
-    }
-    number
 }
 
+#[tactic(auto, unfolding(crate::specs::Tally::is_same))]
 fn is_same(f: &[u64; field::ALL], g: &[u64; given::ALL]) -> bool
     ensures { result ≡ is_same f.now g.now }
 {
-    if f[field::RESULT] != g[given::RESULT] {
-        return false;
-    }
-    if f[field::CODE] != g[given::CODE] {
-        return false;
-    }
-    if f[field::INDEX] != g[given::INDEX] {
-        return false;
-    }
-    if f[field::COUNT] != g[given::COUNT] {
-        return false;
-    }
-    if f[field::ASKED] != g[given::ASKED] {
-        return false;
-    }
-    f[field::LEFT] == g[given::LEFT]
+    f[field::RESULT] == g[given::RESULT]
+        && f[field::CODE] == g[given::CODE]
+        && f[field::INDEX] == g[given::INDEX]
+        && f[field::COUNT] == g[given::COUNT]
+        && f[field::ASKED] == g[given::ASKED]
+        && f[field::LEFT] == g[given::LEFT]
 }
 
 fn bump(tally: &mut [u64], i: u64)
@@ -101,7 +88,7 @@ fn bump(tally: &mut [u64], i: u64)
 {
     let k = i as usize;
     if k < tally.len() {
-        tally[k] = std::num::wrapping_add_u64(tally[k], 1);
+        tally[k] = tally[k].wrapping_add(1);
     }
 }
 
@@ -139,8 +126,8 @@ pub fn note(
     if is_same(f, g) {
         bump(tally, ALL_SAME);
         bump(tally, SAME + cell);
-        return;
+    } else {
+        bump(tally, OTHERS);
+        keep_first(first, tally, f, g);
     }
-    bump(tally, OTHERS);
-    keep_first(first, tally, f, g);
 }

@@ -1,10 +1,6 @@
-use mathlib.Core.Path.{◌≡◌}
-use Prim.Native.Nat.{◌-◌, ◌≤◌}
+use Rattle.std.proofs.Common.{◌≡◌, ◌-◌}
 use Rattle.playback.specs.Registry.{finished_from}
 use Rattle.playback.proofs.registry.finish.Given as goal
 
 abbrev pub invariant-loop-at : goal.invariant-loop-at
-invariant-loop-at l = (l.at ≤ 8192) × (finished_from (8192 - l.at) l.at l.w l.c ≡ finished_from 8192 0 l.initial.w l.c)
-
-abbrev pub decreases-loop-at : goal.decreases-loop-at
-decreases-loop-at l = 8192 - l.at
+invariant-loop-at l = finished_from (8192 - l.at) l.at l.w l.c ≡ finished_from 8192 0 l.initial.w l.c

@@ -1,16 +1,7 @@
-use Rattle.std.proofs.Common.{ℕ, ◌+◌, List, drop, refl, ap, ◌∙◌, arith}
-use Rattle.recording.specs.Digest.{digest_word, digest_of}
-use Rattle.recording.proofs.Laws.{digest_next, digest_end}
+use Rattle.std.proofs.Common.{◌≡◌, fold, ◌∙◌, rules}
+use Rattle.recording.specs.Digest.{digest_word}
+use Rattle.recording.proofs.Laws.{digest_fold}
 use Rattle.recording.proofs.digest.bytes.Goals as goal
 
-pub loop-i-init : goal.loop-i-init
-loop-i-init c = refl
-
-pub loop-i-preserved : goal.loop-i-preserved
-loop-i-preserved c =
-    let run : List ℕ = c.args.run.now in
-    let i : ℕ = c.loop-i.i in
-    ap (λ (h : ℕ). digest_of h (drop (i + 1) run)) (c.word-d.ensures ∙ ap (digest_word c.loop-i.d) c.wide.ensures) ∙ digest_next c.loop-i.d run i (omega arith) ∙ c.loop-i.invariant
-
 pub returns : goal.returns
-returns c = digest_end c.loop-i.d c.args.run.now c.loop-i.i (omega arith) ∙ c.loop-i.invariant
+returns c = let e : c.fold.result ≡ fold digest_word c.args.h c.args.run.now = search rules in e ∙ digest_fold c.args.h c.args.run.now

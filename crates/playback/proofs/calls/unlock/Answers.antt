@@ -1,6 +1,0 @@
-use mathlib.Core.Path.{ap}
-use Rattle.playback.specs.Calls.{kept_in}
-use Rattle.playback.proofs.calls.unlock.Goals as goal
-
-pub returns : goal.returns
-returns c = ap (kept_in c.args.buffers) c.protector_unlock_gpns-r.ensures
