@@ -39,14 +39,7 @@ pub fn query_access_permission(
     ensures { numbered result ≡ access_permission (entries_of ram.now) (maps private.now shared.now read.now write.now kernel.now user.now) tracked gpn }
 {
     let len = layout::map_len(ram);
-    let lengths = MapLengths {
-        private: private.len() as u64,
-        shared: shared.len() as u64,
-        read: read.len() as u64,
-        write: write.len() as u64,
-        kernel: kernel.len() as u64,
-        user: user.len() as u64,
-    };
+    let lengths = MapLengths::of(private, shared, read, write, kernel, user);
     access_refusal(mapping::maps_fit(len, tracked, lengths), tracked)?;
     Ok(mapping::flags_at(read, write, kernel, user, gpn))
 }
@@ -102,14 +95,7 @@ pub fn query_lower_vtl_permissions(
     ensures { numbered result ≡ lower_vtl_permissions (entries_of ram.now) (maps private.now shared.now read.now write.now kernel.now user.now) tracked vtl gpn }
 {
     let len = layout::map_len(ram);
-    let lengths = MapLengths {
-        private: private.len() as u64,
-        shared: shared.len() as u64,
-        read: read.len() as u64,
-        write: write.len() as u64,
-        kernel: kernel.len() as u64,
-        user: user.len() as u64,
-    };
+    let lengths = MapLengths::of(private, shared, read, write, kernel, user);
     let fits = mapping::maps_fit(len, tracked, lengths);
     lower_refusal(ram, fits, vtl, gpn, gpn / 8 < len)?;
     let v = permissions::vtl_of(vtl);

@@ -1,12 +1,13 @@
 // What refuses a call of the protector: the lengths of what is lent, what is under way, the pages of a list; what refuses an answer and a build.
 #![tactic(auto)]
 
-ghost use Rattle.std.specs.Prelude.{◌≡◌, true, length};
+ghost use Rattle.std.specs.Prelude.{◌≡◌, true, [], length};
+ghost use Rattle.mapping.specs.Maps.{maps};
 ghost use Rattle.abi.specs.Refusals.{refused_by};
 ghost use Rattle.layout.specs.Layout.{entries_of, map_len};
 ghost use Rattle.page_list.specs.Pages.{pages_of};
 ghost use Rattle.protector_state.specs.State.{state_len, entries_in};
-ghost use Rattle.call_refusals.specs.Buffers.{tables_len, overlays_of, locks_of, is_locked, lengths_fit, fits_in, status_of, status_in, takes, takes_at, takes_in};
+ghost use Rattle.call_refusals.specs.Buffers.{buffers, lengths_in, tables_len, overlays_of, locks_of, is_locked, lengths_fit, fits_in, status_of, status_in, takes, takes_at, takes_in};
 ghost use Rattle.call_refusals.specs.Refusals.{ready, tested_of, build_fits, build_refusal, page_refusal, first_refusal, visibility_refusal, answer_refusal};
 
 use abi::refusal::Refusal;
@@ -22,6 +23,28 @@ pub struct Lengths {
     pub maps: MapLengths,
     pub pages: u64,
     pub tables: u64,
+}
+
+impl Lengths {
+    // The lengths of what is lent to a call.
+    pub fn of(
+        private: &[u8],
+        shared: &[u8],
+        read: &[u8],
+        write: &[u8],
+        kernel: &[u8],
+        user: &[u8],
+        pages: &[u64],
+        tables: &[u64],
+    ) -> Self
+        ensures { result ≡ lengths_in (buffers (maps private.now shared.now read.now write.now kernel.now user.now) [] pages.now tables.now) }
+    {
+        Self {
+            maps: MapLengths::of(private, shared, read, write, kernel, user),
+            pages: pages.len() as u64,
+            tables: tables.len() as u64,
+        }
+    }
 }
 
 // Whether what is lent fits a layout whose maps have `len` bytes.

@@ -165,14 +165,7 @@ pub fn page_fault(
     ensures { numbered result ≡ page_fault (entries_of ram.now) (maps private.now shared.now read.now write.now kernel.now user.now) tracked mapping view address writes failure }
 {
     let len = layout::map_len(ram);
-    let lengths = MapLengths {
-        private: private.len() as u64,
-        shared: shared.len() as u64,
-        read: read.len() as u64,
-        write: write.len() as u64,
-        kernel: kernel.len() as u64,
-        user: user.len() as u64,
-    };
+    let lengths = MapLengths::of(private, shared, read, write, kernel, user);
     let fits = mapping::maps_fit(len, tracked, lengths);
     fault_refusal(fits, mapping, view, writes, failure)?;
     Ok(fault_action(

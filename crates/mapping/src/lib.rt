@@ -6,7 +6,7 @@ ghost use Rattle.std.specs.Prelude.{true, ◌≡◌, ◌+◌, ◌≤◌, length,
 ghost use Rattle.laws.specs.Ranges.{between};
 ghost use Rattle.bitmap.specs.Pages.{written};
 ghost use Rattle.layout.specs.Layout.{entries_of, is_ram};
-ghost use Rattle.mapping.specs.Maps.{perms, maps, fresh, built, permission_len, marks_fit, permissions_fit, maps_fit, flags_at, permitted};
+ghost use Rattle.mapping.specs.Maps.{perms, maps, fresh, built, permission_len, marks_fit, permissions_fit, maps_fit, lengths_of, flags_at, permitted};
 
 use permissions::HvMapGpaFlags;
 
@@ -19,6 +19,29 @@ pub struct MapLengths {
     pub write: u64,
     pub kernel: u64,
     pub user: u64,
+}
+
+impl MapLengths {
+    // The lengths of lent maps.
+    pub fn of(
+        private: &[u8],
+        shared: &[u8],
+        read: &[u8],
+        write: &[u8],
+        kernel: &[u8],
+        user: &[u8],
+    ) -> Self
+        ensures { result ≡ lengths_of (maps private.now shared.now read.now write.now kernel.now user.now) }
+    {
+        Self {
+            private: private.len() as u64,
+            shared: shared.len() as u64,
+            read: read.len() as u64,
+            write: write.len() as u64,
+            kernel: kernel.len() as u64,
+            user: user.len() as u64,
+        }
+    }
 }
 
 // Whether the marks have `len` bytes each.

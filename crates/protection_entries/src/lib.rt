@@ -18,7 +18,6 @@ use abi::refusal::Refusal;
 use abi::{place, table};
 use call_refusals::Lengths;
 use change_steps::ChangeStep;
-use mapping::MapLengths;
 use page_list::PageRun;
 use permissions::{GuestVtl, HvMapGpaFlags};
 use protector_state::Reply;
@@ -156,18 +155,7 @@ pub fn protector_change_default_vtl_protections(
     ensures { outcome (maps private.now shared.now read.new write.new kernel.new user.new) state.new pages.now tables.new result
         ≡ default_of (buffers (maps private.now shared.now read.old write.old kernel.old user.old) state.old pages.now tables.old) vtl flags }
 {
-    let lengths = Lengths {
-        maps: MapLengths {
-            private: private.len() as u64,
-            shared: shared.len() as u64,
-            read: read.len() as u64,
-            write: write.len() as u64,
-            kernel: kernel.len() as u64,
-            user: user.len() as u64,
-        },
-        pages: pages.len() as u64,
-        tables: tables.len() as u64,
-    };
+    let lengths = Lengths::of(private, shared, read, write, kernel, user, pages, tables);
     if let Err(refusal) = default_refusal(state, lengths, vtl, flags) {
         return protector_state::refused(refusal.number());
     }
@@ -271,18 +259,7 @@ pub fn protector_change_vtl_protections(
     ensures { outcome (maps private.now shared.now read.new write.new kernel.new user.new) state.new pages.new tables.now result
         ≡ protection_of (buffers (maps private.now shared.now read.old write.old kernel.old user.old) state.old pages.old tables.now) vtl flags list.now }
 {
-    let lengths = Lengths {
-        maps: MapLengths {
-            private: private.len() as u64,
-            shared: shared.len() as u64,
-            read: read.len() as u64,
-            write: write.len() as u64,
-            kernel: kernel.len() as u64,
-            user: user.len() as u64,
-        },
-        pages: pages.len() as u64,
-        tables: tables.len() as u64,
-    };
+    let lengths = Lengths::of(private, shared, read, write, kernel, user, pages, tables);
     if let Err(refusal) = protection_refusal(state, lengths, shared, tables, vtl, flags, list) {
         return protector_state::refused(refusal.number());
     }

@@ -7,11 +7,9 @@ ghost use Rattle.call_refusals.specs.Buffers.{buffers, outcome};
 ghost use Rattle.protector.specs.Calls.{build_of, visibility_of, answer_done, answer_failed};
 ghost use Rattle.queries.specs.Queries.{query, query_of, fault_in, lower_in, access_in};
 
-use abi::{STATE_WORDS, place, refusal};
-use access::PermissionsAnswer;
+use abi::refusal::Refusal;
+use abi::{STATE_WORDS, place};
 use call_refusals::Lengths;
-use fault::PageFaultAction;
-use mapping::MapLengths;
 use protector_state::{Reply, Value};
 
 // A protector of a layout: RAM private with all permissions, and empty tables, whatever the runs held. No operation is asked
@@ -34,28 +32,12 @@ pub fn protector_build(
     ensures { outcome (maps private.new shared.new read.new write.new kernel.new user.new) state.new pages.new tables.new result
         ≡ build_of (buffers (maps private.old shared.old read.old write.old kernel.old user.old) state.old pages.old tables.old) ram.now isolation tracked release }
 {
-    let lengths = Lengths {
-        maps: MapLengths {
-            private: private.len() as u64,
-            shared: shared.len() as u64,
-            read: read.len() as u64,
-            write: write.len() as u64,
-            kernel: kernel.len() as u64,
-            user: user.len() as u64,
-        },
-        pages: pages.len() as u64,
-        tables: tables.len() as u64,
-    };
-    let n = call_refusals::build_refusal(
-        ram,
-        isolation,
-        tracked,
-        release,
-        state.len() as u64,
-        lengths,
-    );
-    if n != 0 {
-        return protector_state::refused(n);
+    let lengths = Lengths::of(private, shared, read, write, kernel, user, pages, tables);
+    let len = state.len() as u64;
+    if let Err(refusal) = call_refusals::build_refusal(
+        ram, isolation, tracked, release, len, lengths,
+    ) {
+        return protector_state::refused(refusal.number());
     }
     mapping::build(private, shared, read, write, kernel, user, ram);
     protector_state::build_state(state, ram, isolation, tracked, release);
@@ -83,21 +65,11 @@ pub fn protector_change_host_visibility(
     ensures { outcome (maps private.new shared.new read.new write.new kernel.new user.new) state.new pages.new tables.now result
         ≡ visibility_of (buffers (maps private.old shared.old read.old write.old kernel.old user.old) state.old pages.old tables.now) vtl visibility list.now }
 {
-    let lengths = Lengths {
-        maps: MapLengths {
-            private: private.len() as u64,
-            shared: shared.len() as u64,
-            read: read.len() as u64,
-            write: write.len() as u64,
-            kernel: kernel.len() as u64,
-            user: user.len() as u64,
-        },
-        pages: pages.len() as u64,
-        tables: tables.len() as u64,
-    };
-    let n = call_refusals::visibility_refusal(state, lengths, tables, vtl, visibility, list);
-    if n != 0 {
-        return protector_state::refused(n);
+    let lengths = Lengths::of(private, shared, read, write, kernel, user, pages, tables);
+    if let Err(refusal) = call_refusals::visibility_refusal(
+        state, lengths, tables, vtl, visibility, list,
+    ) {
+        return protector_state::refused(refusal.number());
     }
     let set = protector_state::settings(state);
     let v = permissions::vtl_of(vtl);
@@ -127,21 +99,9 @@ pub fn protector_answer_done(
     ensures { outcome (maps private.new shared.new read.new write.new kernel.new user.new) state.new pages.new tables.new result
         ≡ answer_done (buffers (maps private.old shared.old read.old write.old kernel.old user.old) state.old pages.old tables.old) }
 {
-    let lengths = Lengths {
-        maps: MapLengths {
-            private: private.len() as u64,
-            shared: shared.len() as u64,
-            read: read.len() as u64,
-            write: write.len() as u64,
-            kernel: kernel.len() as u64,
-            user: user.len() as u64,
-        },
-        pages: pages.len() as u64,
-        tables: tables.len() as u64,
-    };
-    let n = call_refusals::answer_refusal(state, lengths, false);
-    if n != 0 {
-        return protector_state::refused(n);
+    let lengths = Lengths::of(private, shared, read, write, kernel, user, pages, tables);
+    if let Err(refusal) = call_refusals::answer_refusal(state, lengths, false) {
+        return protector_state::refused(refusal.number());
     }
     if protector_state::change::is_changing(state) {
         return change_writes::answer_done(private, read, write, kernel, user, state, pages, tables);
@@ -167,21 +127,9 @@ pub fn protector_answer_failed(
     ensures { outcome (maps private.new shared.new read.new write.new kernel.new user.new) state.new pages.new tables.new result
         ≡ answer_failed (buffers (maps private.old shared.old read.old write.old kernel.old user.old) state.old pages.old tables.old) code processed }
 {
-    let lengths = Lengths {
-        maps: MapLengths {
-            private: private.len() as u64,
-            shared: shared.len() as u64,
-            read: read.len() as u64,
-            write: write.len() as u64,
-            kernel: kernel.len() as u64,
-            user: user.len() as u64,
-        },
-        pages: pages.len() as u64,
-        tables: tables.len() as u64,
-    };
-    let n = call_refusals::answer_refusal(state, lengths, true);
-    if n != 0 {
-        return protector_state::refused(n);
+    let lengths = Lengths::of(private, shared, read, write, kernel, user, pages, tables);
+    if let Err(refusal) = call_refusals::answer_refusal(state, lengths, true) {
+        return protector_state::refused(refusal.number());
     }
     if protector_state::change::is_changing(state) {
         return change_writes::answer_failed(read, write, kernel, user, state, tables);
@@ -205,18 +153,13 @@ pub fn protector_query_host_visibility(
 ) -> Reply
     ensures { query out.new result ≡ query_of state.now shared.now list.now out.old }
 {
-    let n = queries::query_refusal(state, shared.len() as u64, list);
-    if n != 0 {
-        return protector_state::refused(n);
+    if let Err(refusal) = queries::query_refusal(state, shared.len() as u64, list) {
+        return protector_state::refused(refusal.number());
     }
     let before = queries::ram_before(protector_state::ram_of(state), list);
     if before < page_list::page_count(list) {
-        return protector_state::finished(
-            refusal::NOT_RAM,
-            permissions::hv_error(refusal::NOT_RAM),
-            before,
-            0,
-        );
+        let number = Refusal::NotRam.number();
+        return protector_state::finished(number, permissions::hv_error(number), before, 0);
     }
     queries::fill(out, shared, list);
     protector_state::finished(0, 0, 0, 0)
@@ -241,7 +184,7 @@ pub fn protector_page_fault(
     ensures { result ≡ fault_in state.now (maps private.now shared.now read.now write.now kernel.now user.now) mapping view address writes failure }
 {
     if state.len() != STATE_WORDS {
-        return queries::fault_value(PageFaultAction::Refused(refusal::WRONG_LENGTH));
+        return queries::fault_value(Err(Refusal::WrongLength));
     }
     let tracked = state[place::TRACKED] == 1;
     let ram = protector_state::ram_of(state);
@@ -267,7 +210,7 @@ pub fn protector_query_lower_vtl_permissions(
     ensures { result ≡ lower_in state.now (maps private.now shared.now read.now write.now kernel.now user.now) vtl gpn }
 {
     if state.len() != STATE_WORDS {
-        return queries::permissions_value(PermissionsAnswer::Refused(refusal::WRONG_LENGTH));
+        return queries::permissions_value(Err(Refusal::WrongLength));
     }
     let tracked = state[place::TRACKED] == 1;
     let ram = protector_state::ram_of(state);
@@ -291,7 +234,7 @@ pub fn protector_query_access_permission(
     ensures { result ≡ access_in state.now (maps private.now shared.now read.now write.now kernel.now user.now) gpn }
 {
     if state.len() != STATE_WORDS {
-        return queries::permissions_value(PermissionsAnswer::Refused(refusal::WRONG_LENGTH));
+        return queries::permissions_value(Err(Refusal::WrongLength));
     }
     let tracked = state[place::TRACKED] == 1;
     let ram = protector_state::ram_of(state);
