@@ -1,6 +1,6 @@
 // What refuses a call. What crosses is its number; 0 stands where nothing refuses.
 ghost use Rattle.std.specs.Prelude.{◌≡◌};
-ghost use Rattle.abi.specs.Refusals.{number_of};
+ghost use Rattle.abi.specs.Refusals.{number_of, refused_by};
 
 #[derive(Clone, Copy, Debug, PartialEq, Eq)]
 pub enum Refusal {
@@ -97,6 +97,16 @@ impl Refusal {
             Refusal::RegistrationFailed => REGISTRATION_FAILED,
             Refusal::Untracked => UNTRACKED,
         }
+    }
+}
+
+// The number of what refuses: 0 where nothing does.
+pub fn refused_by<T: Copy>(answer: Result<T, Refusal>) -> u64
+    ensures { result ≡ refused_by answer }
+{
+    match answer {
+        Ok(_) => 0,
+        Err(refusal) => refusal.number(),
     }
 }
 

@@ -7,7 +7,7 @@ ghost use Rattle.layout.specs.Layout.{entries_of, is_ram};
 ghost use Rattle.mapping.specs.Maps.{perms, maps};
 ghost use Rattle.access.specs.Query.{access_refusal, access_permission, lower_refusal, lower_flags, lower_vtl_permissions, permissions_number, permissions_value};
 
-use abi::refusal::Refusal;
+use abi::refusal::{self, Refusal};
 use mapping::MapLengths;
 use permissions::{GuestVtl, HvMapGpaFlags};
 
@@ -105,10 +105,7 @@ pub fn query_lower_vtl_permissions(
 pub fn permissions_number(a: Result<HvMapGpaFlags, Refusal>) -> u64
     ensures { result ≡ permissions_number (numbered a) }
 {
-    match a {
-        Ok(_) => 0,
-        Err(refusal) => refusal.number(),
-    }
+    refusal::refused_by(a)
 }
 
 pub fn permissions_value(a: Result<HvMapGpaFlags, Refusal>) -> u64

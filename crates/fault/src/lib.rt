@@ -8,7 +8,7 @@ ghost use Rattle.layout.specs.Layout.{entries_of};
 ghost use Rattle.mapping.specs.Maps.{perms, maps};
 ghost use Rattle.fault.specs.Fault.{mapping_of, view_of, access_map, fault_of, fault_refusal, page_fault, fault_number, fault_value};
 
-use abi::refusal::Refusal;
+use abi::refusal::{self, Refusal};
 use abi::{PAGE_SIZE, action, memory_type, read_type};
 use mapping::MapLengths;
 
@@ -61,16 +61,16 @@ fn is_allowed(
     write: &[u8],
     kernel: &[u8],
     user: &[u8],
-    view: GuestMemoryViewReadType,
+    view: u64,
     gpn: u64,
     writes: bool,
 ) -> bool
-    ensures { result ≡ bit_at 8 (access_map view writes (perms read.now write.now kernel.now user.now)) gpn }
+    ensures { result ≡ bit_at 8 (access_map (view_of view) writes (perms read.now write.now kernel.now user.now)) gpn }
 {
     if writes {
         return bitmap::page_state(write, gpn);
     }
-    match view {
+    match view_of(view) {
         GuestMemoryViewReadType::Read => bitmap::page_state(read, gpn),
         GuestMemoryViewReadType::KernelExecute => bitmap::page_state(kernel, gpn),
         GuestMemoryViewReadType::UserExecute => bitmap::page_state(user, gpn),
@@ -88,12 +88,12 @@ fn fault_action(
     user: &[u8],
     tracked: bool,
     mapping: GuestValidMemoryType,
-    view: GuestMemoryViewReadType,
+    view: u64,
     gpn: u64,
     writes: bool,
     failure: bool,
 ) -> PageFaultAction
-    ensures { result ≡ fault_of (maps private.now shared.now read.now write.now kernel.now user.now) tracked mapping view gpn writes failure }
+    ensures { result ≡ fault_of (maps private.now shared.now read.now write.now kernel.now user.now) tracked mapping (view_of view) gpn writes failure }
 {
     if !failure {
         return PageFaultAction::NotMapped;
@@ -177,7 +177,7 @@ pub fn page_fault(
         user,
         tracked,
         mapping_of(mapping),
-        view_of(view),
+        view,
         address / PAGE_SIZE,
         writes == 1,
         failure == 1,
@@ -187,10 +187,7 @@ pub fn page_fault(
 pub fn fault_number(a: Result<PageFaultAction, Refusal>) -> u64
     ensures { result ≡ fault_number (numbered a) }
 {
-    match a {
-        Ok(_) => 0,
-        Err(refusal) => refusal.number(),
-    }
+    refusal::refused_by(a)
 }
 
 pub fn fault_value(a: Result<PageFaultAction, Refusal>) -> u64

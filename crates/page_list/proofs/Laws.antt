@@ -2,7 +2,7 @@
 use mathlib.Core.Bool.{Bool, true, false, not, ◌||◌}
 use mathlib.Core.List.{List, [], ◌∷◌, ◌++◌}
 use mathlib.Core.Path.{◌≡◌, refl, sym, ap, ◌∙◌}
-use Prim.Native.Nat.{ℕ, zero, suc, ◌+◌, ◌/◌, ◌≤◌, ◌<◌}
+use Prim.Native.Nat.{ℕ, zero, suc, ◌+◌, ◌*◌, ◌/◌, ◌≤◌, ◌<◌}
 use native.Mathlib.Numerals.{add-one}
 use native.Mathlib.Omega.{arith}
 use lib.Dec.{eqb}
@@ -10,7 +10,13 @@ use lib.ListN.{length, get_or, drop, drop_of_length-le, get_or-eq_default}
 use lib.Seq.{drop-cons}
 use borrow.Author.Tests.{eq-eqb, ne_eqb, ltb-true, ltb-false, not-true}
 use Rattle.laws.specs.Bools.{and_left, and_right, or_right, or_assoc}
-use Rattle.page_list.specs.Pages.{number_at, numbers_from, pages_of, is_long, among, repeats, steps, steps_from, strict}
+use Rattle.page_list.specs.Pages.{number_of, number_at, numbers_from, pages_of, is_long, among, repeats, steps, steps_from, strict}
+
+-- a number in two halves of four bytes
+pub halves : (a b c d e f g h low high : ℕ) → low ≡ a + 0x100 * b + 0x1_0000 * c + 0x100_0000 * d → high ≡ e + 0x100 * f + 0x1_0000 * g + 0x100_0000 * h
+    → low + 0x1_0000_0000 * high ≡ number_of a b c d e f g h
+unfolding number_of
+halves a b c d e f g h low high x y = omega arith
 
 pub long_le : (l : List ℕ) → not (is_long l) ≡ true → length l ≤ 4096
 long_le l h = ltb-false 4096 (length l) (not-true (is_long l) h)

@@ -42,12 +42,6 @@ module _ (w : Buffers) (n x : ℕ) (e : n ≡ x) (taken : Outcome) where
 
 -- ---- what a step writes
 
-pub applies : (t : List ℕ) (w : Writes) (m : Maps) (p s : List ℕ) (u : Permissions) → p ≡ put_places t w.private w.state m.private
-    → s ≡ put_places t w.shared w.state m.shared → u ≡ put_permissions t w.permissions w.flags m.permissions
-    → record { private = p; shared = s; permissions = u } ≡ applied t w m
-unfolding applied
-applies t w m p s u a b d = rw (a, b, d) refl
-
 pub nothing_applied : (t : List ℕ) (w : Writes) (m : Maps) (b : Bool) → b ≡ is_nothing w → b ≡ true → m ≡ applied t w m
 unfolding applied
 nothing_applied t w m b e h =
@@ -91,50 +85,3 @@ module _ (s : Settings) (p : Phase) (t : List ℕ) (n a : ℕ) (m : Permissions)
     module _ (k : s.tracked ≡ true) where
       pub permit_past : n ≤ a → m ≡ permitted
       permit_past g = nothing_put t (places a (run_end t n a)) s.defaults.vtl0 m (omega (arith, end_none t n a g)) ∙ ap₂ by (sym h) (sym k)
-
-      pub permit_run : (f : HvMapGpaFlags) (u : Permissions) → f ≡ s.defaults.vtl0 → u ≡ put_flags t a (run_end t n a) f m → u ≡ permitted
-      permit_run f u e d = d ∙ ap (λ (f : HvMapGpaFlags). put_permissions t (places a (run_end t n a)) f m) e ∙ ap₂ by (sym h) (sym k)
-
-    pub default_run_lem : (r : PageRun) → r ≡ run_in p t n a → r ≡ run_at t n a
-    default_run_lem r e = e ∙ go p h
-      where
-        go : (p : Phase) → is_default0 p ≡ true → run_in p t n a ≡ run_at t n a
-        go at.Idle h = absurd (false≢true h)
-        go at.Halted h = absurd (false≢true h)
-        go at.Wait h = absurd (false≢true h)
-        go at.FlushAll h = absurd (false≢true h)
-        go at.ProtectNone0 h = absurd (false≢true h)
-        go at.ProtectNone1 h = absurd (false≢true h)
-        go at.Invalidate h = absurd (false≢true h)
-        go at.Release h = absurd (false≢true h)
-        go at.Modify h = absurd (false≢true h)
-        go at.Accept h = absurd (false≢true h)
-        go at.Zero h = absurd (false≢true h)
-        go at.ProtectDefault0 h = refl
-        go at.ProtectDefault1 h = absurd (false≢true h)
-
-module _ (s : Settings) (q : Request) (t : List ℕ) (x : Next) (m : Maps) where
-  pub marks_applied : (p h : List ℕ) (u : Permissions) → p ≡ put t 0 x.marks.private true m.private → h ≡ put t x.marks.from x.marks.to true m.shared
-      → u ≡ put_permissions t (permitted_at s x.phase t q.n x.at) (flags_at s x.phase) m.permissions
-      → record { private = p; shared = h; permissions = u } ≡ applied t (next_step s q t x).writes m
-  unfolding applied next_step
-  marks_applied p h u e f g = rw (e, f, g) refl
-
-  pub next_replies : (r : Reply) (run : PageRun) → r ≡ flat_of s.isolation (answer_by x.turn s x.phase q run) → run ≡ run_in x.phase t q.n x.at
-      → r ≡ flat_of s.isolation (next_step s q t x).answer
-  unfolding next_step
-  next_replies r run e f = e ∙ ap (λ (y : PageRun). flat_of s.isolation (answer_by x.turn s x.phase q y)) f
-
-  pub next_saved : (st st' : List ℕ) (y : Request) → st' ≡ with_request x.phase y st → y ≡ request_by x.turn q x.at
-      → st' ≡ with_request (next_step s q t x).phase (next_step s q t x).request st
-  unfolding next_step
-  next_saved st st' y e f = e ∙ ap (λ (z : Request). with_request x.phase z st) f
-
-pub in_use : (st : List ℕ) (q : Request) → q ≡ request_of st → q.n ≤ 512
-in_use st q e = omega (arith, ap (λ (q : Request). q.n) e)
-
--- the step that was computed is the one of the definition
-pub done_is : (st t : List ℕ) (s s' : Settings) (p : Phase) (q q' : Request) (x : Next) → s ≡ s' → p ≡ phase_in st → q ≡ q' → next_step s q t x ≡ done_of s p q t
-    → next_step s' q t x ≡ done_of s' (phase_in st) q' t
-done_is st t s s' p q q' x e f g h =
-    ap (λ (y : Settings). next_step y q t x) (sym e) ∙ h ∙ ap₂ (λ (y : Settings) (z : Phase). done_of y z q t) e f ∙ ap (λ (y : Request). done_of s' (phase_in st) y t) g

@@ -22,21 +22,13 @@ use visibility_steps::{Next, Phase, Places, Request, Settings, Step, Writes};
 pub fn checks_permissions(settings: Settings, vtl: GuestVtl, share: bool) -> bool
     ensures { result ≡ checks_permissions settings vtl share }
 {
-    if !share {
-        return false;
-    }
-    match vtl {
-        GuestVtl::Vtl0 => settings.enabled,
-        GuestVtl::Vtl1 => false,
-    }
+    share && permissions::is_vtl0(vtl) && settings.enabled
 }
 
 fn set_marks(map: &mut [u8], pages: &[u64], places: Places, state: bool)
     ensures { map.new ≡ put_places pages.now places state map.old }
 {
-    let from = places.from;
-    let to = places.to;
-    request_pages::set_places(map, pages, from, to, state);
+    request_pages::set_places(map, pages, places.from, places.to, state);
 }
 
 fn is_empty(places: Places) -> bool
@@ -49,19 +41,11 @@ fn is_empty(places: Places) -> bool
 fn is_nothing(writes: Writes) -> bool
     ensures { result ≡ is_nothing writes }
 {
-    let private = writes.private;
-    let shared = writes.shared;
-    let permissions = writes.permissions;
-    if !is_empty(private) {
-        return false;
-    }
-    if !is_empty(shared) {
-        return false;
-    }
-    is_empty(permissions)
+    is_empty(writes.private) && is_empty(writes.shared) && is_empty(writes.permissions)
 }
 
 // What a step writes. Places of no page write nothing.
+#[tactic(auto, unfolding(crate::specs::Writes::applied))]
 fn apply(
     private: &mut [u8],
     shared: &mut [u8],
@@ -74,28 +58,17 @@ fn apply(
 )
     ensures { maps private.new shared.new read.new write.new kernel.new user.new ≡ applied pages.now writes (maps private.old shared.old read.old write.old kernel.old user.old) }
 {
-    let private_places = writes.private;
-    let shared_places = writes.shared;
-    let permission_places = writes.permissions;
-    let flags = writes.flags;
     if is_nothing(writes) {
         return;
     }
-    set_marks(private, pages, private_places, writes.state);
-    set_marks(shared, pages, shared_places, writes.state);
-    request_pages::update_permissions(
-        read,
-        write,
-        kernel,
-        user,
-        pages,
-        permission_places.from,
-        permission_places.to,
-        flags,
-    );
+    let Places { from, to } = writes.permissions;
+    set_marks(private, pages, writes.private, writes.state);
+    set_marks(shared, pages, writes.shared, writes.state);
+    request_pages::update_permissions(read, write, kernel, user, pages, from, to, writes.flags);
 }
 
 // A step carried out: its writes made, its phase and request kept.
+#[tactic(auto, unfolding(crate::specs::Writes::applied))]
 pub fn apply_step(
     private: &mut [u8],
     shared: &mut [u8],
@@ -113,14 +86,18 @@ pub fn apply_step(
     ensures state_after { state.new ≡ with_request step.phase step.request state.old }
     ensures value { result ≡ flat_of settings.isolation step.answer }
 {
-    let writes = step.writes;
-    let phase = step.phase;
-    let request = step.request;
-    let answer = step.answer;
-    let isolation = settings.isolation;
-    apply(private, shared, read, write, kernel, user, pages, writes);
-    protector_state::save(state, phase, request);
-    protector_state::to_reply(isolation, answer)
+    apply(
+        private,
+        shared,
+        read,
+        write,
+        kernel,
+        user,
+        pages,
+        step.writes,
+    );
+    protector_state::save(state, step.phase, step.request);
+    protector_state::to_reply(settings.isolation, step.answer)
 }
 
 // The marks at the places from `from` to before `to` are set.
@@ -163,6 +140,7 @@ fn update_default_permissions(
 }
 
 // What an answer leads to, carried out.
+#[tactic(auto, unfolding(crate::specs::Writes::applied, visibility_steps::specs::Next::next_step))]
 fn apply_done(
     private: &mut [u8],
     shared: &mut [u8],
@@ -181,21 +159,21 @@ fn apply_done(
     ensures state_after { state.new ≡ with_request (next_step (settings_of state.old) request pages.now next).phase (next_step (settings_of state.old) request pages.now next).request state.old }
     ensures value { result ≡ flat_of (settings_of state.old).isolation (next_step (settings_of state.old) request pages.now next).answer }
 {
-    let turn = next.turn;
-    let phase = next.phase;
-    let marks = next.marks;
-    let run = visibility_steps::run_in(phase, pages, request.n, next.at);
+    let Next {
+        turn,
+        phase,
+        at,
+        marks,
+    } = next;
+    let run = visibility_steps::run_in(phase, pages, request.n, at);
     mark(private, pages, 0, marks.private);
     mark(shared, pages, marks.from, marks.to);
     update_default_permissions(
-        read, write, kernel, user, state, pages, phase, request.n, next.at, run,
+        read, write, kernel, user, state, pages, phase, request.n, at, run,
     );
     let reply = protector_state::next_reply(state, turn, phase, request, run);
-    protector_state::save(
-        state,
-        phase,
-        visibility_steps::next_request(turn, request, next.at),
-    );
+    let left = visibility_steps::next_request(turn, request, at);
+    protector_state::save(state, phase, left);
     reply
 }
 
@@ -225,6 +203,7 @@ pub fn answer_done(
 }
 
 // A visibility change that is taken: what it clears, then Wait is asked for.
+#[tactic(auto, unfolding(crate::specs::Writes::applied, visibility_steps::specs::Steps::start_of, protector_state::specs::Reply::flat_of, protector_state::specs::Reply::asked_of))]
 pub fn begin(
     private: &mut [u8],
     shared: &mut [u8],
@@ -247,10 +226,7 @@ pub fn begin(
 {
     let writes = visibility_steps::clears(protector_state::is_tracked(state), vtl, share, count);
     apply(private, shared, read, write, kernel, user, pages, writes);
-    protector_state::save(
-        state,
-        Phase::Wait,
-        visibility_steps::asked(vtl, share, count, stop, stopped),
-    );
+    let request = visibility_steps::asked(vtl, share, count, stop, stopped);
+    protector_state::save(state, Phase::Wait, request);
     protector_state::plain(operation::WAIT)
 }

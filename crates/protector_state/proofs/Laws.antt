@@ -3,7 +3,7 @@ use native.Mathlib.Omega.{arith}
 use native.Mathlib.Decide.{dec_lt}
 use mathlib.Core.Path.{◌≡◌, sym, ap, ap₂, ◌∙◌}
 use mathlib.Core.List.{List, ◌∷◌, ◌++◌}
-use Prim.Native.Nat.{ℕ, suc, ◌+◌, ◌-◌, ◌*◌, ◌≤◌, ◌<◌, min}
+use Prim.Native.Nat.{ℕ, suc, ◌+◌, ◌-◌, ◌*◌, ◌<◌, min}
 use lib.ListN.{length, get_or, drop, take, set, replicate, length-drop}
 use lib.Seq.{take_all, take-length}
 use Rattle.words.proofs.Laws.{filled_next}
@@ -16,8 +16,6 @@ use Rattle.permissions.specs.Flags.{flags_of}
 use Rattle.permissions.specs.Defaults.{with_default}
 use Rattle.permissions.proofs.Laws.{bits_flags}
 use Rattle.protector_state.specs.State.{default_word, ram_of, built_state}
-
--- ---- the request's words
 
 -- ---- the word of a default that is set
 
@@ -53,9 +51,8 @@ module _ (ram : List ℕ) (iso tracked release i : ℕ) where
       ap (λ (m : ℕ). set (filled_to ram iso tracked release i) m (get_or ram i 0)) d
       ∙ ap (λ (l : List ℕ). 0 ∷ 0 ∷ 0 ∷ 0 ∷ 0 ∷ 0 ∷ 0 ∷ 0 ∷ 0 ∷ 0 ∷ 0 ∷ 0 ∷ 0 ∷ 0 ∷ 0 ∷ 0 ∷ iso ∷ tracked ∷ release ∷ 0 ∷ 15 ∷ 16 ∷ 0 ∷ 0 ∷ 0 ∷ 0 ∷ 0 ∷ 0 ∷ 0 ∷ 0 ∷ 0 ∷ length (entries_of ram) ∷ l) (filled_next 96 ram i h k)
 
-  pub filled_all : length ram ≤ i → i ≤ length ram → filled_to ram iso tracked release i ≡ built_state ram iso tracked release
-  filled_all h k =
-      let d : i ≡ length ram = omega arith in
-      ap (filled_to ram iso tracked release) d ∙ ap (λ (l : List ℕ). 0 ∷ 0 ∷ 0 ∷ 0 ∷ 0 ∷ 0 ∷ 0 ∷ 0 ∷ 0 ∷ 0 ∷ 0 ∷ 0 ∷ 0 ∷ 0 ∷ 0 ∷ 0 ∷ iso ∷ tracked ∷ release ∷ 0 ∷ 15 ∷ 16 ∷ 0 ∷ 0 ∷ 0 ∷ 0 ∷ 0 ∷ 0 ∷ 0 ∷ 0 ∷ 0 ∷ length (entries_of ram) ∷ (l ++ replicate (96 - length ram) 0)) (take-length ram)
+pub filled_all : (ram : List ℕ) (iso tracked release : ℕ) → filled_to ram iso tracked release (length ram) ≡ built_state ram iso tracked release
+filled_all ram iso tracked release =
+    ap (λ (l : List ℕ). 0 ∷ 0 ∷ 0 ∷ 0 ∷ 0 ∷ 0 ∷ 0 ∷ 0 ∷ 0 ∷ 0 ∷ 0 ∷ 0 ∷ 0 ∷ 0 ∷ 0 ∷ 0 ∷ iso ∷ tracked ∷ release ∷ 0 ∷ 15 ∷ 16 ∷ 0 ∷ 0 ∷ 0 ∷ 0 ∷ 0 ∷ 0 ∷ 0 ∷ 0 ∷ 0 ∷ length (entries_of ram) ∷ (l ++ replicate (96 - length ram) 0)) (take-length ram)
 
 -- ---- what crosses at the end of a visibility change

@@ -433,7 +433,6 @@ pub fn build_state(state: &mut [u64], ram: &[u64], isolation: u64, tracked: u64,
     requires { (length state.old ≡ state_len) × (length ram.now ≤ ram_len) }
     ensures { state.new ≡ built_state ram.now isolation tracked release }
 {
-    let n = layout::entry_count(ram);
     let first = DefaultVtlPermissions::new();
     words::clear(state);
     state[place::ISOLATION] = isolation;
@@ -441,8 +440,8 @@ pub fn build_state(state: &mut [u64], ram: &[u64], isolation: u64, tracked: u64,
     state[place::RELEASE] = release;
     state[place::DEFAULT0] = default_word(first, GuestVtl::Vtl0);
     state[place::DEFAULT1] = default_word(first, GuestVtl::Vtl1);
-    state[place::ENTRIES] = n;
-    // Kept, not `copy_from_slice`: of the words behind the layout its proof wants three more laws, the loop none.
+    state[place::ENTRIES] = layout::entry_count(ram);
+    // Kept: copy_from_slice calls memmove, and the C library is to need memset alone (docs/ABI.md).
     for i in 0..ram.len() {
         state[place::RAM + i] = ram[i];
     }

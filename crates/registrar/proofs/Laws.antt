@@ -1,7 +1,6 @@
 -- Laws of the entries, one for each way that the code goes. Assumes nothing.
-use borrow.Rule.Slice.PartMut.{put_mid}
-use Rattle.std.proofs.lemmas.List.{drop-replicate}
-use Rattle.std.proofs.Common.{◌≡◌, ℕ, ◌+◌, ◌-◌, ◌*◌, ◌%◌, ◌^◌, ◌<◌, ◌≤◌, min, Bool, true, false, cond, not, eqb, ltb, List, ◌∷◌, ◌++◌, length, get_or, drop, set, replicate, sym, refl, ap, ◌∙◌, ap₂, arith, get_or-drop, eq-eqb, eqb-true, le-leb}
+use lib.Seq.{take-length}
+use Rattle.std.proofs.Common.{◌≡◌, ℕ, suc, ◌+◌, ◌-◌, ◌*◌, ◌%◌, ◌^◌, ◌<◌, ◌≤◌, min, Bool, true, false, cond, not, eqb, ltb, List, ◌∷◌, ◌++◌, length, get_or, take, drop, set, replicate, sym, refl, ap, ◌∙◌, ap₂, arith, get_or-drop, eq-eqb, eqb-true, le-leb}
 use borrow.Author.Tests.{lt-leb}
 use Rattle.abi.specs.Kinds as kind
 use Rattle.abi.specs.Refusals as refusal
@@ -9,7 +8,8 @@ use Rattle.abi.specs.RegistrarPlaces as place
 use Rattle.abi.specs.Lengths.{ram_len, registrar_len, word_bits}
 use Rattle.laws.specs.Bools.{false≢true}
 use Rattle.laws.specs.Ranges.{between, between_false}
-use Rattle.laws.specs.Refusal.{unless, passed, answered}
+use Rattle.laws.specs.Refusal.{unless, passed}
+use Rattle.words.proofs.Laws.{filled_next}
 use Rattle.bitmap.specs.Pages.{bit_at}
 use Rattle.bitmap.proofs.Map.{none}
 use Rattle.layout.specs.declared.MemoryRange.{MemoryRange}
@@ -17,7 +17,7 @@ use Rattle.layout.specs.Layout.{range, entries_of}
 use Rattle.layout.proofs.Laws.{fit, entries_count}
 use Rattle.chunks.specs.Chunks.{chunk_count, first_chunk, end_chunk, empty, first_not}
 use Rattle.registrar_steps.specs.declared.Request.{Request}
-use Rattle.registrar_steps.specs.declared.Answer.TheVariants.{Done, RegistrationFailed, Refused}
+use Rattle.registrar_steps.specs.declared.Answer.TheVariants.{Done, RegistrationFailed}
 use Rattle.registrar_steps.specs.declared.Plan.{Plan}
 use Rattle.registrar_steps.specs.declared.Why.{Why}
 use Rattle.registrar_steps.specs.declared.Why.TheVariants as why
@@ -25,66 +25,77 @@ use Rattle.registrar_steps.specs.declared.Stop.{Stop}
 use Rattle.registrar_steps.specs.Steps.{idle, asked_of, asks, ends, ram_from, passes, piece_of, register_from, has_ram, stop_at, plan_at, stop_plan}
 use Rattle.registrar_steps.proofs.Laws.{register_stopped, ram_plan}
 use Rattle.registrar_state.specs.declared.Reply.{Reply}
-use Rattle.registrar_state.specs.Buffers.{Buffers, buffers, Outcome, outcome, request_of, with_request, offset_of, granularity_of, entries_in, chunk_state_in, built_state, simple, flat_of, decided, build_refusal, call_refusal, chunks_fit, register_refusal, all_refusal, marked, carried_out, register_plan, is_known, rest_of, has_rest, taken_to, done_plan, after_taken}
+use Rattle.registrar_state.specs.Buffers.{Buffers, buffers, Outcome, outcome, request_of, with_request, offset_of, granularity_of, entries_in, chunk_state_in, built_state, simple, flat_of, build_refusal, call_refusal, chunks_fit, register_refusal, all_refusal, register_of, marked, carried_out, is_known, rest_of, has_rest, taken_to, done_plan, after_taken}
 use Rattle.registrar_state.proofs.Laws.{build_fits_lem, known_kept}
 
--- ---- a call refused, and one carried out
+-- ---- the state block of a call that is not refused has its length
 
-module _ (w : Buffers) (n x : ℕ) (e : n ≡ x) where
-  pub call_answered : (taken : Outcome) (o : Outcome) → n ≡ 0 → o ≡ taken → o ≡ decided w x taken
-  call_answered taken o h q = answered n x e taken o (λ k. record { buffers = w; reply = flat_of (Refused k) }) h q
+call_long : (w : Buffers) (rest : ℕ) → call_refusal w rest ≡ 0 → length w.state ≡ registrar_len
+call_long w rest z = eqb-true _ _ (passed (eqb (length w.state) registrar_len) 3 _ z).0
 
--- the chunks that a request touches, found once
-module _ (w : Buffers) (address len g f e : ℕ) (hg : g ≡ granularity_of w.state) (hf : f ≡ first_chunk g address) (he : e ≡ end_chunk g address len) where
+pub register_long : (w : Buffers) (address len : ℕ) → register_refusal w address len ≡ 0 → length w.state ≡ registrar_len
+unfolding register_refusal
+register_long w address len z = call_long w _ z
+
+pub all_long : (w : Buffers) (al ignore : ℕ) → all_refusal w al ignore ≡ 0 → length w.state ≡ registrar_len
+unfolding all_refusal
+all_long w al ignore z = call_long w _ z
+
+-- ---- a `register` that is not refused, by the chunks that it touches, found once
+
+module _ (w : Buffers) (address len g f e : ℕ) (hg : g ≡ granularity_of w.state) (hf : f ≡ first_chunk g address) (he : e ≡ end_chunk g address len)
+    (z : 0 ≡ call_refusal w (unless (chunks_fit w.state f e) refusal.unfit_chunk 0)) where
   first_is : f ≡ first_chunk (granularity_of w.state) address
   first_is = hf ∙ ap (λ (k : ℕ). first_chunk k address) hg
 
   end_is : e ≡ end_chunk (granularity_of w.state) address len
   end_is = he ∙ ap (λ (k : ℕ). end_chunk k address len) hg
 
-  pub touched_refusal : (n : ℕ) → n ≡ call_refusal w (unless (chunks_fit w.state f e) refusal.unfit_chunk 0) → n ≡ register_refusal w address len
+  unrefused : register_refusal w address len ≡ 0
   unfolding register_refusal
-  touched_refusal n q = q ∙ ap₂ (λ (f e : ℕ). call_refusal w (unless (chunks_fit w.state f e) refusal.unfit_chunk 0)) first_is end_is
+  unrefused = sym (z ∙ ap₂ (λ (f e : ℕ). call_refusal w (unless (chunks_fit w.state f e) refusal.unfit_chunk 0)) first_is end_is)
 
-  pub touched_known : (t : Bool) → t ≡ is_known w.state w.registered f e → t ≡ true
-      → is_known w.state w.registered (first_chunk (granularity_of w.state) address) (end_chunk (granularity_of w.state) address len) ≡ true
-  touched_known t q h = sym (ap₂ (is_known w.state w.registered) first_is end_is) ∙ sym q ∙ h
+  pub touched_long : length w.state ≡ registrar_len
+  touched_long = register_long w address len unrefused
 
-  pub touched_plan : register_from (chunk_state_in w) (offset_of w.state) 0 f e ≡ register_plan w address len
-  touched_plan = ap₂ (register_from (chunk_state_in w) (offset_of w.state) 0) first_is end_is
+  -- what follows is carried out
+  pub touched_goes : (o : Outcome) → o ≡ carried_out w (register_from (chunk_state_in w) (offset_of w.state) 0 f e) → o ≡ register_of w address len
+  unfolding register_of
+  touched_goes o q = rw unrefused (q ∙ ap (carried_out w) (ap₂ (register_from (chunk_state_in w) (offset_of w.state) 0) first_is end_is))
 
--- a request that finds its chunks registered
-pub call_known : (w : Buffers) (n address len : ℕ) (r : Reply) → n ≡ register_refusal w address len → n ≡ 0 → length w.state ≡ registrar_len
-    → is_known w.state w.registered (first_chunk (granularity_of w.state) address) (end_chunk (granularity_of w.state) address len) ≡ true → r ≡ flat_of (Done 0)
-    → outcome w.state w.registered w.failed r ≡ decided w (register_refusal w address len) (carried_out w (register_plan w address len))
-call_known w n address len r e z h k hr =
-    call_answered w n (register_refusal w address len) e _ _ z (ap (outcome w.state w.registered w.failed) hr ∙ known_kept w address len h k)
-
--- ---- the state block of a call that is not refused has its length
-
-module _ (w : Buffers) (n : ℕ) (z : n ≡ 0) where
-  pub register_long : (address len : ℕ) → n ≡ register_refusal w address len → length w.state ≡ registrar_len
-  unfolding register_refusal
-  register_long address len e = eqb-true _ _ (passed (eqb (length w.state) registrar_len) 3 _ (sym e ∙ z)).0
-
-  pub all_long : (al ignore : ℕ) → n ≡ all_refusal w al ignore → length w.state ≡ registrar_len
-  unfolding all_refusal
-  all_long al ignore e = eqb-true _ _ (passed (eqb (length w.state) registrar_len) 3 _ (sym e ∙ z)).0
+  -- or nothing, where its chunks are registered
+  pub touched_known : (r : Reply) → is_known w.state w.registered f e ≡ true → r ≡ flat_of (Done 0) → outcome w.state w.registered w.failed r ≡ register_of w address len
+  unfolding register_of
+  touched_known r k q =
+      rw unrefused (ap (outcome w.state w.registered w.failed) q ∙ known_kept w address len touched_long (sym (ap₂ (is_known w.state w.registered) first_is end_is) ∙ k))
 
 -- ---- a build
 
 -- a layout that is taken has 96 words at most, and the state block its length
-pub build_lengths : (w : Buffers) (ram : List ℕ) (o g n : ℕ) → n ≡ 0 → n ≡ build_refusal w ram o g → (length w.state ≡ registrar_len) × (length ram ≤ ram_len)
-build_lengths w ram o g n z e =
-    let t = build_fits_lem w ram o g (sym e ∙ z) in
+pub build_lengths : (w : Buffers) (ram : List ℕ) (o g : ℕ) → build_refusal w ram o g ≡ 0 → (length w.state ≡ registrar_len) × (length ram ≤ ram_len)
+build_lengths w ram o g z =
+    let t = build_fits_lem w ram o g z in
     let k = fit ram t.layout in
     (t.block, omega (arith, k.divided, k.few, entries_count ram))
 
-pub built : (s ram : List ℕ) (o g n : ℕ) → length s ≡ registrar_len → n ≡ length (entries_of ram)
-    → put_mid place.ram (place.ram + length ram - place.ram) (set (set (set (replicate (length s) 0) place.offset o) place.granularity g) place.entries n) ram ≡ built_state ram o g
-built s ram o g n h e =
-    let k : place.ram + length ram - place.ram ≡ length ram = omega arith in
-    rw (h, e, k) (ap (λ (l : List ℕ). 0 ∷ 0 ∷ 0 ∷ 0 ∷ 0 ∷ 0 ∷ 0 ∷ 0 ∷ 0 ∷ o ∷ g ∷ length (entries_of ram) ∷ (ram ++ l)) (drop-replicate (length ram) ram_len 0))
+-- the block while it is filled
+abbrev pub filled_to : List ℕ → ℕ → ℕ → ℕ → List ℕ
+filled_to ram o g i =
+    0 ∷ 0 ∷ 0 ∷ 0 ∷ 0 ∷ 0 ∷ 0 ∷ 0 ∷ 0 ∷ o ∷ g ∷ length (entries_of ram) ∷ (take i ram ++ replicate (ram_len - i) 0)
+
+pub filled_none : (s ram : List ℕ) (o g n : ℕ) → length s ≡ registrar_len → n ≡ length (entries_of ram) → set (set (set (replicate (length s) 0) place.offset o) place.granularity g) place.entries n ≡ filled_to ram o g 0
+filled_none s ram o g n h e =
+    ap₂ (λ (k m : ℕ). set (set (set (replicate k 0) place.offset o) place.granularity g) place.entries m) h e
+
+pub filled_more : (ram : List ℕ) (o g i : ℕ) → i < length ram → i < ram_len → set (filled_to ram o g i) (place.ram + i) (get_or ram i 0) ≡ filled_to ram o g (i + 1)
+filled_more ram o g i h k =
+    let d : place.ram + i ≡ suc (suc (suc (suc (suc (suc (suc (suc (suc (suc (suc (suc i))))))))))) = omega arith in
+    ap (λ (m : ℕ). set (filled_to ram o g i) m (get_or ram i 0)) d
+    ∙ ap (λ (l : List ℕ). 0 ∷ 0 ∷ 0 ∷ 0 ∷ 0 ∷ 0 ∷ 0 ∷ 0 ∷ 0 ∷ o ∷ g ∷ length (entries_of ram) ∷ l) (filled_next ram_len ram i h k)
+
+pub filled_all : (ram : List ℕ) (o g : ℕ) → filled_to ram o g (length ram) ≡ built_state ram o g
+filled_all ram o g =
+    ap (λ (l : List ℕ). 0 ∷ 0 ∷ 0 ∷ 0 ∷ 0 ∷ 0 ∷ 0 ∷ 0 ∷ 0 ∷ o ∷ g ∷ length (entries_of ram) ∷ (l ++ replicate (ram_len - length ram) 0)) (take-length ram)
 
 -- ---- a plan carried out
 

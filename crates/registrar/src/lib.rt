@@ -39,12 +39,15 @@ fn build_state(state: &mut [u64], ram: &[u64], offset: u64, granularity: u64)
     state[place::OFFSET] = offset;
     state[place::GRANULARITY] = granularity;
     state[place::ENTRIES] = layout::entry_count(ram);
-    state[place::RAM..place::RAM + ram.len()].copy_from_slice(ram);
+    // Kept: copy_from_slice calls memmove, and the C library is to need memset alone (docs/ABI.md).
+    for i in 0..ram.len() {
+        state[place::RAM + i] = ram[i];
+    }
 }
 
 // A registrar of a layout, with no chunk registered and none failed, whatever the runs held. Nothing is asked for, and a
 // refusal changes nothing.
-#[tactic(auto, unfolding(registrar_state::specs::Buffers::build_of, registrar_state::specs::Buffers::build_refusal))]
+#[tactic(auto, using(abi::proofs::Numbers::number_not_zero), unfolding(registrar_state::specs::Buffers::build_of, registrar_state::specs::Buffers::build_refusal))]
 pub fn registrar_build(
     ram: &[u64],
     offset: u64,
@@ -55,7 +58,7 @@ pub fn registrar_build(
 ) -> Reply
     ensures { outcome state.new registered.new failed.new result ≡ build_of (buffers state.old registered.old failed.old) ram.now offset granularity }
 {
-    let number = registrar_state::build_refusal(
+    let tested = registrar_state::build_refusal(
         ram,
         offset,
         granularity,
@@ -63,8 +66,8 @@ pub fn registrar_build(
         registered,
         failed,
     );
-    if number != 0 {
-        return registrar_state::refused(number);
+    if let Err(refusal) = tested {
+        return registrar_state::refused(refusal.number());
     }
     build_state(state, ram, offset, granularity);
     words::clear(registered);
@@ -122,7 +125,7 @@ fn answer(state: &[u64], total: u64, count: u64, until: u64, chunk: u64) -> Repl
 
 // The chunks that a range touches: asks for a Register of each span of RAM in those not registered, one at a time. 4, 9 and 19
 // change nothing; 23 is for a chunk that failed before, and those passed on the way to it are registered.
-#[tactic(auto, unfolding(registrar_state::specs::Buffers::register_of, registrar_state::specs::Buffers::register_refusal))]
+#[tactic(auto, using(abi::proofs::Numbers::number_not_zero), unfolding(registrar_state::specs::Buffers::register_of, registrar_state::specs::Buffers::register_refusal))]
 pub fn registrar_register(
     state: &mut [u64],
     registered: &mut [u64],
@@ -136,9 +139,9 @@ pub fn registrar_register(
     let first = chunks::first_chunk(granularity, address);
     let end = chunks::end_chunk(granularity, address, len);
     let total = registrar_state::chunk_count(state);
-    let number = registrar_state::register_refusal(state, registered, failed, total, first, end);
-    if number != 0 {
-        return registrar_state::refused(number);
+    let tested = registrar_state::register_refusal(state, registered, failed, total, first, end);
+    if let Err(refusal) = tested {
+        return registrar_state::refused(refusal.number());
     }
     if registrar_state::is_known(state, registered, first, end) {
         return registrar_state::done(0);
@@ -170,7 +173,7 @@ fn register_all_from(
 
 // The aligned part of each span: asks for a Register of each stretch not registered, one at a time. 4, 8, 9 and 19 change
 // nothing; 22, at an unaligned span, and 23, at a chunk that failed before, leave what is registered until then.
-#[tactic(auto, unfolding(registrar_state::specs::Buffers::all_of, registrar_state::specs::Buffers::all_refusal))]
+#[tactic(auto, using(abi::proofs::Numbers::number_not_zero), unfolding(registrar_state::specs::Buffers::all_of, registrar_state::specs::Buffers::all_refusal))]
 pub fn registrar_register_all_aligned(
     state: &mut [u64],
     registered: &mut [u64],
@@ -182,9 +185,9 @@ pub fn registrar_register_all_aligned(
 {
     let ignore = ignore_unaligned_ranges;
     let total = registrar_state::chunk_count(state);
-    let number = registrar_state::all_refusal(state, registered, failed, total, alignment, ignore);
-    if number != 0 {
-        return registrar_state::refused(number);
+    let tested = registrar_state::all_refusal(state, registered, failed, total, alignment, ignore);
+    if let Err(refusal) = tested {
+        return registrar_state::refused(refusal.number());
     }
     register_all_from(state, registered, failed, 0, alignment, ignore, 0)
 }
@@ -240,14 +243,13 @@ fn register_all_done(state: &mut [u64], registered: &mut [u64], failed: &[u64]) 
 
 // The Register asked for is done: its chunks are registered unless RAM of theirs is left, and the next Register is asked for or
 // the call ends. 4 and 21 change nothing.
-#[tactic(auto, unfolding(registrar_state::specs::Buffers::done_of, registrar_state::specs::Buffers::answer_refusal))]
+#[tactic(auto, using(abi::proofs::Numbers::number_not_zero), unfolding(registrar_state::specs::Buffers::done_of, registrar_state::specs::Buffers::answer_refusal))]
 pub fn registrar_answer_done(state: &mut [u64], registered: &mut [u64], failed: &mut [u64]) -> Reply
     ensures { outcome state.new registered.new failed.new result ≡ done_of (buffers state.old registered.old failed.old) }
 {
     let total = registrar_state::chunk_count(state);
-    let number = registrar_state::answer_refusal(state, registered, failed, total);
-    if number != 0 {
-        return registrar_state::refused(number);
+    if let Err(refusal) = registrar_state::answer_refusal(state, registered, failed, total) {
+        return registrar_state::refused(refusal.number());
     }
     if state[place::KIND] == kind::REGISTER {
         return register_done(state, registered, failed, total);
@@ -256,7 +258,7 @@ pub fn registrar_answer_done(state: &mut [u64], registered: &mut [u64], failed: 
 }
 
 // The Register asked for failed: its chunks are marked as failed, and the call ends with 23. 4 and 21 change nothing.
-#[tactic(auto, unfolding(registrar_state::specs::Buffers::failed_of, registrar_state::specs::Buffers::answer_refusal))]
+#[tactic(auto, using(abi::proofs::Numbers::number_not_zero), unfolding(registrar_state::specs::Buffers::failed_of, registrar_state::specs::Buffers::answer_refusal))]
 pub fn registrar_answer_failed(
     state: &mut [u64],
     registered: &mut [u64],
@@ -265,9 +267,8 @@ pub fn registrar_answer_failed(
     ensures { outcome state.new registered.new failed.new result ≡ failed_of (buffers state.old registered.old failed.old) }
 {
     let total = registrar_state::chunk_count(state);
-    let number = registrar_state::answer_refusal(state, registered, failed, total);
-    if number != 0 {
-        return registrar_state::refused(number);
+    if let Err(refusal) = registrar_state::answer_refusal(state, registered, failed, total) {
+        return registrar_state::refused(refusal.number());
     }
     let request = registrar_state::load(state);
     chunks::set_chunks(failed, request.from, request.to);

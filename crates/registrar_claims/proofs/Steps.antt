@@ -318,7 +318,7 @@ register_at tail f r q address len bs z ord wr =
 pub register_is_whole : (w : Buffers) (address len : ℕ) (bs : List Bool) → register_refusal w address len ≡ 0 → ordered 0 (entries_in w.state) ≡ true
     → Words w.registered → Match 0 (follow (register_of w address len) bs) (whole_register w address len bs)
 register_is_whole w address len bs z ord h =
-    let l : length w.state ≡ registrar_len = register_long w (register_refusal w address len) z address len refl in
+    let l : length w.state ≡ registrar_len = register_long w address len z in
     let e : w.state ≡ request_words (request_of w.state) ++ drop place.after_request w.state = split_state w.state (omega arith) in
     go w.state e z ord
   where

@@ -420,7 +420,7 @@ all_at tail f r q al ig bs z ord =
 pub all_is_whole : (w : Buffers) (al ig : ℕ) (bs : List Bool) → all_refusal w al ig ≡ 0 → ordered 0 (entries_in w.state) ≡ true
     → Match 0 (follow (all_of w al ig) bs) (whole_all w al ig bs)
 all_is_whole w al ig bs z ord =
-    let l : length w.state ≡ registrar_len = all_long w (all_refusal w al ig) z al ig refl in
+    let l : length w.state ≡ registrar_len = all_long w al ig z in
     go w.state (split_state w.state (omega arith)) z ord
   where
     go : (s : List ℕ) → s ≡ request_words (request_of s) ++ drop place.after_request s → all_refusal (buffers s w.registered w.failed) al ig ≡ 0 → ordered 0 (entries_in s) ≡ true

@@ -3,6 +3,7 @@
 
 ghost use Rattle.std.specs.Prelude.{◌≡◌, ◌*◌, ◌<◌, ◌^◌, min, ◌||◌, ◌&&◌, eqb, leb, length};
 ghost use Rattle.abi.specs.Refusals as refusal;
+ghost use Rattle.abi.specs.Refusals.{refused_by};
 ghost use Rattle.abi.specs.Lengths.{registrar_len, word_bits};
 ghost use Rattle.layout.specs.Layout.{range, spans};
 ghost use Rattle.registrar_steps.specs.declared.Answer.TheVariants.{Done, Register, RegistrationFailed, Refused};
@@ -11,9 +12,9 @@ ghost use Rattle.registrar_state.specs.Buffers.{buffers, simple, flat_unaligned,
 ghost use Rattle.registrar_steps.specs.Steps.{stop_at, all_from};
 ghost use Rattle.laws.specs.Refusal.{unless};
 
+use abi::refusal::{self, Refusal};
 use abi::{
-    FULL_WORD, PAGE_SIZE, RAM_ENTRY_WORDS, REGISTRAR_WORDS, kind, limit, refusal,
-    registrar_place as place,
+    FULL_WORD, PAGE_SIZE, RAM_ENTRY_WORDS, REGISTRAR_WORDS, kind, limit, registrar_place as place,
 };
 use layout::MemoryRange;
 use registrar_steps::{Answer, Plan, Request, Stop, Unaligned};
@@ -191,20 +192,25 @@ pub fn chunk_count(state: &[u64]) -> u64
 }
 
 // What refuses both requests alike: 4 of the state block, 19, 4 of the bitmaps.
-fn call_refusal(state: &[u64], registered: &[u64], failed: &[u64], total: u64) -> u64
+fn call_refusal(
+    state: &[u64],
+    registered: &[u64],
+    failed: &[u64],
+    total: u64,
+) -> Result<(), Refusal>
     requires { total ≡ count_in state.now }
-    ensures { result ≡ call_refusal (buffers state.now registered.now failed.now) 0 }
+    ensures { refused_by result ≡ call_refusal (buffers state.now registered.now failed.now) 0 }
 {
     if state.len() != REGISTRAR_WORDS {
-        return refusal::WRONG_LENGTH;
+        return Err(Refusal::WrongLength);
     }
     if state[place::KIND] != kind::NONE {
-        return refusal::BUSY;
+        return Err(Refusal::Busy);
     }
     if !lengths_fit(total, registered, failed) {
-        return refusal::WRONG_LENGTH;
+        return Err(Refusal::WrongLength);
     }
-    0
+    Ok(())
 }
 
 // Whether none of the chunks from `first` to before `end` is past the last.
@@ -222,6 +228,7 @@ pub fn granularity(state: &[u64]) -> u64
 }
 
 // What refuses a `register` that touches the chunks from `first` to before `end`.
+#[tactic(auto, using(abi::proofs::Numbers::number_not_zero))]
 pub fn register_refusal(
     state: &[u64],
     registered: &[u64],
@@ -229,19 +236,15 @@ pub fn register_refusal(
     total: u64,
     first: u64,
     end: u64,
-) -> u64
+) -> Result<(), Refusal>
     requires { total ≡ count_in state.now }
-    ensures { result ≡ call_refusal (buffers state.now registered.now failed.now) (unless (chunks_fit state.now first end) refusal.unfit_chunk 0) }
+    ensures { refused_by result ≡ call_refusal (buffers state.now registered.now failed.now) (unless (chunks_fit state.now first end) refusal.unfit_chunk 0) }
 {
-    let number = call_refusal(state, registered, failed, total);
-    if number != 0 {
-        return number;
+    call_refusal(state, registered, failed, total)?;
+    if !chunks_fit(total, first, end) {
+        return Err(Refusal::UnfitChunk);
     }
-    if chunks_fit(total, first, end) {
-        0
-    } else {
-        refusal::UNFIT_CHUNK
-    }
+    Ok(())
 }
 
 // Whether a number is a power of two from `least` on.
@@ -252,7 +255,7 @@ fn is_power_from(least: u64, n: u64) -> bool
 }
 
 // What refuses a `register_all_aligned`.
-#[tactic(auto, unfolding(crate::specs::Buffers::all_refusal))]
+#[tactic(auto, using(abi::proofs::Numbers::number_not_zero), unfolding(crate::specs::Buffers::all_refusal))]
 pub fn all_refusal(
     state: &[u64],
     registered: &[u64],
@@ -260,44 +263,42 @@ pub fn all_refusal(
     total: u64,
     alignment: u64,
     ignore: u64,
-) -> u64
+) -> Result<(), Refusal>
     requires { total ≡ count_in state.now }
-    ensures { result ≡ all_refusal (buffers state.now registered.now failed.now) alignment ignore }
+    ensures { refused_by result ≡ all_refusal (buffers state.now registered.now failed.now) alignment ignore }
 {
-    let number = call_refusal(state, registered, failed, total);
-    if number != 0 {
-        return number;
-    }
+    call_refusal(state, registered, failed, total)?;
     if 1 < ignore {
-        return refusal::UNFIT_NUMBER;
+        return Err(Refusal::UnfitNumber);
     }
-    if is_power_from(state[place::GRANULARITY], alignment) {
-        0
-    } else {
-        refusal::UNFIT_CHUNK
+    if !is_power_from(state[place::GRANULARITY], alignment) {
+        return Err(Refusal::UnfitChunk);
     }
+    Ok(())
 }
 
 // What refuses an answer, done or failed.
 #[tactic(auto, unfolding(crate::specs::Buffers::answer_refusal))]
-pub fn answer_refusal(state: &[u64], registered: &[u64], failed: &[u64], total: u64) -> u64
+pub fn answer_refusal(
+    state: &[u64],
+    registered: &[u64],
+    failed: &[u64],
+    total: u64,
+) -> Result<(), Refusal>
     requires { total ≡ count_in state.now }
-    ensures { result ≡ answer_refusal (buffers state.now registered.now failed.now) }
+    ensures { refused_by result ≡ answer_refusal (buffers state.now registered.now failed.now) }
 {
-    if state.len() != REGISTRAR_WORDS {
-        return refusal::WRONG_LENGTH;
-    }
-    if !lengths_fit(total, registered, failed) {
-        return refusal::WRONG_LENGTH;
+    if state.len() != REGISTRAR_WORDS || !lengths_fit(total, registered, failed) {
+        return Err(Refusal::WrongLength);
     }
     if state[place::KIND] == kind::NONE {
-        return refusal::NOTHING_ASKED;
+        return Err(Refusal::NothingAsked);
     }
-    0
+    Ok(())
 }
 
 // What refuses a build: the bitmaps' 4 comes last, since their length hangs on the granularity.
-#[tactic(auto, unfolding(crate::specs::Buffers::build_refusal))]
+#[tactic(auto, using(abi::proofs::Numbers::number_not_zero), unfolding(crate::specs::Buffers::build_refusal))]
 pub fn build_refusal(
     ram: &[u64],
     offset: u64,
@@ -305,33 +306,29 @@ pub fn build_refusal(
     state: &[u64],
     registered: &[u64],
     failed: &[u64],
-) -> u64
-    ensures { result ≡ build_refusal (buffers state.now registered.now failed.now) ram.now offset granularity }
+) -> Result<(), Refusal>
+    ensures { refused_by result ≡ build_refusal (buffers state.now registered.now failed.now) ram.now offset granularity }
 {
     let unfit = layout::refusal(ram);
-    if unfit == refusal::UNFIT_LAYOUT {
-        return refusal::UNFIT_LAYOUT;
+    if unfit == Err(Refusal::UnfitLayout)
+        || offset % PAGE_SIZE != 0
+        || FULL_WORD - offset < layout::last_end(ram)
+    {
+        return Err(Refusal::UnfitLayout);
     }
-    if offset % PAGE_SIZE != 0 {
-        return refusal::UNFIT_LAYOUT;
-    }
-    if FULL_WORD - offset < layout::last_end(ram) {
-        return refusal::UNFIT_LAYOUT;
-    }
-    if unfit != 0 {
-        return refusal::BAD_ALIGNMENT;
+    if unfit.is_err() {
+        return Err(Refusal::BadAlignment);
     }
     if state.len() != REGISTRAR_WORDS {
-        return refusal::WRONG_LENGTH;
+        return Err(Refusal::WrongLength);
     }
     if !is_power_from(PAGE_SIZE, granularity) {
-        return refusal::UNFIT_CHUNK;
+        return Err(Refusal::UnfitChunk);
     }
-    if lengths_fit(chunks::chunk_count(ram, granularity), registered, failed) {
-        0
-    } else {
-        refusal::WRONG_LENGTH
+    if !lengths_fit(chunks::chunk_count(ram, granularity), registered, failed) {
+        return Err(Refusal::WrongLength);
     }
+    Ok(())
 }
 
 // Whether a request finds its chunks registered, and the state as a finished call leaves it.

@@ -6,9 +6,3 @@ pub returns-then-is_nothing : goal.returns-then-is_nothing
 returns-then-is_nothing c =
     let a = c.args in
     laws.nothing_applied a.pages.now a.writes (maps a.private.now a.shared.now a.read.now a.write.now a.kernel.now a.user.now) _ c.is_nothing.ensures c.if-is_nothing.true
-
-pub returns : goal.returns
-returns c =
-    let a = c.args in
-    laws.applies a.pages.now a.writes (maps a.private.now a.shared.now a.read.now a.write.now a.kernel.now a.user.now) c.set_marks.new.map
-    c.set_marks-2.new.map _ c.set_marks.ensures c.set_marks-2.ensures c.update_permissions.ensures

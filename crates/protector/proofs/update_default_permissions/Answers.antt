@@ -21,18 +21,3 @@ returns-then-count-at c =
     let a = c.args in
     laws.permit_past (settings_of a.state.now) a.phase a.pages.now a.count a.at (perms a.read.now a.write.now a.kernel.now a.user.now)
     (sym c.is_default0.ensures ∙ c.if-not-is_default0.false) (sym c.is_tracked.ensures ∙ c.if-not-is_tracked.false) c.if-count-at.true
-
-pub update_permissions_at-requires : goal.update_permissions_at-requires
-update_permissions_at-requires c = (
-  c.if-count-at.false,
-  c.requires.1,
-  laws.default_run_lem (settings_of c.args.state.now) c.args.phase c.args.pages.now c.args.count c.args.at
-      (perms c.args.read.now c.args.write.now c.args.kernel.now c.args.user.now) (sym c.is_default0.ensures ∙ c.if-not-is_default0.false) _ c.requires.2,
-)
-
-pub returns : goal.returns
-returns c =
-    let a = c.args in
-    laws.permit_run (settings_of a.state.now) a.phase a.pages.now a.count a.at (perms a.read.now a.write.now a.kernel.now a.user.now)
-    (sym c.is_default0.ensures ∙ c.if-not-is_default0.false) (sym c.is_tracked.ensures ∙ c.if-not-is_tracked.false) c.default_vtl0-flags.result _
-    c.default_vtl0-flags.ensures c.update_permissions_at.ensures
