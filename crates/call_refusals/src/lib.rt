@@ -1,7 +1,9 @@
 // What refuses a call of the protector: the lengths of what is lent, what is under way, the pages of a list; what refuses an answer and a build.
 #![tactic(auto)]
 
-ghost use Rattle.std.specs.Prelude.{◌≡◌, true, [], length};
+ghost use Rattle.std.specs.Prelude.{◌≡◌, ◌+◌, ◌*◌, true, [], length};
+ghost use Rattle.abi.specs.Lengths.{overlays_len, locks_len, locks_start};
+ghost use Rattle.permissions.specs.Flags.{vtl_number};
 ghost use Rattle.mapping.specs.Maps.{maps};
 ghost use Rattle.abi.specs.Refusals.{refused_by};
 ghost use Rattle.layout.specs.Layout.{entries_of, map_len};
@@ -109,25 +111,40 @@ pub fn lent_refusal(state: &[u64], lengths: Lengths) -> Result<(), Refusal>
     Ok(())
 }
 
+// Where the overlays of a VTL begin in the tables, and its locked lists.
+pub fn overlays_start(vtl: GuestVtl) -> usize
+    ensures { result ≡ overlays_len * vtl_number vtl }
+{
+    match vtl {
+        GuestVtl::Vtl0 => table::OVERLAYS0,
+        GuestVtl::Vtl1 => table::OVERLAYS1,
+    }
+}
+
+pub fn locks_start(vtl: GuestVtl) -> usize
+    ensures { result ≡ locks_start + locks_len * vtl_number vtl }
+{
+    match vtl {
+        GuestVtl::Vtl0 => table::LOCKS0,
+        GuestVtl::Vtl1 => table::LOCKS1,
+    }
+}
+
 // The tables of one VTL.
 pub fn overlays_of(tables: &[u64], vtl: GuestVtl) -> &[u64]
     requires { length tables.now ≡ tables_len }
     ensures { result.now ≡ overlays_of tables.now vtl }
 {
-    match vtl {
-        GuestVtl::Vtl0 => &tables[table::OVERLAYS0..table::OVERLAYS1],
-        GuestVtl::Vtl1 => &tables[table::OVERLAYS1..table::LOCKS0],
-    }
+    let start = overlays_start(vtl);
+    &tables[start..start + table::OVERLAYS_WORDS]
 }
 
 pub fn locks_of(tables: &[u64], vtl: GuestVtl) -> &[u64]
     requires { length tables.now ≡ tables_len }
     ensures { result.now ≡ locks_of tables.now vtl }
 {
-    match vtl {
-        GuestVtl::Vtl0 => &tables[table::LOCKS0..table::LOCKS1],
-        GuestVtl::Vtl1 => &tables[table::LOCKS1..table::END],
-    }
+    let start = locks_start(vtl);
+    &tables[start..start + table::LOCKS_WORDS]
 }
 
 fn is_locked(overlays: &[u64], locks: &[u64], gpn: u64) -> bool

@@ -1,9 +1,10 @@
-use mathlib.Core.Path.{sym, ap}
-use Rattle.call_refusals.specs.Buffers.{locks_of}
+use native.Mathlib.Omega.{arith}
+use mathlib.Core.Path.{◌≡◌, refl}
+use Prim.Native.Nat.{◌+◌, ◌-◌}
 use Rattle.call_refusals.proofs.locks_of.Goals as goal
 
-pub returns-in-Vtl0 : goal.returns-in-Vtl0
-returns-in-Vtl0 c = ap (locks_of c.args.tables.now) (sym c.in-Vtl0.is)
-
-pub returns-in-Vtl1 : goal.returns-in-Vtl1
-returns-in-Vtl1 c = ap (locks_of c.args.tables.now) (sym c.in-Vtl1.is)
+pub returns : goal.returns
+returns c =
+    let start = c.locks_start-start in
+    let len : start.result + 1089 - start.result ≡ 1089 = omega arith in
+    rw (len, start.ensures) refl
