@@ -6,7 +6,7 @@ use mathlib.Core.List.{List, ◌++◌}
 use Prim.Native.Nat.{ℕ, ◌+◌, ◌<◌, ◌^◌}
 use lib.ListN.{take, drop}
 use lib.Seq.{drop-drop}
-use borrow.Author.Tests.{eq-eqb, ne_eqb}
+use borrow.Author.Tests.{eq-eqb}
 use borrow.Rule.Slice.PartMut.{mid_of, post_of, put_mid}
 use Rattle.bitmap.proofs.Steps.{run_none}
 use Rattle.permissions.specs.declared.GuestVtl.{GuestVtl}
@@ -57,11 +57,6 @@ module _ (t n : List ℕ) (f : List ℕ → List ℕ) (v : GuestVtl) where
       ∙ sym (ap (λ (x : GuestVtl). with_overlays t x (f (overlays_of t x))) h)
 
 module _ (o : List ℕ) (p place : ℕ) (e : place ≡ place_of o p) where
-  pub removed : (n : List ℕ) → (place ≡ 0 → ⊥) → n ≡ remove_words o place → n ≡ without_page o p
-  removed n h q =
-      q ∙ ap (remove_words o) e
-      ∙ sym (ap (λ (b : Bool). cond (not b) (remove_words o (place_of o p)) o) (ne_eqb (place_of o p) 0 (λ z. h (e ∙ z))))
-
   pub kept : place ≡ 0 → o ≡ without_page o p
   kept h = sym (ap (λ (b : Bool). cond (not b) (remove_words o (place_of o p)) o) (eq-eqb (place_of o p) 0 (sym e ∙ h)))
 

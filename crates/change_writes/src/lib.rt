@@ -59,8 +59,7 @@ fn add_in(overlays: &mut [u64], change: Change)
 fn remove_in(overlays: &mut [u64], gpn: u64)
     ensures { overlays.new ≡ without_page overlays.old gpn }
 {
-    let place = overlay_table::find_entry(overlays, gpn);
-    if place != 0 {
+    if let Some(place) = overlay_table::find_entry(overlays, gpn) {
         overlay_table::remove(overlays, place);
     }
 }
@@ -153,17 +152,9 @@ fn piece_after(stage: Stage, private: &[u8], overlays: &[u64], ram: &[u64], at: 
     ensures value { result ≡ piece_after stage private.now overlays.now (entries_of ram.now) at }
     ensures count_bound { result.first + result.count < 2 ^ 64 }
 {
-    let none = PageRun { first: 0, count: 0 };
     match stage {
-        Stage::Idle => none,
-        Stage::Halted => none,
-        Stage::ProtectPages => none,
         Stage::ProtectRam => default_change::next_piece(private, overlays, ram, at),
-        Stage::ProtectNew => none,
-        Stage::ProtectOld => none,
-        Stage::Wait => none,
-        Stage::Flush => none,
-        Stage::TlbWait => none,
+        _ => PageRun { first: 0, count: 0 },
     }
 }
 
@@ -207,18 +198,10 @@ fn after_failed(state: &[u64]) -> ChangeStep
 fn flush_reply(stage: Stage, change: Change) -> Reply
     ensures { result ≡ flush_reply stage change }
 {
-    let vtl = change.vtl;
-    let flush = change.flush;
     match stage {
-        Stage::Idle => protector_state::finished(0, 0, 0, change.count),
-        Stage::Halted => protector_state::finished(0, 0, 0, change.count),
-        Stage::ProtectPages => protector_state::finished(0, 0, 0, change.count),
-        Stage::ProtectRam => protector_state::finished(0, 0, 0, change.count),
-        Stage::ProtectNew => protector_state::finished(0, 0, 0, change.count),
-        Stage::ProtectOld => protector_state::finished(0, 0, 0, change.count),
-        Stage::Wait => protector_state::finished(0, 0, 0, change.count),
-        Stage::Flush => protector_state::on_vtl(operation::FLUSH, flush),
-        Stage::TlbWait => protector_state::on_vtl(operation::TLB_WAIT, vtl),
+        Stage::Flush => protector_state::on_vtl(operation::FLUSH, change.flush),
+        Stage::TlbWait => protector_state::on_vtl(operation::TLB_WAIT, change.vtl),
+        _ => protector_state::finished(0, 0, 0, change.count),
     }
 }
 

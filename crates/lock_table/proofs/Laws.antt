@@ -1,21 +1,21 @@
--- Laws of the loops over lists and pages, how they end and go on, and of what lock and unlock return. Assumes nothing.
+-- Laws of the loops over lists and pages, how they end and go on, and of what unlock returns. Assumes nothing.
 use mathlib.Core.Bool.{Bool, true, false, cond, not, ◌&&◌, ◌||◌}
 use mathlib.Core.List.{List, [], ◌∷◌}
 use mathlib.Core.Path.{◌≡◌, refl, sym, ap, ap₂, ◌∙◌}
 use Prim.Native.Nat.{ℕ, zero, suc, ◌+◌, ◌-◌, ◌≤◌, ◌<◌, min, max}
 use native.Mathlib.Numerals.{add-one}
 use native.Mathlib.Omega.{arith}
-use lib.Dec.{eqb, ltb, leb}
+use lib.Dec.{eqb, leb}
 use lib.ListN.{length, get_or, set, take, drop, length-take, length-drop, drop_of_length-le}
-use lib.Seq.{drop-cons, get_or-take, sets}
-use borrow.Author.Tests.{eq-eqb, ne_eqb, le-leb, lt-leb, leb-true, not-true, not-false}
-use Rattle.laws.specs.Bools.{and_false, and_right}
+use lib.Seq.{drop-cons, get_or-take}
+use borrow.Author.Tests.{eq-eqb, ne_eqb, le-leb, lt-leb, not-true, not-false}
+use Rattle.laws.specs.Bools.{and_false}
 use Rattle.words.specs.Words.{closed_to, swapped}
 use Rattle.words.proofs.Laws.{swapped_none}
 use Rattle.page_list.specs.Runs.{part}
 use Rattle.page_list.specs.Pages.{among}
 use Rattle.page_list.proofs.Laws as pages
-use Rattle.lock_table.specs.Locks.{same, kept, used, end_of, list_at, lists_from, lists_of, has_room, lock_code, lock_words, equal_from, moved, without, unlock_code, unlock_words}
+use Rattle.lock_table.specs.Locks.{same, kept, used, end_of, list_at, lists_from, lists_of, equal_from, moved, without, unlock_code, unlock_words}
 
 -- ---- a page among words
 module _ (t : List ℕ) (i n p q : ℕ) (h : i < n) (g : i < length t) (e : q ≡ get_or t i 0) where
@@ -36,29 +36,14 @@ among_end t i n p h = pages.among_end (take n t) i (omega (arith, length-take n 
 
 -- ---- how many pages the first lists have
 
-pub end_none : (t : List ℕ) (k : ℕ) → k ≡ 0 → 0 ≡ end_of t k
-end_none t zero h = refl
-end_none t (suc k) h = absurd (omega arith)
-
 pub end_some : (t : List ℕ) (k : ℕ) → 0 < k → end_of t k ≡ min 1024 (get_or t k 0)
 end_some t zero h = absurd (omega arith)
 end_some t (suc k) h = refl
-
-pub room_sum : (b : Bool) (c sum n : ℕ) → b ≡ (ltb c 64 && leb (sum + n) 1024) → b ≡ true → sum + n ≤ 1024
-room_sum b c sum n e h = leb-true (sum + n) 1024 (and_right (ltb c 64) (leb (sum + n) 1024) (sym e ∙ h))
 
 -- ---- pages written
 
 rest : (l : List ℕ) (i : ℕ) → i < length l → drop i l ≡ get_or l i 0 ∷ drop (i + 1) l
 rest l i h = drop-cons l i 0 h ∙ ap (λ (n : ℕ). get_or l i 0 ∷ drop n l) (sym (add-one i))
-
-pub sets_more : (t : List ℕ) (o i p : ℕ) (l t' : List ℕ) → i < length l → p ≡ get_or l i 0 → t' ≡ set t (o + i) p → sets t' (o + (i + 1)) (drop (i + 1) l) ≡ sets t (o + i) (drop i l)
-sets_more t o i p l t' h e f =
-    let b : o + (i + 1) ≡ suc (o + i) = omega arith in
-    ap₂ (λ (r : List ℕ) (n : ℕ). sets r n (drop (i + 1) l)) (f ∙ ap (set t (o + i)) e) b ∙ ap (λ (r : List ℕ). sets t (o + i) r) (sym (rest l i h))
-
-pub sets_end : (t : List ℕ) (o i : ℕ) (l : List ℕ) → length l ≤ i → sets t (o + i) (drop i l) ≡ t
-sets_end t o i l h = ap (λ (r : List ℕ). sets t (o + i) r) (drop_of_length-le l h)
 
 -- ---- lists compared
 
@@ -139,9 +124,6 @@ module _ (t : List ℕ) (end last to : ℕ) where
   abbrev brought : List ℕ
   brought = swapped t end (max end last - end) (to - max end last)
 
-  pub last_brought : end < last → (m : ℕ) (t' : List ℕ) → m ≡ to - last → t' ≡ swapped t end (last - end) m → t' ≡ brought
-  last_brought h m t' e f = let d : last ≡ max end last = omega arith in f ∙ ap (swapped t end (last - end)) e ∙ ap (λ (k : ℕ). swapped t end (k - end) (to - k)) d
-
   pub last_there : last ≤ end → t ≡ brought
   last_there h = let d : max end last - end ≡ 0 = omega arith in sym (ap (λ (k : ℕ). swapped t end k (to - max end last)) d ∙ swapped_none t end (to - max end last))
 
@@ -156,23 +138,6 @@ move_more t to k b d e s t' h f g x =
 pub move_end : (t : List ℕ) (to k b d : ℕ) → to ≤ k → moved t (to - k) k b d ≡ t
 unfolding moved
 move_end t to k b d h = let n : to - k ≡ 0 = omega arith in ap (λ (i : ℕ). moved t i k b d) n
-
--- ---- lock and unlock, by what the code read and wrote
-module _ (t l : List ℕ) (n c end : ℕ) (b : Bool) (long : n ≡ length l) (e : c ≡ used t) (f : end ≡ end_of t c) (g : b ≡ (ltb c 64 && leb (end + n) 1024)) where
-  ended : end ≡ end_of t (used t)
-  ended = f ∙ ap (end_of t) e
-
-  seen : b ≡ has_room t (length l)
-  seen = g ∙ ap (λ (k : ℕ). ltb c 64 && leb (end + k) 1024) long ∙ ap₂ (λ (x y : ℕ). ltb x 64 && leb (y + length l) 1024) e ended
-
-  pub lock_full : b ≡ false → (17 ≡ lock_code t l) × (t ≡ lock_words t l)
-  lock_full h = let r = sym seen ∙ h in (rw r refl, rw r refl)
-
-  pub lock_made : b ≡ true → (t1 t2 t3 : List ℕ) → t1 ≡ sets t (65 + end) l → t2 ≡ set t1 (c + 1) (end + n) → t3 ≡ set t2 0 (c + 1)
-      → (0 ≡ lock_code t l) × (t3 ≡ lock_words t l)
-  lock_made h t1 t2 t3 x y z =
-      let r = sym seen ∙ h in
-      (rw r refl, rw r (z ∙ rw (y, x, ended, e, long) refl))
 
 pub list_removed : (t : List ℕ) (c i start end last to gap size : ℕ) → start ≡ end_of t i → end ≡ end_of t (i + 1) → last ≡ end_of t (c - 1) → to ≡ end_of t c → gap ≡ end - start → size ≡ to - last
     → (t1 t2 t3 t4 t5 : List ℕ) → t1 ≡ swapped t (65 + end) (max (65 + end) (65 + last) - (65 + end)) (65 + to - max (65 + end) (65 + last)) → t2 ≡ closed_to t1 (65 + start) gap (65 + to)

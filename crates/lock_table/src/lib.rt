@@ -4,12 +4,14 @@
 ghost use Rattle.std.specs.Prelude.{◌≡◌, ◌&&◌, ◌+◌, ◌-◌, ◌≤◌, ◌<◌, min, max, ltb, leb, get_or, MatchOption};
 ghost use Rattle.std.proofs.lemmas.List.Edits.{sets};
 ghost use Rattle.abi.specs.Limits as limit;
+ghost use Rattle.abi.specs.Refusals.{refused_by};
 ghost use Rattle.words.specs.Words.{swapped};
 ghost use Rattle.page_list.specs.Pages.{among, pages_of};
 ghost use Rattle.page_list.specs.Runs.{part};
 ghost use Rattle.lock_table.specs.Locks.{same, used, end_of, pages_end, held_in, lock_code, lock_words, equal_from, moved, without, unlock_code, unlock_words};
 
-use abi::{limit, refusal};
+use abi::limit;
+use abi::refusal::Refusal;
 
 // The place of the first page, behind the number of lists and their 64 ends.
 pub const FIRST_PAGE: u64 = 65;
@@ -79,20 +81,20 @@ fn put_pages(table: &mut [u64], place: u64, list: &[u8])
     }
 }
 
-// A list is kept: 0, or 17 where there is no room.
-pub fn lock(table: &mut [u64], list: &[u8]) -> u64
-    ensures { (result ≡ lock_code table.old (pages_of list.now)) × (table.new ≡ lock_words table.old (pages_of list.now)) }
+// A list is kept where there is room.
+pub fn lock(table: &mut [u64], list: &[u8]) -> Result<(), Refusal>
+    ensures { (refused_by result ≡ lock_code table.old (pages_of list.now)) × (table.new ≡ lock_words table.old (pages_of list.now)) }
 {
     let n = page_list::page_count(list);
     let c = list_count(table);
     let end = end_of(table, c);
     if !has_room(c, end, n) {
-        return refusal::FULL;
+        return Err(Refusal::Full);
     }
     put_pages(table, FIRST_PAGE + end, list);
     words::put(table, c + 1, end + n);
     words::put(table, 0, c + 1);
-    0
+    Ok(())
 }
 
 // Whether the pages at the places from `from` to before `to` are those of a list.
@@ -174,14 +176,14 @@ fn remove_list(table: &mut [u64], c: u64, i: u64)
     words::put(table, 0, c - 1);
 }
 
-// The first list with the same pages goes, and the last takes its place: 0, or 18 where there is none.
-pub fn unlock(table: &mut [u64], list: &[u8]) -> u64
-    ensures { (result ≡ unlock_code table.old (pages_of list.now)) × (table.new ≡ unlock_words table.old (pages_of list.now)) }
+// The first list with the same pages goes, and the last takes its place.
+pub fn unlock(table: &mut [u64], list: &[u8]) -> Result<(), Refusal>
+    ensures { (refused_by result ≡ unlock_code table.old (pages_of list.now)) × (table.new ≡ unlock_words table.old (pages_of list.now)) }
 {
     let c = list_count(table);
     let Some(i) = find(table, c, list) else {
-        return refusal::NOT_LOCKED;
+        return Err(Refusal::NotLocked);
     };
     remove_list(table, c, i);
-    0
+    Ok(())
 }

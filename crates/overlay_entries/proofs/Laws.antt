@@ -7,12 +7,11 @@ use Prim.Native.Nat.{ℕ, ◌+◌, ◌-◌, ◌≤◌, ◌<◌, ◌^◌}
 use lib.Dec.{eqb, ltb}
 use lib.ListN.{length}
 use borrow.Author.Tests.{eq-eqb, ne_eqb, eqb-true, ltb-true, lt-ltb, le-ltb}
-use Rattle.laws.specs.Bools.{digit, chose, chose_not}
-use Rattle.laws.specs.Refusal.{passed, refused, answered}
+use Rattle.laws.specs.Bools.{chose, chose_not}
+use Rattle.laws.specs.Refusal.{passed}
 use Rattle.permissions.specs.declared.GuestVtl.{GuestVtl}
 use Rattle.permissions.specs.declared.HvMapGpaFlags.{HvMapGpaFlags}
 use Rattle.permissions.specs.Flags.{vtl_of, flags_of, bits_of, bool_of}
-use Rattle.permissions.specs.HvError.{code_of}
 use Rattle.mapping.specs.Maps.{Permissions, Maps}
 use Rattle.page_list.specs.Runs.{run}
 use Rattle.overlay_table.specs.declared.OverlayPage.{OverlayPage}
@@ -30,27 +29,15 @@ use Rattle.protector_state.specs.Changing.{with_change}
 use Rattle.call_refusals.specs.Buffers.{Buffers, outcome, tables_len, overlays_of, locks_of}
 use Rattle.protector.specs.Writes.{with_overlays, permitted_run, entered}
 use Rattle.protector.specs.Calls.{carried_change}
-use Rattle.protector_state.specs.declared.Value.{Value}
-use Rattle.protector_state.specs.Reply.{value}
 use Rattle.overlay_refusals.specs.Refusals.{call_refusal, unregister_refusal, within, needed_of, known_refusal, guest_refusal, dma_refusal, page_refusal, register_refusal}
 use Rattle.overlay_refusals.proofs.Laws.{call_passed, call_fits, flags_passed}
-use Rattle.overlay_entries.specs.Calls.{entry_in, recounted, counting, is_overlay_in, unregister_taken, current_in, register_taken}
+use Rattle.overlay_entries.specs.Calls.{entry_in, recounted, counting, unregister_taken, current_in, register_taken}
 
 -- ---- is_overlay_page
 
 module _ (s t : List ℕ) (vtl p n : ℕ) (e : n ≡ call_refusal s (eqb (length t) tables_len) vtl 0) where
-  pub query_refused : (code : ℕ) (r : Value) → (n ≡ 0 → ⊥) → code ≡ code_of n → r ≡ value n code → r ≡ is_overlay_in s t vtl p
-  unfolding is_overlay_in
-  query_refused code r h q f = f ∙ ap (value n) q ∙ refused n _ e (value 0 (digit (is_overlay (overlays_of t (vtl_of vtl)) p))) (λ k. value k (code_of k)) h
-
   pub query_tables : n ≡ 0 → length t ≡ tables_len
   query_tables z = eqb-true (length t) tables_len (call_fits s (eqb (length t) tables_len) vtl n e z)
-
-  pub query_taken_lem : (v : GuestVtl) (o : List ℕ) (place d : ℕ) (r : Value) → n ≡ 0 → v ≡ vtl_of vtl → o ≡ overlays_of t v → place ≡ place_of o p → d ≡ digit (not (eqb place 0)) → r ≡ value 0 d → r ≡ is_overlay_in s t vtl p
-  unfolding is_overlay_in
-  query_taken_lem v o place d r z e1 e2 e3 e4 e5 =
-      answered n _ e (value 0 (digit (is_overlay (overlays_of t (vtl_of vtl)) p))) r (λ k. value k (code_of k)) z
-      (e5 ∙ ap (value 0) (e4 ∙ ap (λ (k : ℕ). digit (not (eqb k 0))) (e3 ∙ ap (λ (x : List ℕ). place_of x p) (e2 ∙ ap (overlays_of t) e1))))
 
 -- ---- a step carried out
 

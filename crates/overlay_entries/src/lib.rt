@@ -43,20 +43,21 @@ fn set_ref_count(tables: &mut [u64], vtl: GuestVtl, place: u64, count: u64)
 }
 
 // Whether a VTL has an overlay entry of a page, 1 or 0. Nothing is written, and no operation is asked for.
+#[tactic(auto, using(abi::proofs::Numbers::number_not_zero, crate::proofs::Laws::query_tables), unfolding(crate::specs::Calls::is_overlay_in))]
 pub fn protector_is_overlay_page(state: &[u64], tables: &[u64], vtl: u64, gpn: u64) -> Value
     ensures { result ≡ is_overlay_in state.now tables.now vtl gpn }
 {
-    let n = overlay_refusals::table_refusal(state, tables.len() as u64, vtl);
-    if n != 0 {
-        return protector_state::refused_value(n);
+    if let Err(refusal) = overlay_refusals::table_refusal(state, tables.len() as u64, vtl) {
+        return protector_state::refused_value(refusal.number());
     }
     let v = permissions::vtl_of(vtl);
     let place = overlay_table::find_entry(call_refusals::overlays_of(tables, v), gpn);
-    protector_state::ok_value(permissions::bool_to_u64(place != 0))
+    protector_state::ok_value(permissions::bool_to_u64(place.is_some()))
 }
 
 // An overlay page has one registration fewer. The last one asks for a Protect with the flags that the page had, then for Wait,
 // Flush and TlbWait; the entry goes as the Protect is done. A refusal changes nothing.
+#[tactic(auto, using(abi::proofs::Numbers::number_not_zero, crate::proofs::Laws::unregister_state), unfolding(crate::specs::Calls::unregister_of))]
 pub fn protector_unregister_overlay_page(
     private: &[u8],
     shared: &[u8],
@@ -85,14 +86,14 @@ pub fn protector_unregister_overlay_page(
         pages: pages.len() as u64,
         tables: tables.len() as u64,
     };
-    let looked = overlay_refusals::look_unregister(state, lengths, tables, vtl, gpn);
-    if looked.refusal != 0 {
-        return protector_state::refused(looked.refusal);
-    }
+    let place = match overlay_refusals::look_unregister(state, lengths, tables, vtl, gpn) {
+        Ok(place) => place,
+        Err(refusal) => return protector_state::refused(refusal.number()),
+    };
     let v = permissions::vtl_of(vtl);
-    let e = entry_of(tables, v, looked.place);
+    let e = entry_of(tables, v, place);
     if 1 < e.ref_count {
-        set_ref_count(tables, v, looked.place, e.ref_count - 1);
+        set_ref_count(tables, v, place, e.ref_count - 1);
         return protector_state::finished(0, 0, 0, 0);
     }
     let set = protector_state::settings(state);
@@ -103,6 +104,7 @@ pub fn protector_unregister_overlay_page(
 
 // An overlay page has one registration more. The first one asks for a Protect if new flags are given, then for Wait, Flush and
 // TlbWait; the entry comes as Wait is asked for. A refusal changes nothing.
+#[tactic(auto, using(abi::proofs::Numbers::number_not_zero, crate::proofs::Laws::register_state), unfolding(crate::specs::Calls::register_of))]
 pub fn protector_register_overlay_page(
     private: &[u8],
     shared: &[u8],
@@ -136,15 +138,15 @@ pub fn protector_register_overlay_page(
         pages: pages.len() as u64,
         tables: tables.len() as u64,
     };
-    let looked = overlay_refusals::look_register(
+    let known = match overlay_refusals::look_register(
         state, lengths, shared, tables, current, vtl, gpn, source, checked, new,
-    );
-    if looked.refusal != 0 {
-        return protector_state::refused(looked.refusal);
-    }
-    if looked.place != 0 {
-        let e = entry_of(tables, v, looked.place);
-        set_ref_count(tables, v, looked.place, e.ref_count + 1);
+    ) {
+        Ok(known) => known,
+        Err(refusal) => return protector_state::refused(refusal.number()),
+    };
+    if let Some(place) = known {
+        let e = entry_of(tables, v, place);
+        set_ref_count(tables, v, place, e.ref_count + 1);
         return protector_state::finished(0, 0, 0, 0);
     }
     let set = protector_state::settings(state);

@@ -14,15 +14,10 @@ use Rattle.permissions.specs.Flags.{fit_vtl, vtl_of, fit_flags, flags_of, no_fla
 use Rattle.mapping.specs.Maps.{Permissions}
 use Rattle.access.specs.Query.{lower_flags}
 use Rattle.overlay_table.specs.declared.OverlayPage.{OverlayPage}
-use Rattle.overlay_refusals.specs.declared.Looked.{Looked}
 use Rattle.overlay_table.specs.Overlays.{is_overlay, place_of, entry_at, add_code}
 use Rattle.protector_state.specs.State.{settings_of, entries_in}
 use Rattle.call_refusals.specs.Buffers.{overlays_of, locks_of, is_locked}
 use Rattle.call_refusals.specs.Refusals.{ready}
-
--- what the tests of a call find: a refusal, and a place
-abbrev pub looked : ℕ → ℕ → Looked
-looked n o = record { refusal = n; place = o }
 
 -- ---- what all of them test first: 4 of the state, 20, 19, 4 of what else is lent, 8 of the VTL
 

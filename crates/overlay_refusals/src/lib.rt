@@ -1,131 +1,98 @@
 // The tests of the calls on overlay pages, and the flags that a page has.
 #![tactic(auto)]
 
-ghost use Rattle.std.specs.Prelude.{◌≡◌, eqb, length};
+ghost use Rattle.std.specs.Prelude.{◌≡◌, eqb, length, IfOk};
+ghost use Rattle.abi.specs.Refusals.{refused_by};
 ghost use Rattle.layout.specs.Layout.{entries_of};
 ghost use Rattle.mapping.specs.Maps.{perms};
 ghost use Rattle.permissions.specs.Flags.{vtl_of};
-ghost use Rattle.overlay_table.specs.Overlays.{place_of, add_code};
+ghost use Rattle.overlay_table.specs.Overlays.{IsPlace, place_of, add_code};
 ghost use Rattle.protector_state.specs.State.{state_len, entries_in};
 ghost use Rattle.call_refusals.specs.Buffers.{tables_len, overlays_of, locks_of, fits_in};
-ghost use Rattle.overlay_refusals.specs.Refusals.{looked, call_refusal, unregister_refusal, flags_refusal, holds, within, needed_of, known_refusal, guest_refusal, dma_refusal, page_refusal, register_refusal, current_of};
+ghost use Rattle.overlay_refusals.specs.Refusals.{call_refusal, unregister_refusal, flags_refusal, holds, within, needed_of, known_refusal, guest_refusal, dma_refusal, page_refusal, register_refusal, current_of};
 
-use abi::{NO_FLAGS, TABLES_WORDS, limit, place, refusal};
+use abi::refusal::Refusal;
+use abi::{NO_FLAGS, TABLES_WORDS, limit, place};
 use call_refusals::Lengths;
 use overlay_table::OverlayPage;
 use permissions::{GuestVtl, HvMapGpaFlags};
 
-// What the tests of a call find: the number that refuses it, 0 where none does; then where the page's entry stands, 0 where it has none.
-#[derive(Clone, Copy)]
-pub struct Looked {
-    pub refusal: u64,
-    pub place: u64,
-}
-
-fn refused(n: u64) -> Looked
-    ensures { result ≡ looked n 0 }
+// What refuses a call that is lent the tables alone.
+#[tactic(auto, using(abi::proofs::Numbers::number_not_zero, call_refusals::proofs::Laws::is_ready), unfolding(crate::specs::Refusals::call_refusal, call_refusals::specs::Refusals::ready))]
+pub fn table_refusal(state: &[u64], tables: u64, vtl: u64) -> Result<(), Refusal>
+    ensures { refused_by result ≡ call_refusal state.now (eqb tables tables_len) vtl 0 }
 {
-    Looked {
-        refusal: n,
-        place: 0,
-    }
-}
-
-// The number that refuses a call that is lent the tables alone: 0 where none does.
-pub fn table_refusal(state: &[u64], tables: u64, vtl: u64) -> u64
-    ensures { result ≡ call_refusal state.now (eqb tables tables_len) vtl 0 }
-{
-    let n = call_refusals::state_refusal(state);
-    if n != 0 {
-        return n;
-    }
+    call_refusals::state_refusal(state)?;
     if tables != TABLES_WORDS {
-        return refusal::WRONG_LENGTH;
+        return Err(Refusal::WrongLength);
     }
-    if permissions::is_vtl(vtl) {
-        0
-    } else {
-        refusal::UNFIT_NUMBER
+    if !permissions::is_vtl(vtl) {
+        return Err(Refusal::UnfitNumber);
     }
+    Ok(())
 }
 
-// The number that refuses a call that is lent all: 0 where none does.
-fn call_refusal(state: &[u64], lengths: Lengths, vtl: u64) -> u64
-    ensures { result ≡ call_refusal state.now (fits_in state.now lengths) vtl 0 }
+// What refuses a call that is lent all.
+#[tactic(auto, using(abi::proofs::Numbers::number_not_zero, call_refusals::proofs::Laws::is_ready), unfolding(crate::specs::Refusals::call_refusal, call_refusals::specs::Refusals::ready))]
+fn call_refusal(state: &[u64], lengths: Lengths, vtl: u64) -> Result<(), Refusal>
+    ensures { refused_by result ≡ call_refusal state.now (fits_in state.now lengths) vtl 0 }
 {
-    let n = call_refusals::lent_refusal(state, lengths);
-    if n != 0 {
-        return n;
+    call_refusals::lent_refusal(state, lengths)?;
+    if !permissions::is_vtl(vtl) {
+        return Err(Refusal::UnfitNumber);
     }
-    if permissions::is_vtl(vtl) {
-        0
-    } else {
-        refusal::UNFIT_NUMBER
-    }
+    Ok(())
 }
 
-// The tests of an unregister.
+// The tests of an unregister: where the page's entry stands.
+#[tactic(auto, using(call_refusals::proofs::Laws::is_ready), unfolding(crate::specs::Refusals::call_refusal, call_refusals::specs::Refusals::ready))]
 pub fn look_unregister(
     state: &[u64],
     lengths: Lengths,
     tables: &[u64],
     vtl: u64,
     gpn: u64,
-) -> Looked
+) -> Result<u64, Refusal>
     requires { lengths.tables ≡ length tables.now }
-    ensures refusal_value { result.refusal ≡ unregister_refusal state.now (fits_in state.now lengths) tables.now vtl gpn }
-    ensures place_value { result.refusal ≡ 0 → result.place ≡ place_of (overlays_of tables.now (vtl_of vtl)) gpn }
+    ensures refusal_value { refused_by result ≡ unregister_refusal state.now (fits_in state.now lengths) tables.now vtl gpn }
+    ensures place_value { IfOk result (λ place. place ≡ place_of (overlays_of tables.now (vtl_of vtl)) gpn) }
 {
-    let n = call_refusal(state, lengths, vtl);
-    if n != 0 {
-        return refused(n);
-    }
+    call_refusal(state, lengths, vtl)?;
     let v = permissions::vtl_of(vtl);
-    let place = overlay_table::find_entry(call_refusals::overlays_of(tables, v), gpn);
-    if place == 0 {
-        return refused(refusal::NO_OVERLAY);
-    }
-    Looked {
-        refusal: 0,
-        place: place,
-    }
+    let overlays = call_refusals::overlays_of(tables, v);
+    overlay_table::find_entry(overlays, gpn).ok_or(Refusal::NoOverlay)
 }
 
-fn flags_refusal(source: u64, checked: u64, new: u64) -> u64
-    ensures { result ≡ flags_refusal source checked new 0 }
+fn flags_refusal(source: u64, checked: u64, new: u64) -> Result<(), Refusal>
+    ensures { refused_by result ≡ flags_refusal source checked new 0 }
 {
     if 1 < source {
-        return refusal::UNFIT_NUMBER;
+        return Err(Refusal::UnfitNumber);
     }
     if !permissions::is_flags(checked) {
-        return refusal::UNFIT_NUMBER;
+        return Err(Refusal::UnfitNumber);
     }
     if NO_FLAGS < new {
-        return refusal::UNFIT_NUMBER;
+        return Err(Refusal::UnfitNumber);
     }
-    0
+    Ok(())
 }
 
 fn holds(own: bool, needed: bool) -> bool
     ensures { result ≡ holds own needed }
 {
-    if needed { own } else { true }
+    own || !needed
 }
 
 // Whether each flag that is needed is among a page's own.
+#[tactic(auto, unfolding(crate::specs::Refusals::within))]
 fn is_within(own: HvMapGpaFlags, needed: HvMapGpaFlags) -> bool
     ensures { result ≡ within own needed }
 {
-    if !holds(own.readable, needed.readable) {
-        return false;
-    }
-    if !holds(own.writable, needed.writable) {
-        return false;
-    }
-    if !holds(own.kernel_executable, needed.kernel_executable) {
-        return false;
-    }
-    holds(own.user_executable, needed.user_executable)
+    holds(own.readable, needed.readable)
+        && holds(own.writable, needed.writable)
+        && holds(own.kernel_executable, needed.kernel_executable)
+        && holds(own.user_executable, needed.user_executable)
 }
 
 fn needed_of(checked: u64, new: u64) -> u64
@@ -134,32 +101,32 @@ fn needed_of(checked: u64, new: u64) -> u64
     if new < NO_FLAGS { new } else { checked }
 }
 
-fn known_refusal(e: OverlayPage, checked: u64, new: u64) -> u64
-    ensures { result ≡ known_refusal e checked new }
+#[tactic(auto, unfolding(crate::specs::Refusals::known_refusal))]
+fn known_refusal(e: OverlayPage, checked: u64, new: u64) -> Result<(), Refusal>
+    ensures { refused_by result ≡ known_refusal e checked new }
 {
     let own = HvMapGpaFlags::from_bits(e.overlay_permissions);
     let needed = HvMapGpaFlags::from_bits(needed_of(checked, new));
     if !is_within(own, needed) {
-        return refusal::NARROW;
+        return Err(Refusal::Narrow);
     }
-    if e.ref_count < limit::REF_COUNT {
-        0
-    } else {
-        refusal::FULL
+    if e.ref_count >= limit::REF_COUNT {
+        return Err(Refusal::Full);
     }
+    Ok(())
 }
 
-// 17 where no entry can be added.
-fn add_code(overlays: &[u64]) -> u64
-    ensures { result ≡ add_code overlays.now }
+// What refuses one entry more.
+fn add_code(overlays: &[u64]) -> Result<(), Refusal>
+    ensures { refused_by result ≡ add_code overlays.now }
 {
-    if overlay_table::entry_count(overlays) < limit::OVERLAYS {
-        0
-    } else {
-        refusal::FULL
+    if overlay_table::entry_count(overlays) >= limit::OVERLAYS {
+        return Err(Refusal::Full);
     }
+    Ok(())
 }
 
+#[tactic(auto, unfolding(crate::specs::Refusals::guest_refusal))]
 fn guest_refusal(
     ram: &[u64],
     shared: &[u8],
@@ -168,38 +135,40 @@ fn guest_refusal(
     gpn: u64,
     current: HvMapGpaFlags,
     checked: u64,
-) -> u64
+) -> Result<(), Refusal>
     requires { place_of overlays.now gpn ≡ 0 }
-    ensures { result ≡ guest_refusal (entries_of ram.now) shared.now overlays.now locks.now gpn current checked }
+    ensures { refused_by result ≡ guest_refusal (entries_of ram.now) shared.now overlays.now locks.now gpn current checked }
 {
     if !layout::is_in_guest_memory(ram, gpn) {
-        return refusal::NOT_RAM;
+        return Err(Refusal::NotRam);
     }
     if !is_within(current, HvMapGpaFlags::from_bits(checked)) {
-        return refusal::NARROW;
+        return Err(Refusal::Narrow);
     }
     if bitmap::page_state(shared, gpn) {
-        return refusal::SHARED;
+        return Err(Refusal::Shared);
     }
     if lock_table::holds(locks, gpn) {
-        return refusal::LOCKED;
+        return Err(Refusal::Locked);
     }
     add_code(overlays)
 }
 
-fn dma_refusal(ram: &[u64], overlays: &[u64], locks: &[u64], gpn: u64) -> u64
+#[tactic(auto, unfolding(crate::specs::Refusals::dma_refusal))]
+fn dma_refusal(ram: &[u64], overlays: &[u64], locks: &[u64], gpn: u64) -> Result<(), Refusal>
     requires { place_of overlays.now gpn ≡ 0 }
-    ensures { result ≡ dma_refusal (entries_of ram.now) overlays.now locks.now gpn }
+    ensures { refused_by result ≡ dma_refusal (entries_of ram.now) overlays.now locks.now gpn }
 {
     if layout::is_in_guest_memory(ram, gpn) {
-        return refusal::NOT_RAM;
+        return Err(Refusal::NotRam);
     }
     if lock_table::holds(locks, gpn) {
-        return refusal::LOCKED;
+        return Err(Refusal::Locked);
     }
     add_code(overlays)
 }
 
+#[tactic(auto, unfolding(crate::specs::Refusals::page_refusal))]
 fn page_refusal(
     ram: &[u64],
     shared: &[u8],
@@ -210,13 +179,13 @@ fn page_refusal(
     current: HvMapGpaFlags,
     checked: u64,
     new: u64,
-    place: u64,
-) -> u64
-    requires { place ≡ place_of overlays.now gpn }
-    ensures { result ≡ page_refusal (entries_of ram.now) shared.now overlays.now locks.now gpn source current checked new }
+    place: Option<u64>,
+) -> Result<(), Refusal>
+    requires { IsPlace overlays.now gpn place }
+    ensures { refused_by result ≡ page_refusal (entries_of ram.now) shared.now overlays.now locks.now gpn source current checked new }
 {
-    if place != 0 {
-        return known_refusal(overlay_table::entry_at(overlays, place), checked, new);
+    if let Some(at) = place {
+        return known_refusal(overlay_table::entry_at(overlays, at), checked, new);
     }
     if source == 1 {
         return dma_refusal(ram, overlays, locks, gpn);
@@ -235,10 +204,10 @@ fn page_refusal_in(
     current: HvMapGpaFlags,
     checked: u64,
     new: u64,
-    place: u64,
-) -> u64
-    requires { (length state.now ≡ state_len) × (length tables.now ≡ tables_len) × (place ≡ place_of (overlays_of tables.now vtl) gpn) }
-    ensures { result ≡ page_refusal (entries_in state.now) shared.now (overlays_of tables.now vtl) (locks_of tables.now vtl) gpn source current checked new }
+    place: Option<u64>,
+) -> Result<(), Refusal>
+    requires { (length state.now ≡ state_len) × (length tables.now ≡ tables_len) × IsPlace (overlays_of tables.now vtl) gpn place }
+    ensures { refused_by result ≡ page_refusal (entries_in state.now) shared.now (overlays_of tables.now vtl) (locks_of tables.now vtl) gpn source current checked new }
 {
     let ram = protector_state::ram_of(state);
     let overlays = call_refusals::overlays_of(tables, vtl);
@@ -248,7 +217,8 @@ fn page_refusal_in(
     )
 }
 
-// The tests of a register. The place is found once, after the tests that don't ask for it.
+// The tests of a register: where the page's entry stands, if it has one. The place is found once, after the tests that don't ask for it.
+#[tactic(auto, using(call_refusals::proofs::Laws::is_ready), unfolding(crate::specs::Refusals::register_refusal, crate::specs::Refusals::call_refusal, call_refusals::specs::Refusals::ready))]
 pub fn look_register(
     state: &[u64],
     lengths: Lengths,
@@ -260,31 +230,23 @@ pub fn look_register(
     source: u64,
     checked: u64,
     new: u64,
-) -> Looked
+) -> Result<Option<u64>, Refusal>
     requires { lengths.tables ≡ length tables.now }
-    ensures refusal_value { result.refusal ≡ register_refusal state.now (fits_in state.now lengths) shared.now tables.now current vtl gpn source checked new }
-    ensures place_value { result.refusal ≡ 0 → result.place ≡ place_of (overlays_of tables.now (vtl_of vtl)) gpn }
+    ensures refusal_value { refused_by result ≡ register_refusal state.now (fits_in state.now lengths) shared.now tables.now current vtl gpn source checked new }
+    ensures place_value { IfOk result (λ place. IsPlace (overlays_of tables.now (vtl_of vtl)) gpn place) }
 {
-    let n = call_refusal(state, lengths, vtl);
-    if n != 0 {
-        return refused(n);
-    }
-    let m = flags_refusal(source, checked, new);
-    if m != 0 {
-        return refused(m);
-    }
+    call_refusal(state, lengths, vtl)?;
+    flags_refusal(source, checked, new)?;
     let v = permissions::vtl_of(vtl);
     let place = overlay_table::find_entry(call_refusals::overlays_of(tables, v), gpn);
-    let k = page_refusal_in(
+    page_refusal_in(
         state, shared, tables, v, gpn, source, current, checked, new, place,
-    );
-    Looked {
-        refusal: k,
-        place: place,
-    }
+    )?;
+    Ok(place)
 }
 
 // The flags that a page has: a Dma page none.
+#[tactic(auto, unfolding(crate::specs::Refusals::current_of))]
 pub fn current_flags(
     read: &[u8],
     write: &[u8],

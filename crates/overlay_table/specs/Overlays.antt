@@ -1,5 +1,5 @@
 -- The overlay entries of one VTL (01, "Overlays and locks"), in a run of 641 words.
-use Rattle.std.specs.Prelude.{Bool, false, cond, not, ◌||◌, List, [], ◌∷◌, ◌++◌, ℕ, zero, suc, ◌+◌, ◌-◌, ◌*◌, min, eqb, ltb, length, get_or, set}
+use Rattle.std.specs.Prelude.{Bool, false, cond, not, ◌||◌, List, [], ◌∷◌, ◌++◌, Option, MatchOption, ℕ, zero, suc, ◌+◌, ◌-◌, ◌*◌, ◌<◌, ◌≡◌, min, eqb, ltb, length, get_or, set}
 use Rattle.std.proofs.lemmas.List.Edits.{sets}
 use Rattle.abi.specs.Limits as limit
 use Rattle.abi.specs.Overlay as overlay
@@ -61,6 +61,10 @@ place_from table (suc k) place gpn = cond (eqb gpn (get_or table place 0)) place
 
 abbrev pub place_of : List ℕ → ℕ → ℕ
 place_of table gpn = place_from table (used table) 1 gpn
+
+-- that place, or none, as a search gives it
+abbrev pub IsPlace : List ℕ → ℕ → Option ℕ → Type 0
+IsPlace table gpn place = MatchOption place (place_of table gpn ≡ 0) (λ at. (at ≡ place_of table gpn) × (0 < at))
 
 abbrev pub is_overlay : List ℕ → ℕ → Bool
 is_overlay table gpn = not (eqb (place_of table gpn) 0)

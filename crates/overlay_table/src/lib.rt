@@ -1,12 +1,14 @@
 // The overlay pages of one VTL in a lent run of words: how many, then five words for each in order of registration.
 #![tactic(auto)]
 
-ghost use Rattle.std.specs.Prelude.{◌≡◌, ◌+◌, ◌*◌, ◌≤◌, ◌<◌, length, take, position};
+ghost use Rattle.std.specs.Prelude.{◌≡◌, ◌+◌, ◌*◌, ◌≤◌, ◌<◌, length, take, position, MatchOption};
+ghost use Rattle.abi.specs.Refusals.{refused_by};
 ghost use Rattle.abi.specs.Overlay as overlay;
 ghost use Rattle.overlay_table.specs.Search.{is_of, find_from, key_in, loaded, place_for};
-ghost use Rattle.overlay_table.specs.Overlays.{used, place_of, is_overlay, entry_at, add_code, add_words, previous_words, count_words, remove_words};
+ghost use Rattle.overlay_table.specs.Overlays.{used, IsPlace, is_overlay, entry_at, add_code, add_words, previous_words, count_words, remove_words};
 
-use abi::{limit, overlay, refusal, table};
+use abi::refusal::Refusal;
+use abi::{limit, overlay, table};
 
 // The words of a table.
 const TABLE_WORDS: usize = table::OVERLAYS1 - table::OVERLAYS0;
@@ -57,17 +59,17 @@ pub fn entry_count(table: &[u64]) -> u64
     numbers::min(limit::OVERLAYS, numbers::word_at(table, 0))
 }
 
-// Where the first entry of a page stands: 0 where there is none.
-fn find(table: &[u64], gpn: u64) -> u64
-    ensures { result ≡ place_of table.now gpn }
+// Where the first entry of a page stands.
+fn find(table: &[u64], gpn: u64) -> Option<u64>
+    ensures { IsPlace table.now gpn result }
 {
     for index in 0..entry_count(table) {
         let place = 1 + overlay::WORDS * index;
         if gpn == numbers::word_at(table, place) {
-            return place;
+            return Some(place);
         }
     }
-    0
+    None
 }
 
 // The key of an entry from a place on: of no page where the entry isn't among the few that are loaded.
@@ -95,35 +97,32 @@ fn load(table: &[u64], place: u64, few: u64) -> [OverlayKey; LOADED as usize]
     [first, second, third, fourth]
 }
 
-// Of a few entries from a place on, at most four, where the first of a key stands: 0 where none does.
-fn find_few(table: &[u64], place: u64, few: u64, key: OverlayKey) -> u64
+// Of a few entries from a place on, at most four, where the first of a key stands.
+fn find_few(table: &[u64], place: u64, few: u64, key: OverlayKey) -> Option<u64>
     requires { (few ≤ 4) × (place + overlay.words * few ≤ length table.now) }
-    ensures { result ≡ place_for table.now few place key }
+    ensures { MatchOption result (place_for table.now few place key ≡ 0) (λ found. (found ≡ place_for table.now few place key) × (place ≤ found)) }
 {
     let entries = load(table, place, few);
-    match find_loaded(entries, few as usize, key) {
-        Some(index) => place + overlay::WORDS * (index as u64),
-        None => 0,
-    }
+    let index = find_loaded(entries, few as usize, key)?;
+    Some(place + overlay::WORDS * (index as u64))
 }
 
 // The same of any number of entries, one after the other.
-fn find_left(table: &[u64], from: u64, count: u64, key: OverlayKey) -> u64
+fn find_left(table: &[u64], from: u64, count: u64, key: OverlayKey) -> Option<u64>
     requires { (0 < from) × (from + overlay.words * count ≤ length table.now) }
-    ensures { result ≡ place_for table.now count from key }
+    ensures { MatchOption result (place_for table.now count from key ≡ 0) (λ found. (found ≡ place_for table.now count from key) × (0 < found)) }
 {
     for index in 0..count {
-        let found = find_few(table, from + overlay::WORDS * index, 1, key);
-        if found != 0 {
-            return found;
+        if let Some(found) = find_few(table, from + overlay::WORDS * index, 1, key) {
+            return Some(found);
         }
     }
-    0
+    None
 }
 
 // What `find` gives, by a search of lent entries, four at a time.
-pub fn find_entry(table: &[u64], gpn: u64) -> u64
-    ensures { result ≡ place_of table.now gpn }
+pub fn find_entry(table: &[u64], gpn: u64) -> Option<u64>
+    ensures { IsPlace table.now gpn result }
 {
     if table.len() < TABLE_WORDS {
         return find(table, gpn);
@@ -132,9 +131,9 @@ pub fn find_entry(table: &[u64], gpn: u64) -> u64
     let count = entry_count(table);
     let loads = count / LOADED;
     for load in 0..loads {
-        let found = find_few(table, 1 + LOADED * overlay::WORDS * load, LOADED, key);
-        if found != 0 {
-            return found;
+        let from = 1 + LOADED * overlay::WORDS * load;
+        if let Some(found) = find_few(table, from, LOADED, key) {
+            return Some(found);
         }
     }
     let place = 1 + LOADED * overlay::WORDS * loads;
@@ -144,7 +143,7 @@ pub fn find_entry(table: &[u64], gpn: u64) -> u64
 pub fn is_overlay(table: &[u64], gpn: u64) -> bool
     ensures { result ≡ is_overlay table.now gpn }
 {
-    find(table, gpn) != 0
+    find(table, gpn).is_some()
 }
 
 pub fn entry_at(table: &[u64], place: u64) -> OverlayPage
@@ -164,13 +163,13 @@ pub fn entry_at(table: &[u64], place: u64) -> OverlayPage
     }
 }
 
-// One entry more: 0, or 17 where 128 are there.
-pub fn add(table: &mut [u64], entry: OverlayPage) -> u64
-    ensures { (result ≡ add_code table.old) × (table.new ≡ add_words table.old entry) }
+// One entry more, unless 128 are there.
+pub fn add(table: &mut [u64], entry: OverlayPage) -> Result<(), Refusal>
+    ensures { (refused_by result ≡ add_code table.old) × (table.new ≡ add_words table.old entry) }
 {
     let count = entry_count(table);
     if limit::OVERLAYS <= count {
-        return refusal::FULL;
+        return Err(Refusal::Full);
     }
     let place = 1 + overlay::WORDS * count;
     words::put(table, place, entry.gpn);
@@ -179,7 +178,7 @@ pub fn add(table: &mut [u64], entry: OverlayPage) -> u64
     words::put(table, place + overlay::COUNT, entry.ref_count);
     words::put(table, place + overlay::SOURCE, entry.gpn_source);
     words::put(table, 0, count + 1);
-    0
+    Ok(())
 }
 
 pub fn set_previous(table: &mut [u64], place: u64, bits: u64)

@@ -125,10 +125,10 @@ fn query(buffers: &mut Buffers, c: Call, list: &[u8])
 }
 
 #[tactic(auto, unfolding(crate::specs::Calls::look_value))]
-fn look_in(buffers: &Buffers, n: usize, c: Call) -> Value
-    requires { n ≤ map_bytes }
-    ensures { result ≡ look_value buffers.now.state (lent_of n buffers.now).maps c }
+fn look_in(buffers: &Buffers, c: Call) -> Value
+    ensures { result ≡ look_value buffers.now.state (lent_of (bytes_in buffers.now) buffers.now).maps c }
 {
+    let n = buffers::bytes_in(buffers);
     let private = &buffers.private;
     let shared = &buffers.shared;
     let read = &buffers.read[..n];
@@ -152,7 +152,7 @@ fn look_in(buffers: &Buffers, n: usize, c: Call) -> Value
 fn look(buffers: &mut Buffers, c: Call)
     ensures { buffers.new ≡ look_of buffers.old c }
 {
-    let seen = look_in(buffers, buffers::bytes_in(buffers), c);
+    let seen = look_in(buffers, c);
     valued(buffers, seen);
 }
 

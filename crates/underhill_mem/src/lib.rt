@@ -14,6 +14,7 @@ use protector_state::{Reply, Value};
 
 // A protector of a layout: RAM private with all permissions, and empty tables, whatever the runs held. No operation is asked
 // for, and a refusal changes nothing.
+#[tactic(auto, using(abi::proofs::Numbers::number_not_zero, crate::proofs::Laws::build_passed), unfolding(protector::specs::Calls::build_of, protector::specs::Calls::build_taken))]
 pub fn protector_build(
     ram: &[u64],
     isolation: u64,
@@ -48,6 +49,7 @@ pub fn protector_build(
 
 // The pages of a list that aren't yet as wanted become shared or private: their old marks are cleared and Wait is asked for,
 // then the answers lead on. A refusal changes nothing.
+#[tactic(auto, using(abi::proofs::Numbers::number_not_zero, crate::proofs::Laws::visibility_passed), unfolding(protector::specs::Calls::visibility_of, protector::specs::Calls::visibility_taken, protector::specs::Calls::carried_out))]
 pub fn protector_change_host_visibility(
     private: &mut [u8],
     shared: &mut [u8],
@@ -85,6 +87,7 @@ pub fn protector_change_host_visibility(
 
 // The operation asked for is done: the call's next one is asked for, or the call ends. An answer that isn't taken changes
 // nothing.
+#[tactic(auto, using(abi::proofs::Numbers::number_not_zero, crate::proofs::Laws::answer_passed), unfolding(protector::specs::Calls::answer_done, protector::specs::Calls::carried_out, protector::specs::Calls::carried_change))]
 pub fn protector_answer_done(
     private: &mut [u8],
     shared: &mut [u8],
@@ -111,6 +114,7 @@ pub fn protector_answer_done(
 
 // The operation asked for failed: the call halts, ends with 16, or goes on with the pages that Modify processed, to end with 16
 // then. An answer that isn't taken changes nothing.
+#[tactic(auto, using(abi::proofs::Numbers::number_not_zero, crate::proofs::Laws::answer_passed), unfolding(protector::specs::Calls::answer_failed, protector::specs::Calls::carried_out, protector::specs::Calls::carried_change))]
 pub fn protector_answer_failed(
     private: &mut [u8],
     shared: &mut [u8],
@@ -145,6 +149,7 @@ pub fn protector_answer_failed(
 
 // A byte for each page of a list: 0 private, 1 shared. A short output is filled as far as it goes. No operation is asked for,
 // and a refusal writes nothing.
+#[tactic(auto, using(abi::proofs::Numbers::number_not_zero, call_refusals::proofs::Laws::is_ready), unfolding(queries::specs::Queries::query_of, queries::specs::Queries::query_refusal))]
 pub fn protector_query_host_visibility(
     state: &[u64],
     shared: &[u8],
@@ -167,6 +172,7 @@ pub fn protector_query_host_visibility(
 
 // What a fault at an address gives: Retry, or what is in its way. It is answered while a call is under way or halted too, asks
 // for no operation and writes nothing.
+#[tactic(auto, unfolding(queries::specs::Queries::fault_in))]
 pub fn protector_page_fault(
     private: &[u8],
     shared: &[u8],
@@ -196,6 +202,7 @@ pub fn protector_page_fault(
 
 // The flags that a VTL has for a page. It is answered while a call is under way or halted too, asks for no operation and writes
 // nothing.
+#[tactic(auto, unfolding(queries::specs::Queries::lower_in))]
 pub fn protector_query_lower_vtl_permissions(
     private: &[u8],
     shared: &[u8],
@@ -221,6 +228,7 @@ pub fn protector_query_lower_vtl_permissions(
 
 // The flags that the permission maps have for a page: 24 where there are no such maps. It is answered while a call is under way
 // or halted too, asks for no operation and writes nothing.
+#[tactic(auto, unfolding(queries::specs::Queries::access_in))]
 pub fn protector_query_access_permission(
     private: &[u8],
     shared: &[u8],

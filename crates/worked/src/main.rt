@@ -1,7 +1,8 @@
 // The worked examples of document 01, run and shown: RAM pages 0 to 15 and 32 to 39.
 #![tactic(auto)]
 
-use abi::{REGISTRAR_WORDS, refusal};
+use abi::REGISTRAR_WORDS;
+use abi::refusal::{self, Refusal};
 use fault::PageFaultAction;
 use permissions::{GuestVtl, HvMapGpaFlags};
 use registrar_state::Reply;
@@ -17,16 +18,14 @@ fn say_map(rt: &impl Print, map: &[u8]) -> io::Result<()> {
     println!(rt; "")
 }
 
-fn say_fault(rt: &impl Print, a: PageFaultAction) -> io::Result<()> {
-    let name = match a {
-        PageFaultAction::Retry => "Retry",
-        PageFaultAction::NotMapped => "NotMapped",
-        PageFaultAction::NotShared => "NotShared",
-        PageFaultAction::NotPrivate => "NotPrivate",
-        PageFaultAction::VtlProtected => "VtlProtected",
-        PageFaultAction::Refused(n) => return print!(rt; "{n}"),
-    };
-    print!(rt; "{name}")
+fn say_fault(rt: &impl Print, a: Result<PageFaultAction, Refusal>) -> io::Result<()> {
+    match a {
+        Ok(action) => print!(rt; "{action:?}"),
+        Err(refusal) => {
+            let number = refusal.number();
+            print!(rt; "{number}")
+        }
+    }
 }
 
 fn p1(rt: &impl Print) -> io::Result<()> {
@@ -52,8 +51,8 @@ fn p1(rt: &impl Print) -> io::Result<()> {
 }
 
 fn p6(rt: &impl Print) -> io::Result<()> {
-    let seven = layout::refusal(&[0, 28672, 0]);
-    let eight = layout::refusal(&[0, 32768, 0]);
+    let seven = refusal::refused_by(layout::refusal(&[0, 28672, 0]));
+    let eight = refusal::refused_by(layout::refusal(&[0, 32768, 0]));
     println!(rt; "P6 entry of 7 pages: {seven}, of 8: {eight}")
 }
 
@@ -108,7 +107,7 @@ fn say_reply(rt: &impl Print, r: Reply) -> io::Result<()> {
     }
     let number = r.number;
     print!(rt; "{number}")?;
-    if number == refusal::UNALIGNED_MEMORY {
+    if number == Refusal::UnalignedMemory.number() {
         let start = r.edge_start;
         let end = r.edge_end;
         print!(rt; " for {start} to {end}")?;
@@ -145,7 +144,7 @@ fn p9(rt: &impl Print) -> io::Result<()> {
 }
 
 // The fault at an address of a view, with no permissions tracked.
-fn fault_at(view: u64, address: u64) -> PageFaultAction {
+fn fault_at(view: u64, address: u64) -> Result<PageFaultAction, Refusal> {
     let private: [u8; 5] = [0xf7, 0xf9, 0, 0, 0xff];
     let shared: [u8; 5] = [0x08, 0x06, 0, 0, 0];
     fault::page_fault(

@@ -8,8 +8,10 @@ use Rattle.overlay_table.proofs.find.Goals as goal
 pub returns-then-gpn-word_at : goal.returns-then-gpn-word_at
 returns-then-gpn-word_at c =
     let a = c.args in
-    let h = c.loop-index in
-    sym (laws.place_hit a.table.now (1 + 5 * h.index) a.gpn _ (used a.table.now - h.index) (omega arith) c.word_at.ensures c.if-gpn-word_at.true) ∙ h.invariant
+    let h = c.loop-index in (
+      sym (laws.place_hit a.table.now (1 + 5 * h.index) a.gpn _ (used a.table.now - h.index) (omega arith) c.word_at.ensures c.if-gpn-word_at.true) ∙ h.invariant,
+      omega arith,
+    )
 
 pub loop-index-preserved : goal.loop-index-preserved
 loop-index-preserved c =
@@ -25,4 +27,4 @@ pub returns : goal.returns
 returns c =
     let a = c.args in
     let h = c.loop-index in
-    sym (laws.place_end a.table.now (1 + 5 * h.index) a.gpn 0 (used a.table.now - h.index) (omega arith)) ∙ h.invariant
+    sym h.invariant ∙ laws.place_end a.table.now (1 + 5 * h.index) a.gpn 0 (used a.table.now - h.index) (omega arith)

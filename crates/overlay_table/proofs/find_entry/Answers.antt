@@ -15,13 +15,16 @@ loop-load-init c =
     ap₂ (λ (k o : ℕ). place_for a.table.now k o (key_of a.gpn)) all start
     ∙ laws.agrees a.table.now a.gpn n 1 ∙ ap (λ (k : ℕ). place_from a.table.now k 1 a.gpn) c.entry_count-count.ensures
 
-pub returns-then-found-ne0 : goal.returns-then-found-ne0
-returns-then-found-ne0 c =
+pub returns-in-Some : goal.returns-in-Some
+returns-in-Some c =
     let a = c.args in
     let h = c.loop-load in
-    c.find_few-found.ensures
-    ∙ laws.split_hit a.table.now (key_of a.gpn) 4 (c.entry_count-count.result - 4 * h.load) (1 + 20 * h.load) (omega arith) (λ z. c.if-found-ne0.true (c.find_few-found.ensures ∙ z))
-    ∙ h.invariant
+    let found = c.in-Some.ensures in (
+      found.0
+          ∙ laws.split_hit a.table.now (key_of a.gpn) 4 (c.entry_count-count.result - 4 * h.load) (1 + 20 * h.load) (omega arith) (λ z. omega (arith, found.0, found.1, z))
+          ∙ h.invariant,
+      omega (arith, found.1),
+    )
 
 pub loop-load-preserved : goal.loop-load-preserved
 loop-load-preserved c =
@@ -31,5 +34,5 @@ loop-load-preserved c =
     let left : n - 4 * (h.load + 1) ≡ n - 4 * h.load - 4 = omega arith in
     let next : 1 + 20 * (h.load + 1) ≡ 1 + 20 * h.load + 5 * 4 = omega arith in
     ap₂ (λ (k o : ℕ). place_for a.table.now k o (key_of a.gpn)) left next
-    ∙ sym (laws.split_miss a.table.now (key_of a.gpn) 4 (n - 4 * h.load) (1 + 20 * h.load) (omega arith) (omega arith) (sym c.find_few-found.ensures ∙ c.if-found-ne0.false))
+    ∙ sym (laws.split_miss a.table.now (key_of a.gpn) 4 (n - 4 * h.load) (1 + 20 * h.load) (omega arith) (omega arith) c.in_default.ensures)
     ∙ h.invariant
