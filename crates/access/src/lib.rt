@@ -4,11 +4,11 @@
 ghost use Rattle.std.specs.Prelude.{not, ◌&&◌, ◌≡◌};
 ghost use Rattle.abi.specs.Refusals.{refused_by, numbered};
 ghost use Rattle.layout.specs.Layout.{entries_of, is_ram};
-ghost use Rattle.mapping.specs.Maps.{perms, maps};
+ghost use Rattle.mapping.specs.Maps.{perms_in, maps_in};
 ghost use Rattle.access.specs.Query.{access_refusal, access_permission, lower_refusal, lower_flags, lower_vtl_permissions, permissions_number, permissions_value};
 
 use abi::refusal::{self, Refusal};
-use mapping::MapLengths;
+use mapping::{MapLengths, PageMaps, PermissionMaps};
 use permissions::{GuestVtl, HvMapGpaFlags};
 
 fn access_refusal(fits: bool, tracked: bool) -> Result<(), Refusal>
@@ -26,22 +26,17 @@ fn access_refusal(fits: bool, tracked: bool) -> Result<(), Refusal>
 // The permissions of a page as the maps have them: none past their end.
 #[tactic(auto, using(abi::proofs::Numbers::number_not_zero), unfolding(crate::specs::Query::access_permission))]
 pub fn query_access_permission(
-    private: &[u8],
-    shared: &[u8],
-    read: &[u8],
-    write: &[u8],
-    kernel: &[u8],
-    user: &[u8],
+    maps: PageMaps<'_>,
     ram: &[u64],
     tracked: bool,
     gpn: u64,
 ) -> Result<HvMapGpaFlags, Refusal>
-    ensures { numbered result ≡ access_permission (entries_of ram.now) (maps private.now shared.now read.now write.now kernel.now user.now) tracked gpn }
+    ensures { numbered result ≡ access_permission (entries_of ram.now) (maps_in maps.entry) tracked gpn }
 {
     let len = layout::map_len(ram);
-    let lengths = MapLengths::of(private, shared, read, write, kernel, user);
+    let lengths = MapLengths::of(maps);
     access_refusal(mapping::maps_fit(len, tracked, lengths), tracked)?;
-    Ok(mapping::flags_at(read, write, kernel, user, gpn))
+    Ok(mapping::flags_at(maps.permissions, gpn))
 }
 
 // 7 in a hole: `inside` tells whether the maps have the page.
@@ -62,18 +57,15 @@ fn lower_refusal(ram: &[u64], fits: bool, vtl: u64, gpn: u64, inside: bool) -> R
 
 // The permissions of a VTL: only VTL0's are tracked.
 pub fn lower_flags(
-    read: &[u8],
-    write: &[u8],
-    kernel: &[u8],
-    user: &[u8],
+    maps: PermissionMaps<'_>,
     tracked: bool,
     vtl: GuestVtl,
     gpn: u64,
 ) -> HvMapGpaFlags
-    ensures { result ≡ lower_flags (perms read.now write.now kernel.now user.now) tracked vtl gpn }
+    ensures { result ≡ lower_flags (perms_in maps.entry) tracked vtl gpn }
 {
     if tracked && permissions::is_vtl0(vtl) {
-        return mapping::flags_at(read, write, kernel, user, gpn);
+        return mapping::flags_at(maps, gpn);
     }
     HvMapGpaFlags::all()
 }
@@ -81,25 +73,20 @@ pub fn lower_flags(
 // The permissions of a page as a VTL has them.
 #[tactic(auto, using(abi::proofs::Numbers::number_not_zero), unfolding(crate::specs::Query::lower_vtl_permissions))]
 pub fn query_lower_vtl_permissions(
-    private: &[u8],
-    shared: &[u8],
-    read: &[u8],
-    write: &[u8],
-    kernel: &[u8],
-    user: &[u8],
+    maps: PageMaps<'_>,
     ram: &[u64],
     tracked: bool,
     vtl: u64,
     gpn: u64,
 ) -> Result<HvMapGpaFlags, Refusal>
-    ensures { numbered result ≡ lower_vtl_permissions (entries_of ram.now) (maps private.now shared.now read.now write.now kernel.now user.now) tracked vtl gpn }
+    ensures { numbered result ≡ lower_vtl_permissions (entries_of ram.now) (maps_in maps.entry) tracked vtl gpn }
 {
     let len = layout::map_len(ram);
-    let lengths = MapLengths::of(private, shared, read, write, kernel, user);
+    let lengths = MapLengths::of(maps);
     let fits = mapping::maps_fit(len, tracked, lengths);
     lower_refusal(ram, fits, vtl, gpn, gpn / 8 < len)?;
     let v = permissions::vtl_of(vtl);
-    Ok(lower_flags(read, write, kernel, user, tracked, v, gpn))
+    Ok(lower_flags(maps.permissions, tracked, v, gpn))
 }
 
 pub fn permissions_number(a: Result<HvMapGpaFlags, Refusal>) -> u64

@@ -15,7 +15,7 @@ ghost use Rattle.call_refusals.specs.Refusals.{ready, tested_of, build_fits, bui
 use abi::refusal::Refusal;
 use abi::{PAGES_WORDS, STATE_WORDS, TABLES_WORDS, table};
 use change_steps::Stage;
-use mapping::MapLengths;
+use mapping::{MapLengths, PageMaps};
 use permissions::GuestVtl;
 use visibility_steps::Phase;
 
@@ -42,7 +42,7 @@ impl Lengths {
         ensures { result ≡ lengths_in (buffers (maps private.now shared.now read.now write.now kernel.now user.now) [] pages.now tables.now) }
     {
         Self {
-            maps: MapLengths::of(private, shared, read, write, kernel, user),
+            maps: MapLengths::of(PageMaps::of(private, shared, read, write, kernel, user)),
             pages: pages.len() as u64,
             tables: tables.len() as u64,
         }

@@ -5,12 +5,12 @@ ghost use Rattle.std.specs.Prelude.{◌≡◌};
 ghost use Rattle.abi.specs.Refusals.{refused_by, numbered};
 ghost use Rattle.bitmap.specs.Pages.{bit_at};
 ghost use Rattle.layout.specs.Layout.{entries_of};
-ghost use Rattle.mapping.specs.Maps.{perms, maps};
+ghost use Rattle.mapping.specs.Maps.{perms_in, maps_in};
 ghost use Rattle.fault.specs.Fault.{mapping_of, view_of, access_map, fault_of, fault_refusal, page_fault, fault_number, fault_value};
 
 use abi::refusal::{self, Refusal};
 use abi::{PAGE_SIZE, action, memory_type, read_type};
-use mapping::MapLengths;
+use mapping::{MapLengths, PageMaps, PermissionMaps};
 
 #[derive(Clone, Copy, Debug, PartialEq, Eq)]
 pub enum GuestValidMemoryType {
@@ -57,35 +57,27 @@ fn view_of(n: u64) -> GuestMemoryViewReadType
 
 // Whether the permission maps allow an access to a page: a write by the write map, else by the view's.
 fn is_allowed(
-    read: &[u8],
-    write: &[u8],
-    kernel: &[u8],
-    user: &[u8],
+    maps: PermissionMaps<'_>,
     view: u64,
     gpn: u64,
     writes: bool,
 ) -> bool
-    ensures { result ≡ bit_at 8 (access_map (view_of view) writes (perms read.now write.now kernel.now user.now)) gpn }
+    ensures { result ≡ bit_at 8 (access_map (view_of view) writes (perms_in maps.entry)) gpn }
 {
     if writes {
-        return bitmap::page_state(write, gpn);
+        return bitmap::page_state(maps.write, gpn);
     }
     match view_of(view) {
-        GuestMemoryViewReadType::Read => bitmap::page_state(read, gpn),
-        GuestMemoryViewReadType::KernelExecute => bitmap::page_state(kernel, gpn),
-        GuestMemoryViewReadType::UserExecute => bitmap::page_state(user, gpn),
+        GuestMemoryViewReadType::Read => bitmap::page_state(maps.read, gpn),
+        GuestMemoryViewReadType::KernelExecute => bitmap::page_state(maps.kernel, gpn),
+        GuestMemoryViewReadType::UserExecute => bitmap::page_state(maps.user, gpn),
     }
 }
 
 // A fault on a page: past the maps it has no mark.
 #[tactic(auto, unfolding(crate::specs::Fault::fault_of))]
 fn fault_action(
-    private: &[u8],
-    shared: &[u8],
-    read: &[u8],
-    write: &[u8],
-    kernel: &[u8],
-    user: &[u8],
+    maps: PageMaps<'_>,
     tracked: bool,
     mapping: GuestValidMemoryType,
     view: u64,
@@ -93,22 +85,22 @@ fn fault_action(
     writes: bool,
     failure: bool,
 ) -> PageFaultAction
-    ensures { result ≡ fault_of (maps private.now shared.now read.now write.now kernel.now user.now) tracked mapping (view_of view) gpn writes failure }
+    ensures { result ≡ fault_of (maps_in maps.entry) tracked mapping (view_of view) gpn writes failure }
 {
     if !failure {
         return PageFaultAction::NotMapped;
     }
     match mapping {
         GuestValidMemoryType::Shared => {
-            if !bitmap::page_state(shared, gpn) {
+            if !bitmap::page_state(maps.shared, gpn) {
                 return PageFaultAction::NotShared;
             }
         }
         GuestValidMemoryType::Encrypted => {
-            if !bitmap::page_state(private, gpn) {
+            if !bitmap::page_state(maps.private, gpn) {
                 return PageFaultAction::NotPrivate;
             }
-            if tracked && !is_allowed(read, write, kernel, user, view, gpn, writes) {
+            if tracked && !is_allowed(maps.permissions, view, gpn, writes) {
                 return PageFaultAction::VtlProtected;
             }
         }
@@ -148,12 +140,7 @@ fn fault_refusal(
 // A fault at an address, as its numbers cross.
 #[tactic(auto, using(abi::proofs::Numbers::number_not_zero), unfolding(crate::specs::Fault::page_fault))]
 pub fn page_fault(
-    private: &[u8],
-    shared: &[u8],
-    read: &[u8],
-    write: &[u8],
-    kernel: &[u8],
-    user: &[u8],
+    maps: PageMaps<'_>,
     ram: &[u64],
     tracked: bool,
     mapping: u64,
@@ -162,19 +149,14 @@ pub fn page_fault(
     writes: u64,
     failure: u64,
 ) -> Result<PageFaultAction, Refusal>
-    ensures { numbered result ≡ page_fault (entries_of ram.now) (maps private.now shared.now read.now write.now kernel.now user.now) tracked mapping view address writes failure }
+    ensures { numbered result ≡ page_fault (entries_of ram.now) (maps_in maps.entry) tracked mapping view address writes failure }
 {
     let len = layout::map_len(ram);
-    let lengths = MapLengths::of(private, shared, read, write, kernel, user);
+    let lengths = MapLengths::of(maps);
     let fits = mapping::maps_fit(len, tracked, lengths);
     fault_refusal(fits, mapping, view, writes, failure)?;
     Ok(fault_action(
-        private,
-        shared,
-        read,
-        write,
-        kernel,
-        user,
+        maps,
         tracked,
         mapping_of(mapping),
         view,

@@ -6,6 +6,8 @@ use Rattle.layout.specs.declared.MemoryRangeWithNode.{MemoryRangeWithNode}
 use Rattle.layout.specs.Layout.{is_ram, map_len}
 use Rattle.permissions.specs.declared.HvMapGpaFlags.{HvMapGpaFlags}
 use Rattle.mapping.specs.declared.MapLengths.{MapLengths}
+use Rattle.mapping.specs.declared.PageMaps.{PageMaps}
+use Rattle.mapping.specs.declared.PermissionMaps.{PermissionMaps}
 
 pub record Permissions : Type 0 where
   pub read : List ℕ
@@ -23,6 +25,13 @@ perms r w k u = record { read = r; write = w; kernel = k; user = u }
 
 abbrev pub maps : List ℕ → List ℕ → List ℕ → List ℕ → List ℕ → List ℕ → Maps
 maps p s r w k u = record { private = p; shared = s; permissions = perms r w k u }
+
+-- what lent maps hold
+abbrev pub perms_in : PermissionMaps → Permissions
+perms_in m = perms m.read.now m.write.now m.kernel.now m.user.now
+
+abbrev pub maps_in : PageMaps → Maps
+maps_in m = record { private = m.private.now; shared = m.shared.now; permissions = perms_in m.permissions }
 
 -- a map of n bytes with s at each RAM page, and no other bit
 abbrev pub fresh : List MemoryRangeWithNode → Bool → ℕ → List ℕ

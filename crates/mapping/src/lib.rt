@@ -6,9 +6,52 @@ ghost use Rattle.std.specs.Prelude.{true, ◌≡◌, ◌+◌, ◌≤◌, length,
 ghost use Rattle.laws.specs.Ranges.{between};
 ghost use Rattle.bitmap.specs.Pages.{written};
 ghost use Rattle.layout.specs.Layout.{entries_of, is_ram};
-ghost use Rattle.mapping.specs.Maps.{perms, maps, fresh, built, permission_len, marks_fit, permissions_fit, maps_fit, lengths_of, flags_at, permitted};
+ghost use Rattle.mapping.specs.Maps.{perms, perms_in, maps, maps_in, fresh, built, permission_len, marks_fit, permissions_fit, maps_fit, lengths_of, flags_at, permitted};
 
 use permissions::HvMapGpaFlags;
+
+// Lent permission maps.
+#[derive(Clone, Copy)]
+pub struct PermissionMaps<'a> {
+    pub read: &'a [u8],
+    pub write: &'a [u8],
+    pub kernel: &'a [u8],
+    pub user: &'a [u8],
+}
+
+// The six lent maps.
+#[derive(Clone, Copy)]
+pub struct PageMaps<'a> {
+    pub private: &'a [u8],
+    pub shared: &'a [u8],
+    pub permissions: PermissionMaps<'a>,
+}
+
+impl<'a> PageMaps<'a> {
+    // The maps that are lent one by one.
+    pub fn of(
+        private: &'a [u8],
+        shared: &'a [u8],
+        read: &'a [u8],
+        write: &'a [u8],
+        kernel: &'a [u8],
+        user: &'a [u8],
+    ) -> Self
+        ensures { maps_in result ≡ maps private.now shared.now read.now write.now kernel.now user.now }
+    {
+        let permissions = PermissionMaps {
+            read,
+            write,
+            kernel,
+            user,
+        };
+        Self {
+            private,
+            shared,
+            permissions,
+        }
+    }
+}
 
 // The lengths of the six maps in bytes.
 #[derive(Clone, Copy)]
@@ -23,23 +66,16 @@ pub struct MapLengths {
 
 impl MapLengths {
     // The lengths of lent maps.
-    pub fn of(
-        private: &[u8],
-        shared: &[u8],
-        read: &[u8],
-        write: &[u8],
-        kernel: &[u8],
-        user: &[u8],
-    ) -> Self
-        ensures { result ≡ lengths_of (maps private.now shared.now read.now write.now kernel.now user.now) }
+    pub fn of(maps: PageMaps<'_>) -> Self
+        ensures { result ≡ lengths_of (maps_in maps.entry) }
     {
         Self {
-            private: private.len() as u64,
-            shared: shared.len() as u64,
-            read: read.len() as u64,
-            write: write.len() as u64,
-            kernel: kernel.len() as u64,
-            user: user.len() as u64,
+            private: maps.private.len() as u64,
+            shared: maps.shared.len() as u64,
+            read: maps.permissions.read.len() as u64,
+            write: maps.permissions.write.len() as u64,
+            kernel: maps.permissions.kernel.len() as u64,
+            user: maps.permissions.user.len() as u64,
         }
     }
 }
@@ -171,13 +207,13 @@ pub fn update_permission_bitmaps(
 }
 
 // What the permission maps hold of a page.
-pub fn flags_at(read: &[u8], write: &[u8], kernel: &[u8], user: &[u8], gpn: u64) -> HvMapGpaFlags
-    ensures { result ≡ flags_at (perms read.now write.now kernel.now user.now) gpn }
+pub fn flags_at(maps: PermissionMaps<'_>, gpn: u64) -> HvMapGpaFlags
+    ensures { result ≡ flags_at (perms_in maps.entry) gpn }
 {
     HvMapGpaFlags {
-        readable: bitmap::page_state(read, gpn),
-        writable: bitmap::page_state(write, gpn),
-        kernel_executable: bitmap::page_state(kernel, gpn),
-        user_executable: bitmap::page_state(user, gpn),
+        readable: bitmap::page_state(maps.read, gpn),
+        writable: bitmap::page_state(maps.write, gpn),
+        kernel_executable: bitmap::page_state(maps.kernel, gpn),
+        user_executable: bitmap::page_state(maps.user, gpn),
     }
 }

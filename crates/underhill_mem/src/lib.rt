@@ -10,6 +10,7 @@ ghost use Rattle.queries.specs.Queries.{query, query_of, fault_in, lower_in, acc
 use abi::refusal::Refusal;
 use abi::{STATE_WORDS, place};
 use call_refusals::Lengths;
+use mapping::PageMaps;
 use protector_state::{Reply, Value};
 
 // A protector of a layout: RAM private with all permissions, and empty tables, whatever the runs held. No operation is asked
@@ -194,9 +195,9 @@ pub fn protector_page_fault(
     }
     let tracked = state[place::TRACKED] == 1;
     let ram = protector_state::ram_of(state);
+    let maps = PageMaps::of(private, shared, read, write, kernel, user);
     queries::fault_value(fault::page_fault(
-        private, shared, read, write, kernel, user, ram, tracked, mapping, view, address, writes,
-        failure,
+        maps, ram, tracked, mapping, view, address, writes, failure,
     ))
 }
 
@@ -221,9 +222,8 @@ pub fn protector_query_lower_vtl_permissions(
     }
     let tracked = state[place::TRACKED] == 1;
     let ram = protector_state::ram_of(state);
-    queries::permissions_value(access::query_lower_vtl_permissions(
-        private, shared, read, write, kernel, user, ram, tracked, vtl, gpn,
-    ))
+    let maps = PageMaps::of(private, shared, read, write, kernel, user);
+    queries::permissions_value(access::query_lower_vtl_permissions(maps, ram, tracked, vtl, gpn))
 }
 
 // The flags that the permission maps have for a page: 24 where there are no such maps. It is answered while a call is under way
@@ -246,7 +246,6 @@ pub fn protector_query_access_permission(
     }
     let tracked = state[place::TRACKED] == 1;
     let ram = protector_state::ram_of(state);
-    queries::permissions_value(access::query_access_permission(
-        private, shared, read, write, kernel, user, ram, tracked, gpn,
-    ))
+    let maps = PageMaps::of(private, shared, read, write, kernel, user);
+    queries::permissions_value(access::query_access_permission(maps, ram, tracked, gpn))
 }
