@@ -68,25 +68,20 @@ fn add(tables: &mut [u64], change: Change)
     requires { length tables.old ≡ tables_len }
     ensures { tables.new ≡ with_overlays tables.old change.vtl (add_words (overlays_of tables.old change.vtl) (entry change.at change.previous change.flags 1 change.source)) }
 {
-    let vtl = change.vtl;
-    match vtl {
-        GuestVtl::Vtl0 => add_in(&mut tables[table::OVERLAYS0..table::OVERLAYS1], change),
-        GuestVtl::Vtl1 => add_in(&mut tables[table::OVERLAYS1..table::LOCKS0], change),
-    }
+    let start = call_refusals::overlays_start(change.vtl);
+    add_in(&mut tables[start..start + table::OVERLAYS_WORDS], change);
 }
 
 fn remove(tables: &mut [u64], change: Change)
     requires { length tables.old ≡ tables_len }
     ensures { tables.new ≡ with_overlays tables.old change.vtl (without_page (overlays_of tables.old change.vtl) change.at) }
 {
-    let vtl = change.vtl;
-    match vtl {
-        GuestVtl::Vtl0 => remove_in(&mut tables[table::OVERLAYS0..table::OVERLAYS1], change.at),
-        GuestVtl::Vtl1 => remove_in(&mut tables[table::OVERLAYS1..table::LOCKS0], change.at),
-    }
+    let start = call_refusals::overlays_start(change.vtl);
+    remove_in(&mut tables[start..start + table::OVERLAYS_WORDS], change.at);
 }
 
 // The overlay entry of a change.
+#[tactic(auto, unfolding(protector::specs::Writes::entered))]
 fn enter(tables: &mut [u64], entry: Entry, change: Change)
     requires { length tables.old ≡ tables_len }
     ensures { tables.new ≡ entered entry change tables.old }
@@ -172,6 +167,7 @@ fn next_in(private: &[u8], state: &[u64], tables: &[u64]) -> PageRun
 }
 
 // What the answer done leads a change to.
+#[tactic(auto, unfolding(protector::specs::Calls::after_done))]
 fn after_done(private: &[u8], state: &[u64], pages: &[u64], tables: &[u64]) -> ChangeStep
     requires { (length state.now ≡ state_len) × (length tables.now ≡ tables_len) }
     ensures value { result ≡ after_done private.now state.now pages.now tables.now }
@@ -184,6 +180,7 @@ fn after_done(private: &[u8], state: &[u64], pages: &[u64], tables: &[u64]) -> C
     change_steps::done(settings.tracked, stage, change, pages, next)
 }
 
+#[tactic(auto, unfolding(protector::specs::Calls::after_failed))]
 fn after_failed(state: &[u64]) -> ChangeStep
     requires { length state.now ≡ state_len }
     ensures value { result ≡ after_failed state.now }

@@ -1,42 +1,30 @@
 -- Laws of the calls that lock and unlock: one for each way out. Assumes nothing.
-use mathlib.Core.Path.{◌≡◌, sym, ap, ◌∙◌}
-use mathlib.Core.List.{List, ◌++◌}
-use Prim.Native.Nat.{ℕ, ◌+◌, ◌*◌}
-use lib.ListN.{length, take, drop}
+use native.Mathlib.Omega.{arith}
+use mathlib.Core.Path.{◌≡◌, refl, sym, ◌∙◌}
+use mathlib.Core.List.{List}
+use Prim.Native.Nat.{ℕ, ◌+◌, ◌-◌, ◌*◌}
+use lib.ListN.{length}
 use lib.Seq.{drop-drop}
 use borrow.Author.Tests.{eqb-true}
+use borrow.Rule.Slice.PartMut.{mid_of, put_mid}
+use Rattle.abi.specs.Lengths.{locks_start, locks_len}
 use Rattle.permissions.specs.declared.GuestVtl.{GuestVtl}
 use Rattle.permissions.specs.Flags.{vtl_number}
-use Rattle.lock_table.specs.Locks.{lock_code, lock_words, unlock_code, unlock_words}
 use Rattle.call_refusals.specs.Buffers.{tables_len, locks_of}
 use Rattle.call_refusals.proofs.Laws.{is_ready}
 use Rattle.lock_entries.specs.Calls.{lock_refusal, with_locks}
 
--- ---- the locks of a VTL that is told, lent as a part of the tables
+-- ---- the locks of a VTL, written where they begin
 
-abbrev start : GuestVtl → ℕ
-start v = 1282 + 1089 * vtl_number v
+pub locks_cut : (t : List ℕ) (v : GuestVtl) (s : ℕ) → s ≡ locks_start + locks_len * vtl_number v → mid_of s (s + locks_len - s) t ≡ locks_of t v
+locks_cut t v s h = let d : s + locks_len - s ≡ locks_len = omega arith in rw (d, h) refl
 
-module _ (t ps o : List ℕ) (r : ℕ) (v w : GuestVtl) (e : v ≡ w) where
-  abbrev back : List ℕ
-  back = take (start v) t ++ (o ++ drop 1089 (drop (start v) t))
-
-  put_back : back ≡ with_locks t v o
-  put_back = ap (λ (x : List ℕ). take (start v) t ++ (o ++ x)) (drop-drop 1089 (start v) t)
-
-  pub locks_made : r ≡ lock_code (locks_of t v) ps → o ≡ lock_words (locks_of t v) ps
-      → (r ≡ lock_code (locks_of t w) ps) × (back ≡ with_locks t w (lock_words (locks_of t w) ps))
-  locks_made a b = (
-    a ∙ ap (λ (x : GuestVtl). lock_code (locks_of t x) ps) e,
-    put_back ∙ ap (with_locks t v) b ∙ ap (λ (x : GuestVtl). with_locks t x (lock_words (locks_of t x) ps)) e,
-  )
-
-  pub unlocks_made : r ≡ unlock_code (locks_of t v) ps → o ≡ unlock_words (locks_of t v) ps
-      → (r ≡ unlock_code (locks_of t w) ps) × (back ≡ with_locks t w (unlock_words (locks_of t w) ps))
-  unlocks_made a b = (
-    a ∙ ap (λ (x : GuestVtl). unlock_code (locks_of t x) ps) e,
-    put_back ∙ ap (with_locks t v) b ∙ ap (λ (x : GuestVtl). with_locks t x (unlock_words (locks_of t x) ps)) e,
-  )
+module _ (t n : List ℕ) (f : List ℕ → List ℕ) (v : GuestVtl) (s : ℕ) where
+  pub put_locks : s ≡ locks_start + locks_len * vtl_number v → n ≡ f (mid_of s (s + locks_len - s) t)
+      → put_mid s (s + locks_len - s) t n ≡ with_locks t v (f (locks_of t v))
+  put_locks h e =
+      let d : s + locks_len - s ≡ locks_len = omega arith in
+      rw (e, d, h, drop-drop locks_len (locks_start + locks_len * vtl_number v) t) refl
 
 -- ---- a call that isn't refused
 

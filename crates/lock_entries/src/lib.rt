@@ -39,20 +39,16 @@ fn lock_of(tables: &mut [u64], vtl: GuestVtl, list: &[u8]) -> Result<(), Refusal
     requires { length tables.old ≡ tables_len }
     ensures { (refused_by result ≡ lock_code (locks_of tables.old vtl) (pages_of list.now)) × (tables.new ≡ with_locks tables.old vtl (lock_words (locks_of tables.old vtl) (pages_of list.now))) }
 {
-    match vtl {
-        GuestVtl::Vtl0 => lock_table::lock(&mut tables[table::LOCKS0..table::LOCKS1], list),
-        GuestVtl::Vtl1 => lock_table::lock(&mut tables[table::LOCKS1..table::END], list),
-    }
+    let start = call_refusals::locks_start(vtl);
+    lock_table::lock(&mut tables[start..start + table::LOCKS_WORDS], list)
 }
 
 fn unlock_of(tables: &mut [u64], vtl: GuestVtl, list: &[u8]) -> Result<(), Refusal>
     requires { length tables.old ≡ tables_len }
     ensures { (refused_by result ≡ unlock_code (locks_of tables.old vtl) (pages_of list.now)) × (tables.new ≡ with_locks tables.old vtl (unlock_words (locks_of tables.old vtl) (pages_of list.now))) }
 {
-    match vtl {
-        GuestVtl::Vtl0 => lock_table::unlock(&mut tables[table::LOCKS0..table::LOCKS1], list),
-        GuestVtl::Vtl1 => lock_table::unlock(&mut tables[table::LOCKS1..table::END], list),
-    }
+    let start = call_refusals::locks_start(vtl);
+    lock_table::unlock(&mut tables[start..start + table::LOCKS_WORDS], list)
 }
 
 // A list of pages is locked for a VTL: 17 where there is no room. No operation is asked for, and a refusal changes nothing.

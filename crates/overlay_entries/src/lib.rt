@@ -10,7 +10,7 @@ ghost use Rattle.overlay_entries.specs.Calls.{is_overlay_in, unregister_of, regi
 
 use abi::table;
 use call_refusals::Lengths;
-use mapping::MapLengths;
+use mapping::PermissionMaps;
 use overlay_table::OverlayPage;
 use permissions::GuestVtl;
 use protector_state::{Reply, Value};
@@ -28,18 +28,9 @@ fn set_ref_count(tables: &mut [u64], vtl: GuestVtl, place: u64, count: u64)
     requires { length tables.old ≡ tables_len }
     ensures { tables.new ≡ with_overlays tables.old vtl (count_words (overlays_of tables.old vtl) place count) }
 {
-    match vtl {
-        GuestVtl::Vtl0 => overlay_table::set_count(
-            &mut tables[table::OVERLAYS0..table::OVERLAYS1],
-            place,
-            count,
-        ),
-        GuestVtl::Vtl1 => overlay_table::set_count(
-            &mut tables[table::OVERLAYS1..table::LOCKS0],
-            place,
-            count,
-        ),
-    }
+    let start = call_refusals::overlays_start(vtl);
+    let overlays = &mut tables[start..start + table::OVERLAYS_WORDS];
+    overlay_table::set_count(overlays, place, count);
 }
 
 // Whether a VTL has an overlay entry of a page, 1 or 0. Nothing is written, and no operation is asked for.
@@ -74,18 +65,7 @@ pub fn protector_unregister_overlay_page(
     ensures { outcome (maps private.now shared.now read.new write.new kernel.new user.new) state.new pages.now tables.new result
         ≡ unregister_of (buffers (maps private.now shared.now read.old write.old kernel.old user.old) state.old pages.now tables.old) vtl gpn }
 {
-    let lengths = Lengths {
-        maps: MapLengths {
-            private: private.len() as u64,
-            shared: shared.len() as u64,
-            read: read.len() as u64,
-            write: write.len() as u64,
-            kernel: kernel.len() as u64,
-            user: user.len() as u64,
-        },
-        pages: pages.len() as u64,
-        tables: tables.len() as u64,
-    };
+    let lengths = Lengths::of(private, shared, read, write, kernel, user, pages, tables);
     let place = match overlay_refusals::look_unregister(state, lengths, tables, vtl, gpn) {
         Ok(place) => place,
         Err(refusal) => return protector_state::refused(refusal.number()),
@@ -125,19 +105,14 @@ pub fn protector_register_overlay_page(
         ≡ register_of (buffers (maps private.now shared.now read.old write.old kernel.old user.old) state.old pages.now tables.old) vtl gpn source checked new }
 {
     let v = permissions::vtl_of(vtl);
-    let current = overlay_refusals::current_flags(read, write, kernel, user, state, v, gpn, source);
-    let lengths = Lengths {
-        maps: MapLengths {
-            private: private.len() as u64,
-            shared: shared.len() as u64,
-            read: read.len() as u64,
-            write: write.len() as u64,
-            kernel: kernel.len() as u64,
-            user: user.len() as u64,
-        },
-        pages: pages.len() as u64,
-        tables: tables.len() as u64,
+    let permissions = PermissionMaps {
+        read,
+        write,
+        kernel,
+        user,
     };
+    let current = overlay_refusals::current_flags(permissions, state, v, gpn, source);
+    let lengths = Lengths::of(private, shared, read, write, kernel, user, pages, tables);
     let known = match overlay_refusals::look_register(
         state, lengths, shared, tables, current, vtl, gpn, source, checked, new,
     ) {

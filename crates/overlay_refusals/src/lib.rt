@@ -4,7 +4,7 @@
 ghost use Rattle.std.specs.Prelude.{◌≡◌, eqb, length, IfOk};
 ghost use Rattle.abi.specs.Refusals.{refused_by};
 ghost use Rattle.layout.specs.Layout.{entries_of};
-ghost use Rattle.mapping.specs.Maps.{perms};
+ghost use Rattle.mapping.specs.Maps.{perms_in};
 ghost use Rattle.permissions.specs.Flags.{vtl_of};
 ghost use Rattle.overlay_table.specs.Overlays.{IsPlace, place_of, add_code};
 ghost use Rattle.protector_state.specs.State.{state_len, entries_in};
@@ -14,6 +14,7 @@ ghost use Rattle.overlay_refusals.specs.Refusals.{call_refusal, unregister_refus
 use abi::refusal::Refusal;
 use abi::{NO_FLAGS, TABLES_WORDS, limit, place};
 use call_refusals::Lengths;
+use mapping::PermissionMaps;
 use overlay_table::OverlayPage;
 use permissions::{GuestVtl, HvMapGpaFlags};
 
@@ -248,20 +249,17 @@ pub fn look_register(
 // The flags that a page has: a Dma page none.
 #[tactic(auto, unfolding(crate::specs::Refusals::current_of))]
 pub fn current_flags(
-    read: &[u8],
-    write: &[u8],
-    kernel: &[u8],
-    user: &[u8],
+    maps: PermissionMaps<'_>,
     state: &[u64],
     vtl: GuestVtl,
     gpn: u64,
     source: u64,
 ) -> HvMapGpaFlags
-    ensures { result ≡ current_of state.now (perms read.now write.now kernel.now user.now) vtl gpn source }
+    ensures { result ≡ current_of state.now (perms_in maps.entry) vtl gpn source }
 {
     if source == 1 {
         return HvMapGpaFlags::none();
     }
     let tracked = numbers::word_at(state, place::TRACKED as u64) == 1;
-    access::lower_flags(read, write, kernel, user, tracked, vtl, gpn)
+    access::lower_flags(maps, tracked, vtl, gpn)
 }

@@ -23,7 +23,7 @@ use permissions::{GuestVtl, HvMapGpaFlags};
 use protector_state::Reply;
 
 // What refuses a default change.
-#[tactic(auto, using(abi::proofs::Numbers::number_not_zero, call_refusals::proofs::Laws::is_ready), unfolding(crate::specs::Calls::default_refusal, call_refusals::specs::Refusals::ready))]
+#[tactic(auto, using(abi::proofs::Numbers::number_not_zero, call_refusals::proofs::Laws::is_ready, call_refusals::proofs::Laws::lent_refuses), unfolding(crate::specs::Calls::default_refusal, call_refusals::specs::Refusals::ready))]
 fn default_refusal(state: &[u64], lengths: Lengths, vtl: u64, flags: u64) -> Result<(), Refusal>
     ensures { refused_by result ≡ default_refusal state.now (fits_in state.now lengths) vtl flags }
 {
@@ -38,6 +38,7 @@ fn default_refusal(state: &[u64], lengths: Lengths, vtl: u64, flags: u64) -> Res
 }
 
 // The default of a VTL: the word of the other's stays as it is.
+#[tactic(auto, using(protector_state::proofs::Laws::word_set))]
 fn store_default(state: &mut [u64], vtl: GuestVtl, flags: u64)
     requires { (length state.old ≡ state_len) × (flags < flags_end) }
     ensures { state.new ≡ stored_default state.old vtl flags }
@@ -74,20 +75,9 @@ fn update_previous_permissions(
     ensures { tables.new ≡ renewed_tables private.now state.now tables.old vtl flags }
 {
     let ram = protector_state::ram_of(state);
-    match vtl {
-        GuestVtl::Vtl0 => default_change::update_previous_permissions(
-            &mut tables[table::OVERLAYS0..table::OVERLAYS1],
-            private,
-            ram,
-            flags,
-        ),
-        GuestVtl::Vtl1 => default_change::update_previous_permissions(
-            &mut tables[table::OVERLAYS1..table::LOCKS0],
-            private,
-            ram,
-            flags,
-        ),
-    }
+    let start = call_refusals::overlays_start(vtl);
+    let overlays = &mut tables[start..start + table::OVERLAYS_WORDS];
+    default_change::update_previous_permissions(overlays, private, ram, flags);
 }
 
 fn first_piece(private: &[u8], state: &[u64], tables: &[u64], vtl: GuestVtl) -> PageRun
@@ -139,6 +129,7 @@ fn apply_step(
 
 // A VTL has another default, to which its overlays on private RAM will return: asks for a Protect of each run of private RAM
 // between them, then for Wait, Flush and TlbWait. 10 refuses it with the default stored; every other refusal changes nothing.
+#[tactic(auto, using(crate::proofs::Laws::default_passed, crate::proofs::Laws::stored_length, call_refusals::proofs::Laws::tables_fit))]
 pub fn protector_change_default_vtl_protections(
     private: &[u8],
     shared: &[u8],
@@ -201,7 +192,7 @@ fn pages_refusal(
 }
 
 // What refuses a protection change.
-#[tactic(auto, using(abi::proofs::Numbers::number_not_zero, call_refusals::proofs::Laws::is_ready), unfolding(crate::specs::Calls::protection_refusal, call_refusals::specs::Refusals::ready))]
+#[tactic(auto, using(abi::proofs::Numbers::number_not_zero, call_refusals::proofs::Laws::is_ready, call_refusals::proofs::Laws::lent_refuses, call_refusals::proofs::Laws::tables_fit), unfolding(crate::specs::Calls::protection_refusal, call_refusals::specs::Refusals::ready))]
 fn protection_refusal(
     state: &[u64],
     lengths: Lengths,
@@ -242,6 +233,7 @@ fn protection_step(state: &[u64], pages: &[u64], vtl: GuestVtl, flags: u64, n: u
 
 // A VTL has other flags for the pages of a list: asks for a Protect of each run in it, then for Wait, Flush and TlbWait. A
 // refusal changes nothing.
+#[tactic(auto, using(crate::proofs::Laws::listed_passed, call_refusals::proofs::Laws::pages_fit))]
 pub fn protector_change_vtl_protections(
     private: &[u8],
     shared: &[u8],

@@ -1,13 +1,16 @@
-use mathlib.Core.Path.{sym}
+use mathlib.Core.Path.{ap, ◌∙◌}
+use mathlib.Core.List.{List}
+use Prim.Native.Nat.{ℕ}
 use Rattle.page_list.specs.Pages.{pages_of}
-use Rattle.permissions.specs.declared.GuestVtl.TheVariants.{Vtl0, Vtl1}
+use Rattle.lock_table.specs.Locks.{lock_code, lock_words}
 use Rattle.lock_entries.proofs.Laws as laws
 use Rattle.lock_entries.proofs.lock_of.Goals as goal
 
-pub returns-in-Vtl0 : goal.returns-in-Vtl0
-returns-in-Vtl0 c =
-    let a = c.args in laws.locks_made a.tables.now (pages_of a.list.now) c.lock.new.table _ Vtl0 a.vtl (sym c.in-Vtl0.is) c.lock.ensures.0 c.lock.ensures.1
-
-pub returns-in-Vtl1 : goal.returns-in-Vtl1
-returns-in-Vtl1 c =
-    let a = c.args in laws.locks_made a.tables.now (pages_of a.list.now) c.lock-in-Vtl1.new.table _ Vtl1 a.vtl (sym c.in-Vtl1.is) c.lock-in-Vtl1.ensures.0 c.lock-in-Vtl1.ensures.1
+pub returns : goal.returns
+returns c =
+    let a = c.args in
+    let ps = pages_of a.list.now in
+    let begins = c.locks_start-start.ensures in (
+      c.lock.ensures.0 ∙ ap (λ (o : List ℕ). lock_code o ps) (laws.locks_cut a.tables.now a.vtl _ begins),
+      laws.put_locks a.tables.now _ (λ o. lock_words o ps) a.vtl _ begins c.lock.ensures.1,
+    )

@@ -16,7 +16,7 @@ entry_of-e-requires c =
     let a = c.args in
     let w = buffers (maps a.private.now a.shared.now a.read.now a.write.now a.kernel.now a.user.now) a.state.now a.pages.now a.tables.now in
     fits_tables w (laws.register_fits a.state.now (fits w) a.shared.now a.tables.now c.current_flags-current.result a.vtl a.gpn a.source a.checked a.new _
-    c.in-Ok.ensures.refusal_value refl)
+    (rw c.of-lengths.ensures at c.in-Ok.ensures.refusal_value) refl)
 
 pub overflow_add-e : goal.overflow_add-e
 overflow_add-e c =
@@ -25,7 +25,7 @@ overflow_add-e c =
     let found = subst (IsPlace (overlays_of a.tables.now (vtl_of a.vtl)) a.gpn) c.in-Some.is c.in-Ok.ensures.place_value in
     let at = laws.place_found a.tables.now c.vtl_of-v.result a.vtl a.gpn _ c.vtl_of-v.ensures found.0 in
     let h = laws.register_room a.state.now (fits w) a.shared.now a.tables.now c.current_flags-current.result a.vtl a.gpn a.source a.checked a.new _
-    c.in-Ok.ensures.refusal_value refl c.vtl_of-v.result _ _ c.vtl_of-v.ensures found.0 (λ z. omega (arith, found.1, z))
+    (rw c.of-lengths.ensures at c.in-Ok.ensures.refusal_value) refl c.vtl_of-v.result _ _ c.vtl_of-v.ensures found.0 (λ z. omega (arith, found.1, z))
     (laws.entry_found a.tables.now c.vtl_of-v.result a.gpn _ at _ c.entry_of-e.ensures) in
     omega (arith, h)
 
@@ -34,7 +34,7 @@ set_ref_count-requires c =
     let a = c.args in
     let w = buffers (maps a.private.now a.shared.now a.read.now a.write.now a.kernel.now a.user.now) a.state.now a.pages.now a.tables.now in
     fits_tables w (laws.register_fits a.state.now (fits w) a.shared.now a.tables.now c.current_flags-current.result a.vtl a.gpn a.source a.checked a.new _
-    c.in-Ok.ensures.refusal_value refl)
+    (rw c.of-lengths.ensures at c.in-Ok.ensures.refusal_value) refl)
 
 pub returns-in-Some : goal.returns-in-Some
 unfolding register_of
@@ -44,7 +44,7 @@ returns-in-Some c =
     let found = subst (IsPlace (overlays_of a.tables.now (vtl_of a.vtl)) a.gpn) c.in-Some.is c.in-Ok.ensures.place_value in
     let at = laws.place_found a.tables.now c.vtl_of-v.result a.vtl a.gpn _ c.vtl_of-v.ensures found.0 in
     call_taken w _ _ (laws.register_asks w (fits w) c.vtl_of-v.result a.vtl a.gpn a.source a.checked a.new _ _ c.vtl_of-v.ensures
-    c.current_flags-current.ensures c.in-Ok.ensures.refusal_value) (register_taken w (vtl_of a.vtl) a.gpn a.source a.new) _ refl
+    c.current_flags-current.ensures (rw c.of-lengths.ensures at c.in-Ok.ensures.refusal_value)) (register_taken w (vtl_of a.vtl) a.gpn a.source a.new) _ refl
     (laws.register_counted w c.vtl_of-v.result a.gpn a.source a.new _ at _ _ _ (λ z. omega (arith, found.1, z))
     (laws.entry_found a.tables.now c.vtl_of-v.result a.gpn _ at _ c.entry_of-e.ensures)
     (laws.count_found a.tables.now c.vtl_of-v.result a.gpn _ at _ _ c.set_ref_count.ensures) c.finished.ensures
@@ -55,10 +55,10 @@ apply_step-requires c =
     let a = c.args in
     let w = buffers (maps a.private.now a.shared.now a.read.now a.write.now a.kernel.now a.user.now) a.state.now a.pages.now a.tables.now in (
       laws.register_state a.state.now (fits w) a.shared.now a.tables.now c.current_flags-current.result a.vtl a.gpn a.source a.checked a.new _
-          c.in-Ok.ensures.refusal_value refl,
+          (rw c.of-lengths.ensures at c.in-Ok.ensures.refusal_value) refl,
       fits_tables w
           (laws.register_fits a.state.now (fits w) a.shared.now a.tables.now c.current_flags-current.result a.vtl a.gpn a.source a.checked a.new _
-          c.in-Ok.ensures.refusal_value refl),
+          (rw c.of-lengths.ensures at c.in-Ok.ensures.refusal_value) refl),
       laws.new_fits _ c.vtl_of-v.result a.gpn _ _ _ _ c.start_new-x.ensures (omega (arith, c.ranges.gpn)),
     )
 
@@ -70,7 +70,7 @@ returns c =
     let none = subst (IsPlace (overlays_of a.tables.now (vtl_of a.vtl)) a.gpn) c.in_default.is c.in-Ok.ensures.place_value in
     let at = laws.place_found a.tables.now c.vtl_of-v.result a.vtl a.gpn _ c.vtl_of-v.ensures (sym none) in
     call_taken w _ _ (laws.register_asks w (fits w) c.vtl_of-v.result a.vtl a.gpn a.source a.checked a.new _ _ c.vtl_of-v.ensures
-    c.current_flags-current.ensures c.in-Ok.ensures.refusal_value) (register_taken w (vtl_of a.vtl) a.gpn a.source a.new) _ refl
+    c.current_flags-current.ensures (rw c.of-lengths.ensures at c.in-Ok.ensures.refusal_value)) (register_taken w (vtl_of a.vtl) a.gpn a.source a.new) _ refl
     (laws.register_carried w c.vtl_of-v.result a.gpn a.source a.new _ at c.settings-set.result
     c.current_flags-current.result _ c.start_new-x.result _ _ _ _ refl c.settings-set.ensures c.current_flags-current.ensures c.into_bits-bits.ensures
     c.start_new-x.ensures c.apply_step.ensures.permissions_after c.apply_step.ensures.state_after c.apply_step.ensures.tables_after c.apply_step.ensures.value ∙ ap

@@ -14,13 +14,13 @@ pub entry_of-e-requires : goal.entry_of-e-requires
 entry_of-e-requires c =
     let a = c.args in
     let w = buffers (maps a.private.now a.shared.now a.read.now a.write.now a.kernel.now a.user.now) a.state.now a.pages.now a.tables.now in
-    fits_tables w (laws.unregister_fits a.state.now (fits w) a.tables.now a.vtl a.gpn _ c.in-Ok.ensures.refusal_value refl)
+    fits_tables w (laws.unregister_fits a.state.now (fits w) a.tables.now a.vtl a.gpn _ (rw c.of-lengths.ensures at c.in-Ok.ensures.refusal_value) refl)
 
 pub set_ref_count-requires : goal.set_ref_count-requires
 set_ref_count-requires c =
     let a = c.args in
     let w = buffers (maps a.private.now a.shared.now a.read.now a.write.now a.kernel.now a.user.now) a.state.now a.pages.now a.tables.now in
-    fits_tables w (laws.unregister_fits a.state.now (fits w) a.tables.now a.vtl a.gpn _ c.in-Ok.ensures.refusal_value refl)
+    fits_tables w (laws.unregister_fits a.state.now (fits w) a.tables.now a.vtl a.gpn _ (rw c.of-lengths.ensures at c.in-Ok.ensures.refusal_value) refl)
 
 pub returns-then-e-gt1 : goal.returns-then-e-gt1
 unfolding unregister_of
@@ -28,7 +28,7 @@ returns-then-e-gt1 c =
     let a = c.args in
     let w = buffers (maps a.private.now a.shared.now a.read.now a.write.now a.kernel.now a.user.now) a.state.now a.pages.now a.tables.now in
     let at = laws.place_found a.tables.now c.vtl_of-v.result a.vtl a.gpn _ c.vtl_of-v.ensures c.in-Ok.ensures.place_value in
-    call_taken w _ _ c.in-Ok.ensures.refusal_value (unregister_taken w (vtl_of a.vtl) a.gpn) _ refl
+    call_taken w _ _ (rw c.of-lengths.ensures at c.in-Ok.ensures.refusal_value) (unregister_taken w (vtl_of a.vtl) a.gpn) _ refl
     (laws.unregister_counted w c.vtl_of-v.result a.gpn _ (laws.entry_found a.tables.now c.vtl_of-v.result a.gpn _ at _ c.entry_of-e.ensures) _ _ c.if-e-gt1.true
     (laws.count_found a.tables.now c.vtl_of-v.result a.gpn _ at _ _ c.set_ref_count.ensures)
     c.finished.ensures ∙ ap (λ (x : GuestVtl). unregister_taken w x a.gpn) c.vtl_of-v.ensures)
@@ -37,8 +37,8 @@ pub apply_step-requires : goal.apply_step-requires
 apply_step-requires c =
     let a = c.args in
     let w = buffers (maps a.private.now a.shared.now a.read.now a.write.now a.kernel.now a.user.now) a.state.now a.pages.now a.tables.now in (
-      laws.unregister_state a.state.now (fits w) a.tables.now a.vtl a.gpn _ c.in-Ok.ensures.refusal_value refl,
-      fits_tables w (laws.unregister_fits a.state.now (fits w) a.tables.now a.vtl a.gpn _ c.in-Ok.ensures.refusal_value refl),
+      laws.unregister_state a.state.now (fits w) a.tables.now a.vtl a.gpn _ (rw c.of-lengths.ensures at c.in-Ok.ensures.refusal_value) refl,
+      fits_tables w (laws.unregister_fits a.state.now (fits w) a.tables.now a.vtl a.gpn _ (rw c.of-lengths.ensures at c.in-Ok.ensures.refusal_value) refl),
       laws.old_fits _ c.vtl_of-v.result a.gpn _ _ _ c.start_old-x.ensures (omega (arith, c.ranges.gpn)),
     )
 
@@ -48,7 +48,7 @@ returns c =
     let a = c.args in
     let w = buffers (maps a.private.now a.shared.now a.read.now a.write.now a.kernel.now a.user.now) a.state.now a.pages.now a.tables.now in
     let at = laws.place_found a.tables.now c.vtl_of-v.result a.vtl a.gpn _ c.vtl_of-v.ensures c.in-Ok.ensures.place_value in
-    call_taken w _ _ c.in-Ok.ensures.refusal_value (unregister_taken w (vtl_of a.vtl) a.gpn) _ refl
+    call_taken w _ _ (rw c.of-lengths.ensures at c.in-Ok.ensures.refusal_value) (unregister_taken w (vtl_of a.vtl) a.gpn) _ refl
     (laws.unregister_carried w c.vtl_of-v.result a.gpn _ (laws.entry_found a.tables.now c.vtl_of-v.result a.gpn _ at _ c.entry_of-e.ensures) c.settings-set.result c.start_old-x.result _ _ _ _ c.if-e-gt1.false
     c.settings-set.ensures c.start_old-x.ensures c.apply_step.ensures.permissions_after c.apply_step.ensures.state_after c.apply_step.ensures.tables_after
     c.apply_step.ensures.value ∙ ap (λ (x : GuestVtl). unregister_taken w x a.gpn) c.vtl_of-v.ensures)

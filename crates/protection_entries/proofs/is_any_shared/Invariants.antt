@@ -1,6 +1,5 @@
 use mathlib.Core.Path.{◌≡◌}
 use lib.ListN.{drop}
-use Prim.Native.Nat.{◌-◌}
 use Rattle.page_list.specs.Pages.{pages_of}
 use Rattle.protection_entries.specs.Calls.{any_shared}
 use Rattle.protection_entries.proofs.is_any_shared.Given as goal
