@@ -1,6 +1,6 @@
 // What refuses a call. What crosses is its number; 0 stands where nothing refuses.
 ghost use Rattle.std.specs.Prelude.{◌≡◌};
-ghost use Rattle.abi.specs.Refusals.{number_of, refused_by};
+ghost use Rattle.abi.specs.Refusals.{number_of, refused_by, numbered};
 
 #[derive(Clone, Copy, Debug, PartialEq, Eq)]
 pub enum Refusal {
@@ -107,6 +107,16 @@ pub fn refused_by<T: Copy>(answer: Result<T, Refusal>) -> u64
     match answer {
         Ok(_) => 0,
         Err(refusal) => refusal.number(),
+    }
+}
+
+// An answer with the number of what refuses.
+pub fn numbered<T: Copy>(answer: Result<T, Refusal>) -> Result<T, u64>
+    ensures { result ≡ numbered answer }
+{
+    match answer {
+        Ok(value) => Ok(value),
+        Err(refusal) => Err(refusal.number()),
     }
 }
 

@@ -7,7 +7,7 @@ ghost use Rattle.layout.specs.Layout.{entries_of, is_ram};
 ghost use Rattle.mapping.specs.Maps.{perms_in, maps_in};
 ghost use Rattle.access.specs.Query.{access_refusal, access_permission, lower_refusal, lower_flags, lower_vtl_permissions, permissions_number, permissions_value};
 
-use abi::refusal::{self, Refusal};
+use abi::refusal::Refusal;
 use mapping::{MapLengths, PageMaps, PermissionMaps};
 use permissions::{GuestVtl, HvMapGpaFlags};
 
@@ -89,17 +89,17 @@ pub fn query_lower_vtl_permissions(
     Ok(lower_flags(maps.permissions, tracked, v, gpn))
 }
 
-pub fn permissions_number(a: Result<HvMapGpaFlags, Refusal>) -> u64
-    ensures { result ≡ permissions_number (numbered a) }
+pub fn permissions_number(a: Result<HvMapGpaFlags, u64>) -> u64
+    ensures { result ≡ permissions_number a }
 {
-    refusal::refused_by(a)
+    a.err().unwrap_or(0)
 }
 
-pub fn permissions_value(a: Result<HvMapGpaFlags, Refusal>) -> u64
-    ensures { result ≡ permissions_value (numbered a) }
+pub fn permissions_value(a: Result<HvMapGpaFlags, u64>) -> u64
+    ensures { result ≡ permissions_value a }
 {
     match a {
         Ok(f) => f.into_bits(),
-        Err(refusal) => permissions::hv_error(refusal.number()),
+        Err(number) => permissions::hv_error(number),
     }
 }

@@ -43,6 +43,7 @@ trait Word: Copy {
     ghost some: { 0 < BITS };
 }
 
+// Kept: two impls of one shape, since a shift is an operation of each type.
 impl Word for u8 {
     ghost BITS = { 8 };
 

@@ -13,6 +13,7 @@ use permissions::{GuestVtl, HvMapGpaFlags};
 use visibility_steps::{Answer, Operation};
 
 // Nothing under way, or the operation outstanding.
+// Kept: matched on, and no closure for what follows: between calls the stage is a word of the caller's state block.
 #[derive(Clone, Copy, Debug, PartialEq, Eq)]
 pub enum Stage {
     Idle,

@@ -114,7 +114,7 @@ fn next_private_run(private: &[u8], from: u64, end: u64) -> PageRun
     let first = scan(private, false, from, end);
     let last = scan(private, true, first, end);
     PageRun {
-        first: first,
+        first,
         count: last - first,
     }
 }

@@ -8,7 +8,7 @@ ghost use Rattle.layout.specs.Layout.{entries_of};
 ghost use Rattle.mapping.specs.Maps.{perms_in, maps_in};
 ghost use Rattle.fault.specs.Fault.{mapping_of, view_of, access_map, fault_of, fault_refusal, page_fault, fault_number, fault_value};
 
-use abi::refusal::{self, Refusal};
+use abi::refusal::Refusal;
 use abi::{PAGE_SIZE, action, memory_type, read_type};
 use mapping::{MapLengths, PageMaps, PermissionMaps};
 
@@ -56,12 +56,7 @@ fn view_of(n: u64) -> GuestMemoryViewReadType
 }
 
 // Whether the permission maps allow an access to a page: a write by the write map, else by the view's.
-fn is_allowed(
-    maps: PermissionMaps<'_>,
-    view: u64,
-    gpn: u64,
-    writes: bool,
-) -> bool
+fn is_allowed(maps: PermissionMaps<'_>, view: u64, gpn: u64, writes: bool) -> bool
     ensures { result ≡ bit_at 8 (access_map (view_of view) writes (perms_in maps.entry)) gpn }
 {
     if writes {
@@ -166,14 +161,14 @@ pub fn page_fault(
     ))
 }
 
-pub fn fault_number(a: Result<PageFaultAction, Refusal>) -> u64
-    ensures { result ≡ fault_number (numbered a) }
+pub fn fault_number(a: Result<PageFaultAction, u64>) -> u64
+    ensures { result ≡ fault_number a }
 {
-    refusal::refused_by(a)
+    a.err().unwrap_or(0)
 }
 
-pub fn fault_value(a: Result<PageFaultAction, Refusal>) -> u64
-    ensures { result ≡ fault_value (numbered a) }
+pub fn fault_value(a: Result<PageFaultAction, u64>) -> u64
+    ensures { result ≡ fault_value a }
 {
     match a {
         Ok(PageFaultAction::Retry) => action::RETRY,
@@ -181,6 +176,6 @@ pub fn fault_value(a: Result<PageFaultAction, Refusal>) -> u64
         Ok(PageFaultAction::NotShared) => action::NOT_SHARED,
         Ok(PageFaultAction::NotPrivate) => action::NOT_PRIVATE,
         Ok(PageFaultAction::VtlProtected) => action::VTL_PROTECTED,
-        Err(refusal) => permissions::hv_error(refusal.number()),
+        Err(number) => permissions::hv_error(number),
     }
 }

@@ -34,6 +34,7 @@ fn lock_refusal(state: &[u64], tables: u64, vtl: u64, list: &[u8]) -> Result<(),
     Ok(())
 }
 
+// Kept, with the two entries below: locking beside unlocking; one function over the table's call wants a clause about what that call ensures.
 // A list locked in the table of a VTL.
 fn lock_of(tables: &mut [u64], vtl: GuestVtl, list: &[u8]) -> Result<(), Refusal>
     requires { length tables.old ≡ tables_len }

@@ -17,6 +17,7 @@ const TABLE_WORDS: usize = table::OVERLAYS1 - table::OVERLAYS0;
 const LOADED: u64 = 4;
 
 // Permissions are flag bits. gpn_source: 0 guest memory, 1 Dma.
+// Kept: numbers: the definition `entry_at` reads any words of a lent table.
 #[derive(Clone, Copy)]
 pub struct OverlayPage {
     pub gpn: u64,

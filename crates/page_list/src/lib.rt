@@ -7,6 +7,8 @@ ghost use Rattle.page_list.specs.Runs.{run_at};
 
 use abi::limit;
 
+// Neighbouring pages.
+// Kept: a run of no pages where there is none, and no Option: the clauses of run_at, next_piece and run_in give one.
 #[derive(Clone, Copy)]
 pub struct PageRun {
     pub first: u64,

@@ -47,6 +47,7 @@ pub fn is_vtl(n: u64) -> bool
     n < 2
 }
 
+// Kept, as isolation_of: no TryFrom, since every number of a state block is a VTL, and the clause says which.
 pub fn vtl_of(n: u64) -> GuestVtl
     ensures { result ≡ vtl_of n }
 {
@@ -209,6 +210,7 @@ pub fn rmpadjust(vtl: GuestVtl, protections: HvMapGpaFlags) -> u64
 }
 
 // The HvError code of a refusal: 0 where it has none.
+// Kept: a number, and no `Refusal`: its clause speaks of any number, also of those that name no refusal.
 pub fn hv_error(number: u64) -> u64
     ensures { result ≡ code_of number }
 {

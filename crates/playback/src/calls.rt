@@ -46,6 +46,7 @@ pub fn build(buffers: &mut Buffers, c: Call, ram: &[u64])
     entries::build(buffers, buffers::bytes_if(c.b), c, ram);
 }
 
+// Kept: `lock` beside `unlock`, each a call of its entry with the clause of its definition.
 fn lock(buffers: &mut Buffers, c: Call, list: &[u8])
     ensures { buffers.new ≡ kept_in buffers.old (lock_of buffers.old.state buffers.old.tables c.a list.now) }
 {

@@ -419,6 +419,7 @@ pub fn next_reply(state: &[u64], turn: Turn, phase: Phase, request: Request, run
 }
 
 // The words of the layout.
+// Kept beside registrar_state's: they share one line, and a common function would have both blocks' places in its clause.
 pub fn ram_of(state: &[u64]) -> &[u64]
     requires { length state.now ≡ state_len }
     ensures { result.now ≡ ram_of state.now }

@@ -3,7 +3,7 @@
 
 ghost use Rattle.std.specs.Prelude.{◌≡◌};
 ghost use Rattle.laws.specs.Bools.{digit};
-ghost use Rattle.abi.specs.Refusals.{refused_by, numbered};
+ghost use Rattle.abi.specs.Refusals.{refused_by};
 ghost use Rattle.bitmap.specs.Pages.{bit_at};
 ghost use Rattle.layout.specs.Layout.{entries_of, is_ram};
 ghost use Rattle.page_list.specs.Pages.{pages_of};
@@ -15,8 +15,8 @@ use fault::PageFaultAction;
 use permissions::HvMapGpaFlags;
 use protector_state::Value;
 
-pub fn fault_value(a: Result<PageFaultAction, Refusal>) -> Value
-    ensures { result ≡ fault_value_of (numbered a) }
+pub fn fault_value(a: Result<PageFaultAction, u64>) -> Value
+    ensures { result ≡ fault_value_of a }
 {
     Value {
         number: fault::fault_number(a),
@@ -24,8 +24,8 @@ pub fn fault_value(a: Result<PageFaultAction, Refusal>) -> Value
     }
 }
 
-pub fn permissions_value(a: Result<HvMapGpaFlags, Refusal>) -> Value
-    ensures { result ≡ permissions_value_of (numbered a) }
+pub fn permissions_value(a: Result<HvMapGpaFlags, u64>) -> Value
+    ensures { result ≡ permissions_value_of a }
 {
     Value {
         number: access::permissions_number(a),

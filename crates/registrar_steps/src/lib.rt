@@ -39,6 +39,7 @@ pub struct Unaligned {
 }
 
 // What a call gives: a finished one with the count of its operations.
+// Kept: a number in `Refused`: `flat_of` of specs takes any.
 #[derive(Clone, Copy)]
 pub enum Answer {
     Done(u64),
@@ -68,6 +69,7 @@ pub struct Stop {
 }
 
 // What is next in a span.
+// Kept: four cases, of which `Nothing` is one, in place of an Option of three: `look_at` and `found` of specs name them.
 #[derive(Clone, Copy)]
 pub enum Look {
     Nothing,

@@ -7,7 +7,7 @@ ghost use Rattle.call_refusals.specs.Buffers.{buffers, outcome};
 ghost use Rattle.protector.specs.Calls.{build_of, visibility_of, answer_done, answer_failed};
 ghost use Rattle.queries.specs.Queries.{query, query_of, fault_in, lower_in, access_in};
 
-use abi::refusal::Refusal;
+use abi::refusal::{self, Refusal};
 use abi::{STATE_WORDS, place};
 use call_refusals::Lengths;
 use mapping::PageMaps;
@@ -191,14 +191,13 @@ pub fn protector_page_fault(
     ensures { result ≡ fault_in state.now (maps private.now shared.now read.now write.now kernel.now user.now) mapping view address writes failure }
 {
     if state.len() != STATE_WORDS {
-        return queries::fault_value(Err(Refusal::WrongLength));
+        return queries::fault_value(Err(Refusal::WrongLength.number()));
     }
     let tracked = state[place::TRACKED] == 1;
     let ram = protector_state::ram_of(state);
     let maps = PageMaps::of(private, shared, read, write, kernel, user);
-    queries::fault_value(fault::page_fault(
-        maps, ram, tracked, mapping, view, address, writes, failure,
-    ))
+    let answer = fault::page_fault(maps, ram, tracked, mapping, view, address, writes, failure);
+    queries::fault_value(refusal::numbered(answer))
 }
 
 // The flags that a VTL has for a page. It is answered while a call is under way or halted too, asks for no operation and writes
@@ -218,12 +217,13 @@ pub fn protector_query_lower_vtl_permissions(
     ensures { result ≡ lower_in state.now (maps private.now shared.now read.now write.now kernel.now user.now) vtl gpn }
 {
     if state.len() != STATE_WORDS {
-        return queries::permissions_value(Err(Refusal::WrongLength));
+        return queries::permissions_value(Err(Refusal::WrongLength.number()));
     }
     let tracked = state[place::TRACKED] == 1;
     let ram = protector_state::ram_of(state);
     let maps = PageMaps::of(private, shared, read, write, kernel, user);
-    queries::permissions_value(access::query_lower_vtl_permissions(maps, ram, tracked, vtl, gpn))
+    let answer = access::query_lower_vtl_permissions(maps, ram, tracked, vtl, gpn);
+    queries::permissions_value(refusal::numbered(answer))
 }
 
 // The flags that the permission maps have for a page: 24 where there are no such maps. It is answered while a call is under way
@@ -242,10 +242,11 @@ pub fn protector_query_access_permission(
     ensures { result ≡ access_in state.now (maps private.now shared.now read.now write.now kernel.now user.now) gpn }
 {
     if state.len() != STATE_WORDS {
-        return queries::permissions_value(Err(Refusal::WrongLength));
+        return queries::permissions_value(Err(Refusal::WrongLength.number()));
     }
     let tracked = state[place::TRACKED] == 1;
     let ram = protector_state::ram_of(state);
     let maps = PageMaps::of(private, shared, read, write, kernel, user);
-    queries::permissions_value(access::query_access_permission(maps, ram, tracked, gpn))
+    let answer = access::query_access_permission(maps, ram, tracked, gpn);
+    queries::permissions_value(refusal::numbered(answer))
 }

@@ -22,6 +22,7 @@ pub struct Settings {
 }
 
 // Nothing under way, or the operation outstanding.
+// Kept: matched on, and no closure for what follows: between calls the phase is a word of the caller's state block.
 #[derive(Clone, Copy, Debug, PartialEq, Eq)]
 pub enum Phase {
     Idle,
@@ -39,6 +40,7 @@ pub enum Phase {
     ProtectDefault1,
 }
 
+// Kept: `stopped` and `failed` beside `index` and `code`: request_of and with_request of specs read and write each as a word.
 // The request under way: its first `n` pages of the table are in use, the run at place `at` is under way.
 #[derive(Clone, Copy)]
 pub struct Request {
@@ -76,6 +78,7 @@ pub enum Operation {
 }
 
 // What a call gives: a finished one with the count of its operations.
+// Kept: a number in `Refused`: the definition `told` of visibility_claims gives it any.
 #[derive(Clone, Copy)]
 pub enum Answer {
     Done(u64),

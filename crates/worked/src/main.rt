@@ -4,6 +4,7 @@
 use abi::REGISTRAR_WORDS;
 use abi::refusal::{self, Refusal};
 use fault::PageFaultAction;
+use mapping::PageMaps;
 use permissions::{GuestVtl, HvMapGpaFlags};
 use registrar_state::Reply;
 use std::io;
@@ -147,21 +148,8 @@ fn p9(rt: &impl Print) -> io::Result<()> {
 fn fault_at(view: u64, address: u64) -> Result<PageFaultAction, Refusal> {
     let private: [u8; 5] = [0xf7, 0xf9, 0, 0, 0xff];
     let shared: [u8; 5] = [0x08, 0x06, 0, 0, 0];
-    fault::page_fault(
-        &private,
-        &shared,
-        &[],
-        &[],
-        &[],
-        &[],
-        &RAM,
-        false,
-        view,
-        0,
-        address,
-        0,
-        1,
-    )
+    let maps = PageMaps::of(&private, &shared, &[], &[], &[], &[]);
+    fault::page_fault(maps, &RAM, false, view, 0, address, 0, 1)
 }
 
 fn p10(rt: &impl Print) -> io::Result<()> {
