@@ -149,17 +149,20 @@ impl<'a> View<'a> {
     }
 
     // The first chunk from `from` to before `to` that asks for something, and what it asks for.
+    // Kept: `for`, with max(from, to) after it, takes 3 instructions more in each call (bench row register, a fresh page).
     fn walk(&self, from: u64, to: u64) -> Stop
         requires { (c : ℕ) → c < to → c * self.now.granularity < 2 ^ 64 }
         ensures { result ≡ stop_at (chunk_state self.now.granularity (entries_of self.now.ram.now) self.now.registered.now self.now.failed.now) from to }
     {
-        for c in from..to {
+        let mut c = from;
+        while c < to {
             let offer = self.offer_of(c);
             if !is_end(offer) {
                 return offer;
             }
+            c += 1;
         }
-        stop_of(Why::End, numbers::max(from, to), 0, 0)
+        stop_of(Why::End, c, 0, 0)
     }
 
     // The next unregistered stretch, or a chunk that failed before.
@@ -229,6 +232,7 @@ pub fn stop_from(
 }
 
 // Whether a chunk ends at an address or before it. Is false of a chunk past the last.
+// Kept: `start <= address && ..` takes 2 instructions more in each chunk (bench row register, 1 TiB fresh).
 fn ends_by(chunk: u64, granularity: u64, total: u64, address: u64) -> bool
     requires { chunk < total → chunk * granularity < 2 ^ 64 }
     ensures { result ≡ true → (chunk + 1) * granularity ≤ address }
@@ -237,7 +241,10 @@ fn ends_by(chunk: u64, granularity: u64, total: u64, address: u64) -> bool
         return false;
     }
     let start = chunk * granularity;
-    start <= address && granularity <= address - start
+    if address < start {
+        return false;
+    }
+    granularity <= address - start
 }
 
 // The first RAM of a chunk from an address on, where there are `total` chunks: empty where there is none.
