@@ -4,7 +4,7 @@
 ghost use Rattle.std.specs.Prelude.{◌≡◌, ◌+◌, ◌<◌, ◌≤◌, ◌^◌, length};
 ghost use Rattle.layout.specs.Layout.{entries_of};
 ghost use Rattle.permissions.specs.Flags.{flags_of};
-ghost use Rattle.mapping.specs.Maps.{perms};
+ghost use Rattle.mapping.specs.Maps.{perms_lent, same_maps};
 ghost use Rattle.overlay_table.specs.Overlays.{entry, add_words};
 ghost use Rattle.protector_state.specs.State.{state_len, settings_of};
 ghost use Rattle.protector_state.specs.Reply.{flat_of};
@@ -17,28 +17,23 @@ ghost use Rattle.protector.specs.Calls.{piece_after, next_in, after_done, after_
 
 use abi::{operation, table};
 use change_steps::{Change, ChangeStep, Entry, Stage};
+use mapping::PermissionMapsMut;
 use overlay_table::OverlayPage;
 use page_list::PageRun;
 use permissions::{GuestVtl, HvMapGpaFlags, IsolationType};
 use protector_state::Reply;
 
 // The permissions of a run of pages, if it has any.
-pub fn update_run(
-    read: &mut [u8],
-    write: &mut [u8],
-    kernel: &mut [u8],
-    user: &mut [u8],
-    run: PageRun,
-    flags: HvMapGpaFlags,
-)
+pub fn update_run(maps: &mut PermissionMapsMut<'_>, run: PageRun, flags: HvMapGpaFlags)
     requires { run.first + run.count ≤ 2 ^ 64 }
-    ensures { perms read.new write.new kernel.new user.new ≡ permitted_run run flags (perms read.old write.old kernel.old user.old) }
+    ensures same { same_maps maps.old maps.new }
+    ensures value { perms_lent maps.new ≡ permitted_run run flags (perms_lent maps.old) }
 {
     if run.count == 0 {
         return;
     }
     let last = run.first + (run.count - 1);
-    mapping::update_permission_bitmaps(read, write, kernel, user, run.first, last, flags);
+    mapping::update_permission_bitmaps(maps, run.first, last, flags);
 }
 
 fn add_in(overlays: &mut [u64], change: Change)
@@ -95,16 +90,14 @@ fn enter(tables: &mut [u64], entry: Entry, change: Change)
 
 // A step carried out but for its entry: its permissions written, its stage and change kept.
 pub fn write_step(
-    read: &mut [u8],
-    write: &mut [u8],
-    kernel: &mut [u8],
-    user: &mut [u8],
+    maps: &mut PermissionMapsMut<'_>,
     state: &mut [u64],
     isolation: IsolationType,
     step: ChangeStep,
 ) -> Reply
     requires { (length state.old ≡ state_len) × (step.written.first + step.written.count ≤ 2 ^ 64) }
-    ensures permissions_after { perms read.new write.new kernel.new user.new ≡ permitted_run step.written (flags_of step.change.flags) (perms read.old write.old kernel.old user.old) }
+    ensures same { same_maps maps.old maps.new }
+    ensures permissions_after { perms_lent maps.new ≡ permitted_run step.written (flags_of step.change.flags) (perms_lent maps.old) }
     ensures state_after { state.new ≡ with_change step.stage step.change state.old }
     ensures value { result ≡ flat_of isolation step.answer }
 {
@@ -113,31 +106,29 @@ pub fn write_step(
     let answer = step.answer;
     let run = step.written;
     let flags = HvMapGpaFlags::from_bits(change.flags);
-    update_run(read, write, kernel, user, run, flags);
+    update_run(maps, run, flags);
     protector_state::change::save(state, stage, change);
     protector_state::to_reply(isolation, answer)
 }
 
 // A step carried out, with its entry.
 pub fn apply_step(
-    read: &mut [u8],
-    write: &mut [u8],
-    kernel: &mut [u8],
-    user: &mut [u8],
+    maps: &mut PermissionMapsMut<'_>,
     state: &mut [u64],
     tables: &mut [u64],
     isolation: IsolationType,
     step: ChangeStep,
 ) -> Reply
     requires { (length state.old ≡ state_len) × (length tables.old ≡ tables_len) × (step.written.first + step.written.count ≤ 2 ^ 64) }
-    ensures permissions_after { perms read.new write.new kernel.new user.new ≡ permitted_run step.written (flags_of step.change.flags) (perms read.old write.old kernel.old user.old) }
+    ensures same { same_maps maps.old maps.new }
+    ensures permissions_after { perms_lent maps.new ≡ permitted_run step.written (flags_of step.change.flags) (perms_lent maps.old) }
     ensures state_after { state.new ≡ with_change step.stage step.change state.old }
     ensures tables_after { tables.new ≡ entered step.entry step.change tables.old }
     ensures value { result ≡ flat_of isolation step.answer }
 {
     let entry = step.entry;
     let change = step.change;
-    let reply = write_step(read, write, kernel, user, state, isolation, step);
+    let reply = write_step(maps, state, isolation, step);
     enter(tables, entry, change);
     reply
 }
@@ -217,17 +208,15 @@ fn flush_done(state: &mut [u64]) -> Reply
 // The operation asked for is done.
 pub fn answer_done(
     private: &[u8],
-    read: &mut [u8],
-    write: &mut [u8],
-    kernel: &mut [u8],
-    user: &mut [u8],
+    maps: &mut PermissionMapsMut<'_>,
     state: &mut [u64],
     pages: &[u64],
     tables: &mut [u64],
 ) -> Reply
     requires { (length state.old ≡ state_len) × (length tables.old ≡ tables_len) }
-    ensures permissions_after { perms read.new write.new kernel.new user.new
-        ≡ permitted_run (after_done private.now state.old pages.now tables.old).written (flags_of (after_done private.now state.old pages.now tables.old).change.flags) (perms read.old write.old kernel.old user.old) }
+    ensures same { same_maps maps.old maps.new }
+    ensures permissions_after { perms_lent maps.new
+        ≡ permitted_run (after_done private.now state.old pages.now tables.old).written (flags_of (after_done private.now state.old pages.now tables.old).change.flags) (perms_lent maps.old) }
     ensures state_after { state.new ≡ with_change (after_done private.now state.old pages.now tables.old).stage (after_done private.now state.old pages.now tables.old).change state.old }
     ensures tables_after { tables.new ≡ entered (after_done private.now state.old pages.now tables.old).entry (after_done private.now state.old pages.now tables.old).change tables.old }
     ensures value { result ≡ flat_of (settings_of state.old).isolation (after_done private.now state.old pages.now tables.old).answer }
@@ -238,20 +227,18 @@ pub fn answer_done(
     let settings = protector_state::settings(state);
     let isolation = settings.isolation;
     let x = after_done(private, state, pages, tables);
-    apply_step(read, write, kernel, user, state, tables, isolation, x)
+    apply_step(maps, state, tables, isolation, x)
 }
 
 // The operation asked for failed.
 pub fn answer_failed(
-    read: &mut [u8],
-    write: &mut [u8],
-    kernel: &mut [u8],
-    user: &mut [u8],
+    maps: &mut PermissionMapsMut<'_>,
     state: &mut [u64],
     tables: &mut [u64],
 ) -> Reply
     requires { (length state.old ≡ state_len) × (length tables.old ≡ tables_len) }
-    ensures permissions_after { perms read.new write.new kernel.new user.new ≡ permitted_run (after_failed state.old).written (flags_of (after_failed state.old).change.flags) (perms read.old write.old kernel.old user.old) }
+    ensures same { same_maps maps.old maps.new }
+    ensures permissions_after { perms_lent maps.new ≡ permitted_run (after_failed state.old).written (flags_of (after_failed state.old).change.flags) (perms_lent maps.old) }
     ensures state_after { state.new ≡ with_change (after_failed state.old).stage (after_failed state.old).change state.old }
     ensures tables_after { tables.new ≡ entered (after_failed state.old).entry (after_failed state.old).change tables.old }
     ensures value { result ≡ flat_of (settings_of state.old).isolation (after_failed state.old).answer }
@@ -259,5 +246,5 @@ pub fn answer_failed(
     let settings = protector_state::settings(state);
     let isolation = settings.isolation;
     let x = after_failed(state);
-    apply_step(read, write, kernel, user, state, tables, isolation, x)
+    apply_step(maps, state, tables, isolation, x)
 }

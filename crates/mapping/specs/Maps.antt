@@ -1,5 +1,5 @@
 -- The six page maps (01, "Bitmaps"): the marks private and shared, and the permission maps, which are empty where permissions are not tracked.
-use Rattle.std.specs.Prelude.{Bool, true, false, cond, ◌&&◌, List, ℕ, ◌/◌, eqb, ltb, length, replicate}
+use Rattle.std.specs.Prelude.{◌≡◌, Bool, true, false, cond, ◌&&◌, List, ℕ, ◌/◌, eqb, ltb, length, replicate}
 use Rattle.laws.specs.Ranges.{between}
 use Rattle.bitmap.specs.Pages.{bit_at, written}
 use Rattle.layout.specs.declared.MemoryRangeWithNode.{MemoryRangeWithNode}
@@ -8,6 +8,7 @@ use Rattle.permissions.specs.declared.HvMapGpaFlags.{HvMapGpaFlags}
 use Rattle.mapping.specs.declared.MapLengths.{MapLengths}
 use Rattle.mapping.specs.declared.PageMaps.{PageMaps}
 use Rattle.mapping.specs.declared.PermissionMaps.{PermissionMaps}
+use Rattle.mapping.specs.declared.PermissionMapsMut.{PermissionMapsMut}
 
 pub record Permissions : Type 0 where
   pub read : List ℕ
@@ -32,6 +33,19 @@ perms_in m = perms m.read.now m.write.now m.kernel.now m.user.now
 
 abbrev pub maps_in : PageMaps → Maps
 maps_in m = record { private = m.private.now; shared = m.shared.now; permissions = perms_in m.permissions }
+
+-- what maps lent to be written hold
+abbrev pub perms_lent : PermissionMapsMut → Permissions
+perms_lent m = perms m.read.now m.write.now m.kernel.now m.user.now
+
+abbrev pub maps_lent : List ℕ → List ℕ → PermissionMapsMut → Maps
+maps_lent p s m = record { private = p; shared = s; permissions = perms_lent m }
+
+-- whether what is lent is lent from the same places: a call writes what the maps hold, and puts no other map in their place
+abbrev pub same_maps : PermissionMapsMut → PermissionMapsMut → Type 0
+same_maps a b =
+    (b.read.ghost_name ≡ a.read.ghost_name) × (b.write.ghost_name ≡ a.write.ghost_name) × (b.kernel.ghost_name ≡ a.kernel.ghost_name)
+    × (b.user.ghost_name ≡ a.user.ghost_name)
 
 -- a map of n bytes with s at each RAM page, and no other bit
 abbrev pub fresh : List MemoryRangeWithNode → Bool → ℕ → List ℕ

@@ -6,7 +6,7 @@ ghost use Rattle.std.specs.Prelude.{true, ◌≡◌, ◌+◌, ◌≤◌, length,
 ghost use Rattle.laws.specs.Ranges.{between};
 ghost use Rattle.bitmap.specs.Pages.{written};
 ghost use Rattle.layout.specs.Layout.{entries_of, is_ram};
-ghost use Rattle.mapping.specs.Maps.{perms, perms_in, maps, maps_in, fresh, built, permission_len, marks_fit, permissions_fit, maps_fit, lengths_of, flags_at, permitted};
+ghost use Rattle.mapping.specs.Maps.{perms_in, perms_lent, same_maps, maps, maps_in, maps_lent, fresh, built, permission_len, marks_fit, permissions_fit, maps_fit, lengths_of, flags_at, permitted};
 
 use permissions::HvMapGpaFlags;
 
@@ -17,6 +17,15 @@ pub struct PermissionMaps<'a> {
     pub write: &'a [u8],
     pub kernel: &'a [u8],
     pub user: &'a [u8],
+}
+
+// Permission maps lent to be written.
+#[derive(Drop)]
+pub struct PermissionMapsMut<'a> {
+    pub read: &'a mut [u8],
+    pub write: &'a mut [u8],
+    pub kernel: &'a mut [u8],
+    pub user: &'a mut [u8],
 }
 
 // The six lent maps.
@@ -147,63 +156,48 @@ fn init(map: &mut [u8], ram: &[u64], state: bool)
 }
 
 // All maps as built.
-pub fn build(
-    private: &mut [u8],
-    shared: &mut [u8],
-    read: &mut [u8],
-    write: &mut [u8],
-    kernel: &mut [u8],
-    user: &mut [u8],
-    ram: &[u64],
-)
-    ensures { maps private.new shared.new read.new write.new kernel.new user.new ≡ built (entries_of ram.now) (maps private.old shared.old read.old write.old kernel.old user.old) }
+pub fn build(private: &mut [u8], shared: &mut [u8], maps: &mut PermissionMapsMut<'_>, ram: &[u64])
+    ensures same { same_maps maps.old maps.new }
+    ensures value { maps_lent private.new shared.new maps.new ≡ built (entries_of ram.now) (maps_lent private.old shared.old maps.old) }
 {
     init(private, ram, true);
     init(shared, ram, false);
-    init(read, ram, true);
-    init(write, ram, true);
-    init(kernel, ram, true);
-    init(user, ram, true);
+    init(maps.read, ram, true);
+    init(maps.write, ram, true);
+    init(maps.kernel, ram, true);
+    init(maps.user, ram, true);
 }
 
 // The permissions of one page.
-fn update_page(
-    read: &mut [u8],
-    write: &mut [u8],
-    kernel: &mut [u8],
-    user: &mut [u8],
-    gpn: u64,
-    flags: HvMapGpaFlags,
-)
-    ensures { perms read.new write.new kernel.new user.new ≡ permitted gpn (gpn + 1) flags (perms read.old write.old kernel.old user.old) }
+fn update_page(maps: &mut PermissionMapsMut<'_>, gpn: u64, flags: HvMapGpaFlags)
+    ensures same { same_maps maps.old maps.new }
+    ensures value { perms_lent maps.new ≡ permitted gpn (gpn + 1) flags (perms_lent maps.old) }
 {
-    bitmap::set_page(read, gpn, flags.readable);
-    bitmap::set_page(write, gpn, flags.writable);
-    bitmap::set_page(kernel, gpn, flags.kernel_executable);
-    bitmap::set_page(user, gpn, flags.user_executable);
+    bitmap::set_page(maps.read, gpn, flags.readable);
+    bitmap::set_page(maps.write, gpn, flags.writable);
+    bitmap::set_page(maps.kernel, gpn, flags.kernel_executable);
+    bitmap::set_page(maps.user, gpn, flags.user_executable);
 }
 
 // The permissions of the pages from `first` to `last`, with it.
 pub fn update_permission_bitmaps(
-    read: &mut [u8],
-    write: &mut [u8],
-    kernel: &mut [u8],
-    user: &mut [u8],
+    maps: &mut PermissionMapsMut<'_>,
     first: u64,
     last: u64,
     flags: HvMapGpaFlags,
 )
     requires { first ≤ last }
-    ensures { perms read.new write.new kernel.new user.new ≡ permitted first (last + 1) flags (perms read.old write.old kernel.old user.old) }
+    ensures same { same_maps maps.old maps.new }
+    ensures value { perms_lent maps.new ≡ permitted first (last + 1) flags (perms_lent maps.old) }
 {
     if first == last {
-        update_page(read, write, kernel, user, first, flags);
+        update_page(maps, first, flags);
         return;
     }
-    bitmap::update_run(read, first, last, flags.readable);
-    bitmap::update_run(write, first, last, flags.writable);
-    bitmap::update_run(kernel, first, last, flags.kernel_executable);
-    bitmap::update_run(user, first, last, flags.user_executable);
+    bitmap::update_run(maps.read, first, last, flags.readable);
+    bitmap::update_run(maps.write, first, last, flags.writable);
+    bitmap::update_run(maps.kernel, first, last, flags.kernel_executable);
+    bitmap::update_run(maps.user, first, last, flags.user_executable);
 }
 
 // What the permission maps hold of a page.

@@ -10,7 +10,7 @@ ghost use Rattle.overlay_entries.specs.Calls.{is_overlay_in, unregister_of, regi
 
 use abi::table;
 use call_refusals::Lengths;
-use mapping::PermissionMaps;
+use mapping::{PermissionMaps, PermissionMapsMut};
 use overlay_table::OverlayPage;
 use permissions::GuestVtl;
 use protector_state::{Reply, Value};
@@ -79,7 +79,13 @@ pub fn protector_unregister_overlay_page(
     let set = protector_state::settings(state);
     let isolation = set.isolation;
     let x = change_steps::start_old(set.tracked, v, gpn, e.previous_permissions, e.gpn_source);
-    change_writes::apply_step(read, write, kernel, user, state, tables, isolation, x)
+    let mut maps = PermissionMapsMut {
+        read,
+        write,
+        kernel,
+        user,
+    };
+    change_writes::apply_step(&mut maps, state, tables, isolation, x)
 }
 
 // An overlay page has one registration more. The first one asks for a Protect if new flags are given, then for Wait, Flush and
@@ -128,5 +134,11 @@ pub fn protector_register_overlay_page(
     let isolation = set.isolation;
     let bits = current.into_bits();
     let x = change_steps::start_new(set.tracked, v, gpn, source, bits, new);
-    change_writes::apply_step(read, write, kernel, user, state, tables, isolation, x)
+    let mut maps = PermissionMapsMut {
+        read,
+        write,
+        kernel,
+        user,
+    };
+    change_writes::apply_step(&mut maps, state, tables, isolation, x)
 }

@@ -6,7 +6,7 @@ ghost use Rattle.abi.specs.Flags.{flags_end};
 ghost use Rattle.abi.specs.Refusals.{refused_by};
 ghost use Rattle.permissions.specs.Flags.{flags_of};
 ghost use Rattle.page_list.specs.Pages.{pages_of};
-ghost use Rattle.mapping.specs.Maps.{maps, perms};
+ghost use Rattle.mapping.specs.Maps.{maps, perms_lent, same_maps};
 ghost use Rattle.protector_state.specs.State.{state_len, settings_of};
 ghost use Rattle.protector_state.specs.Reply.{flat_of};
 ghost use Rattle.protector_state.specs.Changing.{with_change};
@@ -18,6 +18,7 @@ use abi::refusal::Refusal;
 use abi::{place, table};
 use call_refusals::Lengths;
 use change_steps::ChangeStep;
+use mapping::PermissionMapsMut;
 use page_list::PageRun;
 use permissions::{GuestVtl, HvMapGpaFlags};
 use protector_state::Reply;
@@ -110,21 +111,15 @@ fn default_step(
 }
 
 // A step that enters no overlay carried out.
-fn apply_step(
-    read: &mut [u8],
-    write: &mut [u8],
-    kernel: &mut [u8],
-    user: &mut [u8],
-    state: &mut [u64],
-    step: ChangeStep,
-) -> Reply
+fn apply_step(maps: &mut PermissionMapsMut<'_>, state: &mut [u64], step: ChangeStep) -> Reply
     requires { (length state.old ≡ state_len) × (step.written.first + step.written.count ≤ 2 ^ 64) }
-    ensures permissions_after { perms read.new write.new kernel.new user.new ≡ permitted_run step.written (flags_of step.change.flags) (perms read.old write.old kernel.old user.old) }
+    ensures same { same_maps maps.old maps.new }
+    ensures permissions_after { perms_lent maps.new ≡ permitted_run step.written (flags_of step.change.flags) (perms_lent maps.old) }
     ensures state_after { state.new ≡ with_change step.stage step.change state.old }
     ensures value { result ≡ flat_of (settings_of state.old).isolation step.answer }
 {
     let isolation = protector_state::isolation(state);
-    change_writes::write_step(read, write, kernel, user, state, isolation, step)
+    change_writes::write_step(maps, state, isolation, step)
 }
 
 // A VTL has another default, to which its overlays on private RAM will return: asks for a Protect of each run of private RAM
@@ -157,7 +152,13 @@ pub fn protector_change_default_vtl_protections(
     }
     update_previous_permissions(tables, private, state, v, flags);
     let step = default_step(private, state, tables, v, flags);
-    apply_step(read, write, kernel, user, state, step)
+    let mut maps = PermissionMapsMut {
+        read,
+        write,
+        kernel,
+        user,
+    };
+    apply_step(&mut maps, state, step)
 }
 
 // Whether a page of a list is shared.
@@ -259,5 +260,11 @@ pub fn protector_change_vtl_protections(
     let count = page_list::page_count(list);
     request_pages::store_all(pages, list);
     let step = protection_step(state, pages, v, flags, count);
-    apply_step(read, write, kernel, user, state, step)
+    let mut maps = PermissionMapsMut {
+        read,
+        write,
+        kernel,
+        user,
+    };
+    apply_step(&mut maps, state, step)
 }

@@ -5,30 +5,24 @@ use mathlib.Core.Bool.{Bool, true, false, cond, ◌&&◌}
 use mathlib.Core.List.{List}
 use Prim.Native.Nat.{ℕ, ◌≤◌}
 use borrow.Author.Tests.{leb-true}
-use Rattle.laws.specs.Bools.{and_left, and_right, false≢true}
+use Rattle.laws.specs.Bools.{and_left, and_right}
 use Rattle.laws.specs.Refusal.{refused, answered}
 use Rattle.mapping.specs.Maps.{Permissions, Maps}
 use Rattle.permissions.specs.declared.HvMapGpaFlags.{HvMapGpaFlags}
 use Rattle.permissions.specs.Flags.{no_flags}
 use Rattle.permissions.specs.HvError.{code_of}
-use Rattle.page_list.specs.declared.PageRun.{PageRun}
-use Rattle.page_list.specs.Runs.{run_at}
-use Rattle.request_pages.specs.Request.{run_end, put, put_flags}
+use Rattle.request_pages.specs.Request.{run_end, put}
 use Rattle.visibility_steps.specs.declared.Settings.{Settings}
 use Rattle.visibility_steps.specs.declared.Phase.{Phase}
-use Rattle.visibility_steps.specs.declared.Phase.TheVariants as at
-use Rattle.visibility_steps.specs.declared.Request.{Request}
 use Rattle.visibility_steps.specs.declared.Places.{Places}
-use Rattle.visibility_steps.specs.declared.Next.{Next}
-use Rattle.visibility_steps.specs.Steps.{places, done_of}
-use Rattle.visibility_steps.specs.Next.{is_default0, run_in, answer_by, request_by, permitted_at, flags_at, next_step}
+use Rattle.visibility_steps.specs.Steps.{places}
+use Rattle.visibility_steps.specs.Next.{is_default0, permitted_at, flags_at}
 use Rattle.visibility_steps.specs.declared.Writes.{Writes}
 use Rattle.protector_state.specs.declared.Reply.{Reply}
-use Rattle.protector_state.specs.Reply.{finished, flat_of}
-use Rattle.protector_state.specs.State.{phase_in, request_of, with_request}
+use Rattle.protector_state.specs.Reply.{finished}
 use Rattle.request_pages.proofs.Runs.{put_none, end_none}
 use Rattle.call_refusals.specs.Buffers.{Buffers, Outcome, outcome}
-use Rattle.protector.specs.Writes.{put_places, put_permissions, applied, is_empty, is_nothing}
+use Rattle.protector.specs.Writes.{put_permissions, applied, is_empty, is_nothing}
 use Rattle.protector.specs.Calls.{decided, refused_by}
 
 -- ---- a call refused, and one that isn't
@@ -39,6 +33,10 @@ module _ (w : Buffers) (n x : ℕ) (e : n ≡ x) (taken : Outcome) where
 
   pub call_taken : (o : Outcome) → n ≡ 0 → o ≡ taken → o ≡ decided w x taken
   call_taken o h q = answered n x e taken o (refused_by w) h q
+
+-- what a call gives, in maps that hold what those hold that it wrote
+pub held : (m n : Maps) (s g t : List ℕ) (r : Reply) (o : Outcome) → outcome m s g t r ≡ o → m ≡ n → outcome n s g t r ≡ o
+held m n s g t r o e d = ap (λ (x : Maps). outcome x s g t r) (sym d) ∙ e
 
 -- ---- what a step writes
 

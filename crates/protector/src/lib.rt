@@ -2,7 +2,7 @@
 #![tactic(auto)]
 
 ghost use Rattle.std.specs.Prelude.{◌≡◌, true, ◌≤◌, length};
-ghost use Rattle.mapping.specs.Maps.{maps, perms};
+ghost use Rattle.mapping.specs.Maps.{maps_lent, perms_lent, same_maps};
 ghost use Rattle.request_pages.specs.Request.{put};
 ghost use Rattle.visibility_steps.specs.Steps.{start_of};
 ghost use Rattle.visibility_steps.specs.Next.{run_in, permitted_at, flags_at, next_step};
@@ -13,6 +13,7 @@ ghost use Rattle.protector.specs.Writes.{put_places, put_permissions, applied, i
 ghost use Rattle.protector.specs.Calls.{checks_permissions, done_in};
 
 use abi::operation;
+use mapping::PermissionMapsMut;
 use page_list::PageRun;
 use permissions::GuestVtl;
 use protector_state::Reply;
@@ -49,14 +50,12 @@ fn is_nothing(writes: Writes) -> bool
 fn apply(
     private: &mut [u8],
     shared: &mut [u8],
-    read: &mut [u8],
-    write: &mut [u8],
-    kernel: &mut [u8],
-    user: &mut [u8],
+    maps: &mut PermissionMapsMut<'_>,
     pages: &[u64],
     writes: Writes,
 )
-    ensures { maps private.new shared.new read.new write.new kernel.new user.new ≡ applied pages.now writes (maps private.old shared.old read.old write.old kernel.old user.old) }
+    ensures same { same_maps maps.old maps.new }
+    ensures value { maps_lent private.new shared.new maps.new ≡ applied pages.now writes (maps_lent private.old shared.old maps.old) }
 {
     if is_nothing(writes) {
         return;
@@ -64,7 +63,7 @@ fn apply(
     let Places { from, to } = writes.permissions;
     set_marks(private, pages, writes.private, writes.state);
     set_marks(shared, pages, writes.shared, writes.state);
-    request_pages::update_permissions(read, write, kernel, user, pages, from, to, writes.flags);
+    request_pages::update_permissions(maps, pages, from, to, writes.flags);
 }
 
 // A step carried out: its writes made, its phase and request kept.
@@ -72,30 +71,19 @@ fn apply(
 pub fn apply_step(
     private: &mut [u8],
     shared: &mut [u8],
-    read: &mut [u8],
-    write: &mut [u8],
-    kernel: &mut [u8],
-    user: &mut [u8],
+    maps: &mut PermissionMapsMut<'_>,
     state: &mut [u64],
     pages: &[u64],
     settings: Settings,
     step: Step,
 ) -> Reply
     requires { length state.old ≡ state_len }
-    ensures maps_after { maps private.new shared.new read.new write.new kernel.new user.new ≡ applied pages.now step.writes (maps private.old shared.old read.old write.old kernel.old user.old) }
+    ensures same { same_maps maps.old maps.new }
+    ensures maps_after { maps_lent private.new shared.new maps.new ≡ applied pages.now step.writes (maps_lent private.old shared.old maps.old) }
     ensures state_after { state.new ≡ with_request step.phase step.request state.old }
     ensures value { result ≡ flat_of settings.isolation step.answer }
 {
-    apply(
-        private,
-        shared,
-        read,
-        write,
-        kernel,
-        user,
-        pages,
-        step.writes,
-    );
+    apply(private, shared, maps, pages, step.writes);
     protector_state::save(state, step.phase, step.request);
     protector_state::to_reply(settings.isolation, step.answer)
 }
@@ -112,10 +100,7 @@ fn mark(map: &mut [u8], pages: &[u64], from: u64, to: u64)
 
 // The default permissions of VTL0 for the run of a phase that asks for them.
 fn update_default_permissions(
-    read: &mut [u8],
-    write: &mut [u8],
-    kernel: &mut [u8],
-    user: &mut [u8],
+    maps: &mut PermissionMapsMut<'_>,
     state: &[u64],
     pages: &[u64],
     phase: Phase,
@@ -124,7 +109,8 @@ fn update_default_permissions(
     run: PageRun,
 )
     requires { (length state.now ≡ state_len) × (count ≤ length pages.now) × (run ≡ run_in phase pages.now count at) }
-    ensures { perms read.new write.new kernel.new user.new ≡ put_permissions pages.now (permitted_at (settings_of state.now) phase pages.now count at) (flags_at (settings_of state.now) phase) (perms read.old write.old kernel.old user.old) }
+    ensures same { same_maps maps.old maps.new }
+    ensures value { perms_lent maps.new ≡ put_permissions pages.now (permitted_at (settings_of state.now) phase pages.now count at) (flags_at (settings_of state.now) phase) (perms_lent maps.old) }
 {
     if !visibility_steps::is_default0(phase) {
         return;
@@ -136,7 +122,7 @@ fn update_default_permissions(
         return;
     }
     let flags = protector_state::default_vtl0(state);
-    request_pages::update_permissions_at(read, write, kernel, user, pages, count, at, run, flags);
+    request_pages::update_permissions_at(maps, pages, count, at, run, flags);
 }
 
 // What an answer leads to, carried out.
@@ -144,18 +130,16 @@ fn update_default_permissions(
 fn apply_done(
     private: &mut [u8],
     shared: &mut [u8],
-    read: &mut [u8],
-    write: &mut [u8],
-    kernel: &mut [u8],
-    user: &mut [u8],
+    maps: &mut PermissionMapsMut<'_>,
     state: &mut [u64],
     pages: &[u64],
     request: Request,
     next: Next,
 ) -> Reply
     requires { (length state.old ≡ state_len) × (request.n ≤ length pages.now) }
-    ensures maps_after { maps private.new shared.new read.new write.new kernel.new user.new
-        ≡ applied pages.now (next_step (settings_of state.old) request pages.now next).writes (maps private.old shared.old read.old write.old kernel.old user.old) }
+    ensures same { same_maps maps.old maps.new }
+    ensures maps_after { maps_lent private.new shared.new maps.new
+        ≡ applied pages.now (next_step (settings_of state.old) request pages.now next).writes (maps_lent private.old shared.old maps.old) }
     ensures state_after { state.new ≡ with_request (next_step (settings_of state.old) request pages.now next).phase (next_step (settings_of state.old) request pages.now next).request state.old }
     ensures value { result ≡ flat_of (settings_of state.old).isolation (next_step (settings_of state.old) request pages.now next).answer }
 {
@@ -168,9 +152,7 @@ fn apply_done(
     let run = visibility_steps::run_in(phase, pages, request.n, at);
     mark(private, pages, 0, marks.private);
     mark(shared, pages, marks.from, marks.to);
-    update_default_permissions(
-        read, write, kernel, user, state, pages, phase, request.n, at, run,
-    );
+    update_default_permissions(maps, state, pages, phase, request.n, at, run);
     let reply = protector_state::next_reply(state, turn, phase, request, run);
     let left = visibility_steps::next_request(turn, request, at);
     protector_state::save(state, phase, left);
@@ -181,15 +163,13 @@ fn apply_done(
 pub fn answer_done(
     private: &mut [u8],
     shared: &mut [u8],
-    read: &mut [u8],
-    write: &mut [u8],
-    kernel: &mut [u8],
-    user: &mut [u8],
+    maps: &mut PermissionMapsMut<'_>,
     state: &mut [u64],
     pages: &[u64],
 ) -> Reply
     requires { (length state.old ≡ state_len) × (length pages.now ≡ pages_len) }
-    ensures maps_after { maps private.new shared.new read.new write.new kernel.new user.new ≡ applied pages.now (done_in state.old pages.now).writes (maps private.old shared.old read.old write.old kernel.old user.old) }
+    ensures same { same_maps maps.old maps.new }
+    ensures maps_after { maps_lent private.new shared.new maps.new ≡ applied pages.now (done_in state.old pages.now).writes (maps_lent private.old shared.old maps.old) }
     ensures state_after { state.new ≡ with_request (done_in state.old pages.now).phase (done_in state.old pages.now).request state.old }
     ensures value { result ≡ flat_of (settings_of state.old).isolation (done_in state.old pages.now).answer }
 {
@@ -197,9 +177,7 @@ pub fn answer_done(
     let phase = protector_state::phase(state);
     let request = protector_state::load(state);
     let next = visibility_steps::done(settings, phase, request, pages);
-    apply_done(
-        private, shared, read, write, kernel, user, state, pages, request, next,
-    )
+    apply_done(private, shared, maps, state, pages, request, next)
 }
 
 // A visibility change that is taken: what it clears, then Wait is asked for.
@@ -207,10 +185,7 @@ pub fn answer_done(
 pub fn begin(
     private: &mut [u8],
     shared: &mut [u8],
-    read: &mut [u8],
-    write: &mut [u8],
-    kernel: &mut [u8],
-    user: &mut [u8],
+    maps: &mut PermissionMapsMut<'_>,
     state: &mut [u64],
     pages: &[u64],
     vtl: GuestVtl,
@@ -220,12 +195,13 @@ pub fn begin(
     stopped: bool,
 ) -> Reply
     requires { length state.old ≡ state_len }
-    ensures maps_after { maps private.new shared.new read.new write.new kernel.new user.new ≡ applied pages.now (start_of (settings_of state.old) vtl share count stop stopped).writes (maps private.old shared.old read.old write.old kernel.old user.old) }
+    ensures same { same_maps maps.old maps.new }
+    ensures maps_after { maps_lent private.new shared.new maps.new ≡ applied pages.now (start_of (settings_of state.old) vtl share count stop stopped).writes (maps_lent private.old shared.old maps.old) }
     ensures state_after { state.new ≡ with_request (start_of (settings_of state.old) vtl share count stop stopped).phase (start_of (settings_of state.old) vtl share count stop stopped).request state.old }
     ensures value { result ≡ flat_of (settings_of state.old).isolation (start_of (settings_of state.old) vtl share count stop stopped).answer }
 {
     let writes = visibility_steps::clears(protector_state::is_tracked(state), vtl, share, count);
-    apply(private, shared, read, write, kernel, user, pages, writes);
+    apply(private, shared, maps, pages, writes);
     let request = visibility_steps::asked(vtl, share, count, stop, stopped);
     protector_state::save(state, Phase::Wait, request);
     protector_state::plain(operation::WAIT)

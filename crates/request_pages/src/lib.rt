@@ -6,12 +6,13 @@ ghost use Rattle.std.specs.Prelude.{◌≡◌, true, cond, ◌&&◌, ◌+◌, �
 ghost use Rattle.abi.specs.Limits as limit;
 ghost use Rattle.abi.specs.Lengths.{pages_len, places_start};
 ghost use Rattle.bitmap.specs.Pages.{bit_at};
-ghost use Rattle.mapping.specs.Maps.{perms};
+ghost use Rattle.mapping.specs.Maps.{perms_lent, same_maps};
 ghost use Rattle.page_list.specs.Pages.{pages_of};
 ghost use Rattle.page_list.specs.Runs.{run_at};
 ghost use Rattle.request_pages.specs.Request.{pick, table_of, stop_at, is_readable_and_writable, wanted, run_end, put, put_flags};
 
 use abi::PLACES_START;
+use mapping::PermissionMapsMut;
 use page_list::PageRun;
 use permissions::HvMapGpaFlags;
 
@@ -106,10 +107,7 @@ pub fn run_end(pages: &[u64], count: u64, at: u64) -> u64
 
 // The permissions of the run at a place, of the first `count`.
 pub fn update_permissions_at(
-    read: &mut [u8],
-    write: &mut [u8],
-    kernel: &mut [u8],
-    user: &mut [u8],
+    maps: &mut PermissionMapsMut<'_>,
     pages: &[u64],
     count: u64,
     at: u64,
@@ -117,10 +115,11 @@ pub fn update_permissions_at(
     flags: HvMapGpaFlags,
 )
     requires { (at < count) × (count ≤ length pages.now) × (run ≡ run_at pages.now count at) }
-    ensures { perms read.new write.new kernel.new user.new ≡ put_flags pages.now at (run_end pages.now count at) flags (perms read.old write.old kernel.old user.old) }
+    ensures same { same_maps maps.old maps.new }
+    ensures value { perms_lent maps.new ≡ put_flags pages.now at (run_end pages.now count at) flags (perms_lent maps.old) }
 {
     let last = numbers::word_at(pages, at + (run.count - 1));
-    mapping::update_permission_bitmaps(read, write, kernel, user, run.first, last, flags);
+    mapping::update_permission_bitmaps(maps, run.first, last, flags);
 }
 
 // The pages at the places from `from` to before `to`, run by run.
@@ -144,16 +143,14 @@ pub fn set_places(map: &mut [u8], pages: &[u64], from: u64, to: u64, state: bool
 
 // The permissions of these pages, run by run.
 pub fn update_permissions(
-    read: &mut [u8],
-    write: &mut [u8],
-    kernel: &mut [u8],
-    user: &mut [u8],
+    maps: &mut PermissionMapsMut<'_>,
     pages: &[u64],
     from: u64,
     to: u64,
     flags: HvMapGpaFlags,
 )
-    ensures { perms read.new write.new kernel.new user.new ≡ put_flags pages.now from to flags (perms read.old write.old kernel.old user.old) }
+    ensures same { same_maps maps.old maps.new }
+    ensures value { perms_lent maps.new ≡ put_flags pages.now from to flags (perms_lent maps.old) }
 {
     let stop = numbers::min(to, pages.len() as u64);
     // Kept: each turn passes as many pages as the run at `i` has.
@@ -162,7 +159,7 @@ pub fn update_permissions(
         let end = run_end(pages, to, i);
         let first = numbers::word_at(pages, i);
         let last = numbers::word_at(pages, end - 1);
-        mapping::update_permission_bitmaps(read, write, kernel, user, first, last, flags);
+        mapping::update_permission_bitmaps(maps, first, last, flags);
         i = end;
     }
 }

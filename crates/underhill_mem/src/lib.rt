@@ -10,7 +10,7 @@ ghost use Rattle.queries.specs.Queries.{query, query_of, fault_in, lower_in, acc
 use abi::refusal::{self, Refusal};
 use abi::{STATE_WORDS, place};
 use call_refusals::Lengths;
-use mapping::PageMaps;
+use mapping::{PageMaps, PermissionMapsMut};
 use protector_state::{Reply, Value};
 
 // A protector of a layout: RAM private with all permissions, and empty tables, whatever the runs held. No operation is asked
@@ -41,7 +41,13 @@ pub fn protector_build(
     ) {
         return protector_state::refused(refusal.number());
     }
-    mapping::build(private, shared, read, write, kernel, user, ram);
+    let mut maps = PermissionMapsMut {
+        read,
+        write,
+        kernel,
+        user,
+    };
+    mapping::build(private, shared, &mut maps, ram);
     protector_state::build_state(state, ram, isolation, tracked, release);
     words::clear(pages);
     words::clear(tables);
@@ -81,8 +87,14 @@ pub fn protector_change_host_visibility(
     let stop = request_pages::stop_at(read, write, looks, list);
     let count = request_pages::store(pages, shared, share, list, stop);
     let stopped = stop < page_list::page_count(list);
+    let mut maps = PermissionMapsMut {
+        read,
+        write,
+        kernel,
+        user,
+    };
     protector::begin(
-        private, shared, read, write, kernel, user, state, pages, v, share, count, stop, stopped,
+        private, shared, &mut maps, state, pages, v, share, count, stop, stopped,
     )
 }
 
@@ -107,10 +119,16 @@ pub fn protector_answer_done(
     if let Err(refusal) = call_refusals::answer_refusal(state, lengths, false) {
         return protector_state::refused(refusal.number());
     }
+    let mut maps = PermissionMapsMut {
+        read,
+        write,
+        kernel,
+        user,
+    };
     if protector_state::change::is_changing(state) {
-        return change_writes::answer_done(private, read, write, kernel, user, state, pages, tables);
+        return change_writes::answer_done(private, &mut maps, state, pages, tables);
     }
-    protector::answer_done(private, shared, read, write, kernel, user, state, pages)
+    protector::answer_done(private, shared, &mut maps, state, pages)
 }
 
 // The operation asked for failed: the call halts, ends with 16, or goes on with the pages that Modify processed, to end with 16
@@ -136,16 +154,20 @@ pub fn protector_answer_failed(
     if let Err(refusal) = call_refusals::answer_refusal(state, lengths, true) {
         return protector_state::refused(refusal.number());
     }
+    let mut maps = PermissionMapsMut {
+        read,
+        write,
+        kernel,
+        user,
+    };
     if protector_state::change::is_changing(state) {
-        return change_writes::answer_failed(read, write, kernel, user, state, tables);
+        return change_writes::answer_failed(&mut maps, state, tables);
     }
     let set = protector_state::settings(state);
     let phase = protector_state::phase(state);
     let q = protector_state::load(state);
     let s = visibility_steps::failed(set, phase, q, pages, code as u64, processed);
-    protector::apply_step(
-        private, shared, read, write, kernel, user, state, pages, set, s,
-    )
+    protector::apply_step(private, shared, &mut maps, state, pages, set, s)
 }
 
 // A byte for each page of a list: 0 private, 1 shared. A short output is filled as far as it goes. No operation is asked for,

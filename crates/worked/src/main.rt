@@ -4,7 +4,7 @@
 use abi::REGISTRAR_WORDS;
 use abi::refusal::{self, Refusal};
 use fault::PageFaultAction;
-use mapping::PageMaps;
+use mapping::{PageMaps, PermissionMapsMut};
 use permissions::{GuestVtl, HvMapGpaFlags};
 use registrar_state::Reply;
 use std::io;
@@ -36,15 +36,13 @@ fn p1(rt: &impl Print) -> io::Result<()> {
     let mut write = [0xa5u8; 5];
     let mut kernel = [0xa5u8; 5];
     let mut user = [0xa5u8; 5];
-    mapping::build(
-        &mut private,
-        &mut shared,
-        &mut read,
-        &mut write,
-        &mut kernel,
-        &mut user,
-        &RAM,
-    );
+    let mut maps = PermissionMapsMut {
+        read: &mut read,
+        write: &mut write,
+        kernel: &mut kernel,
+        user: &mut user,
+    };
+    mapping::build(&mut private, &mut shared, &mut maps, &RAM);
     print!(rt; "P1 private")?;
     say_map(rt, &private)?;
     print!(rt; "   shared ")?;

@@ -1,3 +1,4 @@
+use borrow.Author.Rules.{rules}
 use mathlib.Core.Path.{refl, sym, ap, subst, ◌∙◌}
 use native.Mathlib.Omega.{arith}
 use Rattle.mapping.specs.Maps.{maps}
@@ -5,7 +6,7 @@ use Rattle.permissions.specs.declared.GuestVtl.{GuestVtl}
 use Rattle.permissions.specs.Flags.{vtl_of}
 use Rattle.overlay_table.specs.Overlays.{IsPlace}
 use Rattle.call_refusals.specs.Buffers.{buffers, fits, overlays_of}
-use Rattle.protector.proofs.Laws.{call_taken}
+use Rattle.protector.proofs.Laws.{call_taken, held}
 use Rattle.call_refusals.proofs.Laws.{fits_tables}
 use Rattle.overlay_entries.specs.Calls.{register_of, register_taken}
 use Rattle.overlay_entries.proofs.Laws as laws
@@ -69,9 +70,11 @@ returns c =
     let w = buffers (maps a.private.now a.shared.now a.read.now a.write.now a.kernel.now a.user.now) a.state.now a.pages.now a.tables.now in
     let none = subst (IsPlace (overlays_of a.tables.now (vtl_of a.vtl)) a.gpn) c.in_default.is c.in-Ok.ensures.place_value in
     let at = laws.place_found a.tables.now c.vtl_of-v.result a.vtl a.gpn _ c.vtl_of-v.ensures (sym none) in
-    call_taken w _ _ (laws.register_asks w (fits w) c.vtl_of-v.result a.vtl a.gpn a.source a.checked a.new _ _ c.vtl_of-v.ensures
+    held _ _ _ _ _ _ _
+    (call_taken w _ _ (laws.register_asks w (fits w) c.vtl_of-v.result a.vtl a.gpn a.source a.checked a.new _ _ c.vtl_of-v.ensures
     c.current_flags-current.ensures (rw c.of-lengths.ensures at c.in-Ok.ensures.refusal_value)) (register_taken w (vtl_of a.vtl) a.gpn a.source a.new) _ refl
     (laws.register_carried w c.vtl_of-v.result a.gpn a.source a.new _ at c.settings-set.result
     c.current_flags-current.result _ c.start_new-x.result _ _ _ _ refl c.settings-set.ensures c.current_flags-current.ensures c.into_bits-bits.ensures
     c.start_new-x.ensures c.apply_step.ensures.permissions_after c.apply_step.ensures.state_after c.apply_step.ensures.tables_after c.apply_step.ensures.value ∙ ap
-    (λ (x : GuestVtl). register_taken w x a.gpn a.source a.new) c.vtl_of-v.ensures)
+    (λ (x : GuestVtl). register_taken w x a.gpn a.source a.new) c.vtl_of-v.ensures))
+    (search rules)

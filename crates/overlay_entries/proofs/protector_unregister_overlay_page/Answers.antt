@@ -1,10 +1,11 @@
+use borrow.Author.Rules.{rules}
 use mathlib.Core.Path.{refl, ap, ◌∙◌}
 use native.Mathlib.Omega.{arith}
 use Rattle.mapping.specs.Maps.{maps}
 use Rattle.permissions.specs.declared.GuestVtl.{GuestVtl}
 use Rattle.permissions.specs.Flags.{vtl_of}
 use Rattle.call_refusals.specs.Buffers.{buffers, fits}
-use Rattle.protector.proofs.Laws.{call_taken}
+use Rattle.protector.proofs.Laws.{call_taken, held}
 use Rattle.call_refusals.proofs.Laws.{fits_tables}
 use Rattle.overlay_entries.specs.Calls.{unregister_of, unregister_taken}
 use Rattle.overlay_entries.proofs.Laws as laws
@@ -48,7 +49,9 @@ returns c =
     let a = c.args in
     let w = buffers (maps a.private.now a.shared.now a.read.now a.write.now a.kernel.now a.user.now) a.state.now a.pages.now a.tables.now in
     let at = laws.place_found a.tables.now c.vtl_of-v.result a.vtl a.gpn _ c.vtl_of-v.ensures c.in-Ok.ensures.place_value in
-    call_taken w _ _ (rw c.of-lengths.ensures at c.in-Ok.ensures.refusal_value) (unregister_taken w (vtl_of a.vtl) a.gpn) _ refl
+    held _ _ _ _ _ _ _
+    (call_taken w _ _ (rw c.of-lengths.ensures at c.in-Ok.ensures.refusal_value) (unregister_taken w (vtl_of a.vtl) a.gpn) _ refl
     (laws.unregister_carried w c.vtl_of-v.result a.gpn _ (laws.entry_found a.tables.now c.vtl_of-v.result a.gpn _ at _ c.entry_of-e.ensures) c.settings-set.result c.start_old-x.result _ _ _ _ c.if-e-gt1.false
     c.settings-set.ensures c.start_old-x.ensures c.apply_step.ensures.permissions_after c.apply_step.ensures.state_after c.apply_step.ensures.tables_after
-    c.apply_step.ensures.value ∙ ap (λ (x : GuestVtl). unregister_taken w x a.gpn) c.vtl_of-v.ensures)
+    c.apply_step.ensures.value ∙ ap (λ (x : GuestVtl). unregister_taken w x a.gpn) c.vtl_of-v.ensures))
+    (search rules)

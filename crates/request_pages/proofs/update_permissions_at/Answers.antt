@@ -1,5 +1,5 @@
 use native.Mathlib.Omega.{arith}
-use Rattle.mapping.specs.Maps.{perms}
+use Rattle.mapping.specs.Maps.{perms_lent}
 use Rattle.request_pages.proofs.Runs as laws
 use Rattle.request_pages.proofs.update_permissions_at.Goals as goal
 
@@ -14,7 +14,7 @@ pub update_permission_bitmaps-requires : goal.update_permission_bitmaps-requires
 update_permission_bitmaps-requires c =
     laws.run_above c.args.pages.now c.args.count c.args.at c.requires.0 c.requires.1 c.args.run _ c.requires.2 c.word_at-last.ensures
 
-pub returns : goal.returns
-returns c =
+pub returns-clause-value : goal.returns-clause-value
+returns-clause-value c =
     laws.flags_at_lem c.args.pages.now c.args.count c.args.at c.requires.0 c.requires.1 c.args.run _ c.requires.2 c.word_at-last.ensures c.args.flags
-    (perms c.args.read.now c.args.write.now c.args.kernel.now c.args.user.now) _ c.update_permission_bitmaps.ensures
+    (perms_lent c.args.maps.now) _ c.update_permission_bitmaps.ensures.value
