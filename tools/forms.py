@@ -12,8 +12,7 @@ from collections import defaultdict
 from pathlib import Path
 
 LIST = "--list" in sys.argv
-ROOT = Path([a for a in sys.argv[1:] if a != "--list"][0]) if [a for a in sys.argv[1:] if a != "--list"] else Path(".")
-FN = re.compile(r"^ *(?:pub )?fn (\w+)[^{;]*?(?:->\s*([^\n{]+?))?\s*(?:\n[^{]*?(?:requires|ensures)[^\n]*\n(?:[^{]*?\n)*?)?\{\n", re.M)
+ROOT = Path(next((a for a in sys.argv[1:] if a != "--list"), "."))
 found = defaultdict(list)
 
 
@@ -60,15 +59,17 @@ for path in sorted(ROOT.glob("crates/*/src/**/*.rt")):
             found["5 functions that take the four permission maps one by one"].append(f"{name}:{line} {fn}")
         if re.search(r"pages: &(?:mut )?\[u64\]", head) and re.search(r"\b(?:count|n|used): u64", head):
             found["6 functions that take pages and how many are in use"].append(f"{name}:{line} {fn}")
-        if result == "bool":
-            for m in re.finditer(r"return false;\n|else \{\s*false\s*\}|=> (?:true|false),", body):
-                found["4 truth by branches (return false, else false, arms true or false)"].append(f"{name}:{line} {fn}")
+        if result == "bool" and not re.search(r"^ +(?:for|while) ", body, re.M):
+            arms = re.findall(r"=> (.*),\n", body)
+            written = len(re.findall(r"return false;\n|else \{\s*false\s*\}", body))
+            written += len(arms) if set(arms) == {"true", "false"} else 0
+            found["4 truth by branches, outside loops"] += [f"{name}:{line} {fn}"] * written
         tokens = TOKEN.findall(re.sub(r"//.*", "", body))
         if len(tokens) >= 24:
             names = {}
             shape = tuple(t if not re.match(r"[A-Za-z_0-9]", t) else names.setdefault(t, len(names)) for t in tokens)
             shapes[shape].append(f"{name}:{line} {fn}")
-    for m in re.finditer(r"\bif (?:\w+|looked\.\w+) [!=]= 0 \{\n", text):
+    for m in re.finditer(r"\bif (?:\w+|looked\.\w+) != 0 \{\n", text):
         put("1 tests of a number for none", m.start(), m[0].strip())
     for m in re.finditer(r"^ +while (.*)\{", text, re.M):
         put("3 while loops", m.start(), m[1])
@@ -78,8 +79,8 @@ for path in sorted(ROOT.glob("crates/*/src/**/*.rt")):
         put("4 fields given by a variable of their name", m.start(), m[1])
     for m in re.finditer(r"private: private\.len\(\) as u64", text):
         put("5 lengths of the six maps written out", m.start())
-    for m in re.finditer(r"\bmatch (phase|stage|turn|entry|operation|answer|look)\b", text):
-        put("7 matches on a step", m.start(), m[1])
+    for m in re.finditer(r"\bmatch (phase|stage)\b", text):
+        put("7 matches on a phase or stage", m.start(), m[1])
     for m in re.finditer(r"if c\.kind (==|<)", text):
         put("7 tests of a kind's number", m.start())
 for shape, places in shapes.items():

@@ -1,4 +1,5 @@
 // The calls on overlay pages: register, unregister, and whether a page is one. Every entry takes any lengths, any numbers, any bytes and words.
+// Kept, in each entry: the maps one by one, as the C interface lends them.
 #![tactic(auto)]
 
 ghost use Rattle.std.specs.Prelude.{◌≡◌, length};

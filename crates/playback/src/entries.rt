@@ -103,6 +103,7 @@ pub fn protections(buffers: &mut Buffers, n: usize, c: Call, list: &[u8])
 }
 
 // A default change.
+// Kept, beside `unregister`: each calls its entry, with the clause of its definition.
 pub fn default(buffers: &mut Buffers, n: usize, c: Call)
     requires { n ≤ map_bytes }
     ensures { buffers.new ≡ after n buffers.old (default_of (lent_of n buffers.old) c.a c.b) }

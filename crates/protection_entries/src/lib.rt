@@ -1,4 +1,5 @@
 // The entries that change the protections of pages, and the default of a VTL.
+// Kept, in each entry: the maps one by one, as the C interface lends them.
 #![tactic(auto)]
 
 ghost use Rattle.std.specs.Prelude.{◌≡◌, ◌+◌, ◌<◌, ◌≤◌, ◌^◌, length};

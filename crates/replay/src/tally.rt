@@ -61,6 +61,7 @@ pub fn call_of(f: &[u64; field::ALL]) -> Call
 }
 
 // How a number stands in the file: the original has none for what it refuses with a code.
+// Kept: a number, and no `Refusal`: the definition `result_of` takes any that a line may hold.
 pub fn result_of(number: u64) -> u64
     ensures { result ≡ result_of number }
 {

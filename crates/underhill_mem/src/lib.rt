@@ -1,4 +1,5 @@
 // The protector's entries: build, visibility changes, answers, queries and faults. Every one takes any lengths, any numbers, any bytes and words.
+// Kept, in each entry: the maps one by one, as the C interface lends them.
 #![tactic(auto)]
 
 ghost use Rattle.std.specs.Prelude.{◌≡◌};
