@@ -56,6 +56,7 @@ fn view_of(n: u64) -> GuestMemoryViewReadType
 }
 
 // Whether the permission maps allow an access to a page: a write by the write map, else by the view's.
+// Kept, in the fault too: the view as a number until a map is chosen: an enum from the start takes ten instructions more a fault.
 fn is_allowed(maps: PermissionMaps<'_>, view: u64, gpn: u64, writes: bool) -> bool
     ensures { result ≡ bit_at 8 (access_map (view_of view) writes (perms_in maps.entry)) gpn }
 {

@@ -97,7 +97,7 @@ pub fn place_at(pages: &[u64], i: u64) -> u64
 }
 
 // The place after the run of ascending neighbours that starts at a place, among the first `count`.
-// Kept, here and above: the table beside `count`, and no slice of it: a damaged state block may count more than the table has.
+// Kept, here and wherever pages go with a count: the table and no slice of it, since the clauses of run_at and run_end speak of its first `count` words.
 pub fn run_end(pages: &[u64], count: u64, at: u64) -> u64
     ensures { result ≡ run_end pages.now count at }
 {
